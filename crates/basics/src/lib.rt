@@ -1,0 +1,12 @@
+//! What every crate of the workspace wants: a text with equality and order, and membership in a
+//! list by recursion.
+//!
+//! It promises that a [`Text`] is the bytes that it was made from, equal and ordered as they are.
+//! It stands on std alone.
+#![tactic(auto)]
+
+#[cfg(test)]
+mod tests;
+mod text;
+
+pub use text::Text;
