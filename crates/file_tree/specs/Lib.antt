@@ -1,0 +1,4 @@
+pub mod Disk
+pub mod Moments
+pub mod Paths
+pub mod Thing
