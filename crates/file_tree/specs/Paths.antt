@@ -1,5 +1,5 @@
 -- The texts that are paths, and the first fault of a text that is none.
-use Rattle.std.specs.Prelude.{◌≡◌, ◌==◌, ◌<◌, ◌≤◌, ◌+◌, ◌-◌, ◌&&◌, ◌||◌, ℕ, zero, suc, Bool, true, false, not, nat_lt, nat_le, nat_eq, List, [], ◌∷◌, ◌++◌, length, drop, slice_index, take_while, bytes_eq}
+use Rattle.std.specs.Prelude.{◌≡◌, ◌==◌, ◌<◌, ◌≤◌, ◌+◌, ◌-◌, ◌&&◌, ◌||◌, ℕ, zero, suc, Bool, true, false, not, nat_lt, nat_le, nat_eq, List, [], ◌∷◌, length, drop, slice_index, take_while, bytes_eq}
 use Rattle.std.specs.List.{starts_with}
 use Rattle.file_tree.specs.declared.fault.PathFault.{PathFault}
 use Rattle.file_tree.specs.declared.fault.PathFault.TheVariants.{Empty, BadChar, BadPart, TooLong, Memory}
@@ -43,9 +43,17 @@ none_below test (suc n) = not (test n) && none_below test n
 unfoldable pub is_path : List ℕ → Bool
 is_path bytes = nat_lt 0 (length bytes) && (nat_le (length bytes) most_bytes && none_below (bad_at bytes) (length bytes + 1))
 
--- the second path is strictly below the first
+-- the second path is strictly below the first: it goes on with a slash behind the whole of it
 abbrev pub is_below : List ℕ → List ℕ → Bool
-is_below top path = starts_with nat_eq path (top ++ 47 ∷ [])
+is_below top path = starts_with nat_eq path top && (slice_index path (length top) == 47)
+
+-- the fault of this place
+abbrev pub FaultAt : List ℕ → ℕ → PathFault → Type 0
+FaultAt bytes at (BadChar place) = (place ≡ at) × (bad_char_at bytes at ≡ true)
+FaultAt bytes at (BadPart place) = (place ≡ at) × (bad_part_at bytes at ≡ true)
+FaultAt bytes at Empty = ⊥
+FaultAt bytes at TooLong = ⊥
+FaultAt bytes at Memory = ⊥
 
 -- nothing is bad before this place of a text of a good length
 pub record IsGoodBefore (bytes : List ℕ) (at : ℕ) : Type 0 where

@@ -10,6 +10,8 @@ mod fault;
 mod limits;
 mod objects;
 mod paths;
+#[cfg(test)]
+mod tests;
 mod traits;
 
 pub use fault::{Failed, PathFault, TreeFault};

@@ -1,8 +1,11 @@
-ghost use Rattle.std.specs.Prelude.{◌≡◌, true, IfErr, IfOk};
-ghost use Rattle.file_tree.specs.Paths.{is_below};
+ghost use Rattle.std.specs.Prelude.{◌≡◌, ◌≤◌, ◌==◌, ◌&&◌, ◌||◌, drop, false, length, true, MatchOption, slice_index, nat_eq};
+ghost use Rattle.std.specs.List.{starts_with};
+ghost use Rattle.file_tree.specs.Paths.{FaultAt, FirstFault, bad_at, begins_badly, first_part, is_bad_part, is_path};
 
+use crate::fault::PathFault;
+use crate::limits::MOST_PATH_BYTES;
 use basics::Text;
-use std::alloc::AllocError;
+use std::alloc::{AllocError, Global};
 use std::marker::Model;
 
 /// A place in a tree: a relative path with `/` between its parts, none of which is empty, `.` or
@@ -27,7 +30,33 @@ impl Model for Path {
 
 impl Path {
     ghost use Rattle.std.specs.Prelude.{◌≡◌, true, IfErr, IfOk};
-    ghost use Rattle.file_tree.specs.Paths.{is_below, is_path};
+    ghost use Rattle.file_tree.specs.Paths.{FirstFault, is_below, is_path};
+    ghost use Rattle.file_tree.specs.declared.fault.PathFault.TheVariants as faults;
+
+    /// Reads a path. The faults are tried in the order Empty, TooLong, and then the first place at
+    /// which a part or a byte is bad.
+    pub fn parse(alloc: Global, text: &str) -> Result<Path, PathFault>
+        ensures found { IfOk result (λ p. (p ≡ text.now) × (is_path text.now ≡ true)) }
+        ensures refused { is_path text.now ≡ true → IfErr result (λ e. e ≡ faults.Memory) }
+        ensures fault { IfErr result (FirstFault text.now) }
+    {
+        match first_fault(text.as_bytes()) {
+            Some(fault) => Err(fault),
+            None => match Text::new(alloc, text) {
+                Ok(text) => Ok(Path { text }),
+                Err(_) => Err(PathFault::Memory),
+            },
+        }
+    }
+
+    /// Whether the other path is strictly below this one.
+    pub fn is_above(&self, other: &Path) -> bool
+        ensures { result ≡ is_below self.now other.now }
+    {
+        let top = self.text().as_bytes();
+        let path = other.text().as_bytes();
+        path.len() > top.len() && path.starts_with(top) && path[top.len()] == b'/'
+    }
 
     pub fn text(&self) -> &str
         ensures text { result.now ≡ self.now }
@@ -42,4 +71,67 @@ impl Path {
         let text = self.text.try_clone()?;
         Ok(Path { text })
     }
+}
+
+/// The first fault of a text, if it is no path. Want of memory is none.
+fn first_fault(bytes: &[u8]) -> Option<PathFault>
+    ensures { MatchOption result (is_path bytes.now ≡ true) (λ f. (is_path bytes.now ≡ false) × FirstFault bytes.now f) }
+{
+    if bytes.is_empty() {
+        return Some(PathFault::Empty);
+    }
+    if bytes.len() > MOST_PATH_BYTES {
+        return Some(PathFault::TooLong);
+    }
+    first_bad_place(bytes)
+}
+
+fn first_bad_place(bytes: &[u8]) -> Option<PathFault>
+    requires some { 1 ≤ length bytes.now }
+    requires short { length bytes.now ≤ 4095 }
+    ensures { MatchOption result (is_path bytes.now ≡ true) (λ f. (is_path bytes.now ≡ false) × FirstFault bytes.now f) }
+{
+    for at in 0..bytes.len() {
+        if let Some(fault) = fault_at(bytes, at) {
+            return Some(fault);
+        }
+    }
+    fault_at(bytes, bytes.len())
+}
+
+fn fault_at(bytes: &[u8], at: usize) -> Option<PathFault>
+    requires { at ≤ length bytes.now }
+    ensures { MatchOption result (bad_at bytes.now at ≡ false) (FaultAt bytes.now at) }
+{
+    let rest = &bytes[at..];
+    if (at == 0 || bytes[at - 1] == b'/') && begins_bad_part(rest) {
+        return Some(PathFault::BadPart { at });
+    }
+    if begins_bad_char(rest) {
+        return Some(PathFault::BadChar { at });
+    }
+    None
+}
+
+/// Whether the part with which the text begins is empty, `.` or `..`.
+fn begins_bad_part(rest: &[u8]) -> bool
+    ensures { result ≡ is_bad_part (first_part rest.now) }
+{
+    ends_part(rest, 0)
+        || rest[0] == b'.' && (ends_part(rest, 1) || rest[1] == b'.' && ends_part(rest, 2))
+}
+
+/// Whether no part goes on at this place.
+fn ends_part(rest: &[u8], at: usize) -> bool
+    requires { at ≤ length rest.now }
+    ensures { result ≡ ((at == length rest.now) || (slice_index rest.now at == 47)) }
+{
+    at == rest.len() || rest[at] == b'/'
+}
+
+/// Whether a byte that no path has, or ` ->`, stands first.
+fn begins_bad_char(rest: &[u8]) -> bool
+    ensures { result ≡ begins_badly rest.now }
+{
+    rest.starts_with(b"\n") || rest.starts_with(b"\0") || rest.starts_with(b" ->")
 }
