@@ -1,0 +1,157 @@
+ghost use Rattle.std.specs.Prelude.{◌≡◌, ◌<◌, ◌≤◌, ◌++◌, ◌*◌, ◌+◌, ◌^◌, ◌-◌, [], ◌∷◌, length, vec_len, vec_capacity, sum_by, Any, Some, slice_get, Contains, ℕ};
+ghost use Rattle.build_pool.specs.Pool.{LeavesOne};
+ghost use Rattle.build_pool.specs.declared.pools.Away.{Away};
+
+use crate::builders::Builder;
+use std::alloc::{AllocError, Global};
+use std::marker::Model;
+
+/// What a pool remembers of a builder that it lent.
+#[derive(Clone, Copy, Debug, PartialEq, Eq)]
+pub struct Away {
+    pub number: u32,
+    pub faults: u64,
+}
+
+/// The builders of a run. No two have one id.
+#[derive(Drop)]
+pub struct BuildPool<B: Builder> {
+    resting: Vec<B>,
+    lent: Vec<Away>,
+}
+
+impl<B: Builder> Model for BuildPool<B> {
+    ghost use Rattle.std.specs.Prelude.{◌+◌, ◌≤◌, ℕ, vec_capacity, vec_len};
+    ghost use Rattle.build_pool.specs.Pool.{Kept, id_times};
+
+    ghost Value = { Kept B };
+
+    ghost view = { λ p. record { resting = p.resting.items; lent = p.lent.items } };
+
+    ghost invariant = { λ p. (vec_len p.resting + vec_len p.lent ≤ vec_capacity p.resting) × (vec_len p.resting + vec_len p.lent ≤ vec_capacity p.lent)
+        × ((n : ℕ) → id_times B.number n (record { resting = p.resting.items; lent = p.lent.items }) ≤ 1) };
+}
+
+impl<B: Builder> BuildPool<B> {
+    ghost use Rattle.std.specs.Prelude.{◌≡◌, ◌<◌, ◌≤◌, ◌++◌, ◌↔◌, [], ◌∷◌, All, Any, IfOk, IfSome, IsNone, length};
+    ghost use Rattle.build_pool.specs.Pool.{AreOnce, LeavesOne, SameIds, faults_of};
+
+    /// A pool of these builders, all at rest. The room for lending and taking back is made here.
+    pub fn new(alloc: Global, builders: Vec<B>) -> Result<BuildPool<B>, AllocError>
+        requires once { AreOnce B.number builders.items }
+        ensures { IfOk result (λ p. p ≡ record { resting = builders.items; lent = [] }) }
+    {
+        let lent = Vec::with_capacity(alloc, builders.len())?;
+        Ok(BuildPool {
+            resting: builders,
+            lent,
+        })
+    }
+
+    /// How many builders are at rest.
+    pub fn resting(&self) -> usize
+        ensures { result ≡ length self.now.resting }
+    {
+        self.resting.len()
+    }
+
+    /// One of the builders at rest, if there is one.
+    pub fn lend(&mut self) -> Option<B>
+        ensures some { IfSome result (λ b. (self.old.resting ≡ self.new.resting ++ b ∷ []) × (self.new.lent ≡ self.old.lent ++ record { number = B.number b; faults = B.faults b } ∷ [])) }
+        ensures none { IsNone result ↔ (self.old.resting ≡ []) }
+        ensures none_same { IsNone result → self.new ≡ self.old }
+        ensures other { IfSome result (λ b. All (λ a. a.number ≡ B.number b → ⊥) self.old.lent) }
+        ensures ids { SameIds B.number self.old self.new }
+        ensures faults { faults_of B.faults self.new ≡ faults_of B.faults self.old }
+    {
+        let builder = self.resting.pop()?;
+        let away = Away {
+            number: builder.id(),
+            faults: builder.fault_count(),
+        };
+        add(&mut self.lent, away);
+        Some(builder)
+    }
+
+    /// Takes a builder back that was lent; from now on it counts with what it has.
+    pub fn take_back(&mut self, builder: B)
+        requires lent { Any (λ a. a.number ≡ B.number builder) self.old.lent }
+        requires count { All (λ a. a.number ≡ B.number builder → a.faults ≤ B.faults builder) self.old.lent }
+        ensures resting { self.new.resting ≡ self.old.resting ++ builder ∷ [] }
+        ensures lent { LeavesOne (B.number builder) self.old.lent self.new.lent }
+        ensures ids { SameIds B.number self.old self.new }
+        ensures faults { faults_of B.faults self.old ≤ faults_of B.faults self.new }
+        ensures rose { All (λ a. a.number ≡ B.number builder → a.faults < B.faults builder) self.old.lent → faults_of B.faults self.old < faults_of B.faults self.new }
+    {
+        take_out(&mut self.lent, builder.id());
+        add(&mut self.resting, builder);
+    }
+
+    /// How often the builders failed, all in all.
+    pub fn faults(&self) -> u128
+        ensures { result ≡ faults_of B.faults self.now }
+    {
+        resting_faults(&self.resting) + lent_faults(&self.lent)
+    }
+}
+
+/// Takes out what is remembered of the builder of this number.
+fn take_out(lent: &mut Vec<Away>, number: u32) -> Away
+    requires { Any (λ a. a.number ≡ number) lent.old.items }
+    ensures number { result.number ≡ number }
+    ensures found { Contains lent.old.items result }
+    ensures leaves { LeavesOne number lent.old.items lent.new.items }
+    ensures sums { (f : Away → ℕ) → sum_by f lent.new.items + f result ≡ sum_by f lent.old.items }
+    ensures len { vec_len lent.new + 1 ≡ vec_len lent.old }
+    ensures room { vec_capacity lent.new ≡ vec_capacity lent.old }
+{
+    let at = place_of(lent, number);
+    lent.remove(at)
+}
+
+/// Where an entry of this number stands.
+fn place_of(lent: &[Away], number: u32) -> usize
+    requires { Any (λ a. a.number ≡ number) lent.now }
+    ensures below { result < length lent.now }
+    ensures found { (a : Away) × (slice_get lent.now result ≡ Some a) × (a.number ≡ number) }
+{
+    for (at, away) in lent.iter().enumerate() {
+        if away.number == number {
+            return at;
+        }
+    }
+    unreachable!()
+}
+
+/// Puts an item behind a list that has the room.
+fn add<T: Drop>(list: &mut Vec<T>, item: T)
+    requires { vec_len list.old < vec_capacity list.old }
+    ensures items { list.new.items ≡ list.old.items ++ item ∷ [] }
+    ensures room { vec_capacity list.old ≤ vec_capacity list.new }
+{
+    list.push(item).unwrap();
+}
+
+/// The sum of the counts of the builders at rest.
+fn resting_faults<B: Builder>(builders: &[B]) -> u128
+    ensures sum { result ≡ sum_by B.faults builders.now }
+    ensures small { result ≤ length builders.now * (2 ^ 64 - 1) }
+{
+    let mut sum = 0;
+    for builder in builders {
+        sum += u128::from(builder.fault_count());
+    }
+    sum
+}
+
+/// The sum of the counts of the builders that are lent.
+fn lent_faults(lent: &[Away]) -> u128
+    ensures sum { result ≡ sum_by (λ a. a.faults) lent.now }
+    ensures small { result ≤ length lent.now * (2 ^ 64 - 1) }
+{
+    let mut sum = 0;
+    for away in lent {
+        sum += u128::from(away.faults);
+    }
+    sum
+}
