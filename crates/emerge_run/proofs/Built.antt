@@ -1,0 +1,33 @@
+-- What one builder of the pool answered, of the pool.
+use Rattle.std.proofs.Common.{◌≡◌, ◌<◌, ℕ, List, [], ◌∷◌, ◌++◌, length, Some, Ok, Err, inl, inr, ap, sym, ◌∙◌, arith, subst}
+use Rattle.std.specs.Prelude.{All, Contains, IfOk, Result, slice_get}
+use Rattle.std.proofs.lemmas.List.Elements.{All-push, All-weaker, Contains-push}
+use Rattle.file_tree.specs.Disk.{Rose}
+use Rattle.build_pool.specs.Pool.{Kept, PoolRose, faults_of}
+use Rattle.build_pool.specs.declared.pools.Away.{Away}
+
+pub only_one : {A : Type 0} (xs : List A) (x : A) → length xs ≡ 1 → slice_get xs 0 ≡ Some x → xs ≡ x ∷ []
+only_one [] x n e = absurd (omega arith)
+only_one (y ∷ []) x n e = let same : y ≡ x = cc in ap (λ z. z ∷ []) same
+only_one (y ∷ z ∷ zs) x n e = absurd (omega arith)
+
+-- the builder that answered is named beside its answer
+pub beside_answer : {B X E : Type 0} (r : Result X E) (b : B) (Q : B → Type 0) (P : B → X → Type 0) → Q b → IfOk r (P b) → IfOk r (λ x. (y : B) × Q y × P y x)
+beside_answer (Ok x) b Q P q p = (b, q, p)
+beside_answer (Err e) b Q P q p = tt
+
+-- a builder that failed while it was lent makes the pool's count rise
+pub pool_rose : {B : Type 0} (number faults : B → ℕ) (old mid new : Kept B) (lent : List Away) (b b' : B)
+    → mid.lent ≡ lent ++ record { number = number b; faults = faults b } ∷ [] → All (λ a. a.number ≡ number b → ⊥) lent → number b' ≡ number b
+    → faults_of faults mid ≡ faults_of faults old → new.resting ≡ mid.resting ++ b' ∷ []
+    → (All (λ a. a.number ≡ number b' → a.faults < faults b') mid.lent → faults_of faults mid < faults_of faults new)
+    → Rose (faults b) (faults b') → PoolRose faults old new
+pool_rose number faults old mid new lent b b' is other same count rest rose (inl lt) =
+    let others : All (λ (a : Away). a.number ≡ number b' → a.faults < faults b') lent =
+    All-weaker (λ (a : Away). a.number ≡ number b → ⊥) (λ (a : Away). a.number ≡ number b' → a.faults < faults b') (λ a no' e. absurd (no' (e ∙ same))) lent other in
+    let all : All (λ (a : Away). a.number ≡ number b' → a.faults < faults b') mid.lent =
+    subst (λ (l : List Away). All (λ (a : Away). a.number ≡ number b' → a.faults < faults b') l) (sym is)
+    (All-push (λ (a : Away). a.number ≡ number b' → a.faults < faults b') lent (record { number = number b; faults = faults b }) others (λ e. lt)) in
+    inl (subst (λ (n : ℕ). n < faults_of faults new) count (rose all))
+pool_rose {B} number faults old mid new lent b b' is other same count rest rose (inr full) =
+    inr (inl (b', subst (λ (l : List B). Contains l b') (sym rest) (Contains-push mid.resting b'), full))

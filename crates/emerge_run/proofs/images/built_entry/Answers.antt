@@ -1,0 +1,16 @@
+use Rattle.std.specs.Prelude.{Contains}
+use Rattle.std.proofs.lemmas.List.Elements.{Contains-push}
+use Rattle.emerge_run.specs.Images.{HasOne}
+use Rattle.emerge_run.proofs.Built.{beside_answer, pool_rose}
+use Rattle.emerge_run.proofs.images.built_entry.Goals as goal
+
+pub returns-clause-image : goal.returns-clause-image
+returns-clause-image g c =
+    beside_answer c.one_entry-answer.result c.in-Some.builder (Contains c.args.pool.now.resting) (λ b. HasOne g.B.Builder.tells (g.B.Builder.told b c.args.order.now))
+    (rw c.in-Some.ensures.some.0 (Contains-push c.lend.new.self.resting c.in-Some.builder))
+    c.one_entry-answer.ensures.image
+
+pub returns-clause-cause : goal.returns-clause-cause
+returns-clause-cause g c e =
+    pool_rose g.B.Builder.number g.B.Builder.faults c.args.pool.now c.lend.new.self c.take_back.new.self c.args.pool.now.lent c.in-Some.builder c.one_entry-answer.new.builder
+    c.in-Some.ensures.some.1 c.in-Some.ensures.other c.one_entry-answer.ensures.same_number c.lend.ensures.faults c.take_back.ensures.resting c.take_back.ensures.rose (c.one_entry-answer.ensures.cause e)

@@ -1,0 +1,17 @@
+use Rattle.std.proofs.Common.{◌<◌, ◌∙◌, ap, arith, length, add-one}
+use Rattle.file_tree.specs.Disk.{Story}
+use Rattle.emerge_run.proofs.Files.{same_outside_put, with_files_step}
+use Rattle.emerge_run.proofs.merge.put_all.Goals as goal
+
+pub loop-file-preserved : goal.loop-file-preserved
+loop-file-preserved g c =
+    let lt : c.loop-file.file-index < length c.args.files.now = omega arith in
+    rw add-one (
+      λ t.
+          let held = ap (λ (s : Story). s.now.holds) (c.in_ok-put.ensures.ok t) in
+          with_files_step c.args.files.now _ _ c.loop-file.file-index c.file-item.result c.file-item.is lt held ∙ c.loop-file.invariant.0 t,
+      λ t q out.
+          let held = ap (λ (s : Story). s.now.holds q) (c.in_ok-put.ensures.ok t) in
+          held ∙ same_outside_put c.args.files.now _ _ c.loop-file.file-index c.file-item.result _ (c.loop-file.invariant.1 t) lt c.file-item.is q out,
+      omega (arith, c.loop-file.invariant.2, c.in_ok-put.ensures.count),
+    )

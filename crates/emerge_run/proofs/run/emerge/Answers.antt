@@ -1,0 +1,8 @@
+use Rattle.emerge_run.proofs.Endings.{all_written}
+use Rattle.emerge_run.proofs.run.emerge.Goals as goal
+
+pub returns-clause-written : goal.returns-clause-written
+returns-clause-written g c t =
+    all_written _ c.attempt-reached.result.acknowledged.items c.finish-status.result (g.S.Sink.written c.args.out) (g.S.Sink.written c.attempt-reached.new.out) (g.S.Sink.written c.finish-status.new.out)
+    (g.S.Sink.faults c.args.out) (g.S.Sink.faults c.attempt-reached.new.out) (g.S.Sink.faults c.finish-status.new.out)
+    c.attempt-reached.ensures.out_count c.finish-status.ensures.count (c.attempt-reached.ensures.written t) (c.finish-status.ensures.written t)

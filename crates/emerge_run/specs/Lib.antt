@@ -1,0 +1,7 @@
+pub mod Answers
+pub mod Images
+pub mod Outcomes
+pub mod Package
+pub mod Refusals
+pub mod Texts
+pub mod Words

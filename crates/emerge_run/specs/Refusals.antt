@@ -1,0 +1,35 @@
+-- The status that each inner fault becomes, and what the tree is refused for.
+use Rattle.file_tree.specs.Disk.{Map}
+use Rattle.build_pool.specs.declared.orders.Order.{Order}
+use Rattle.emerge_run.specs.Answers.{Refuses}
+use Rattle.file_tree.specs.declared.fault.TreeFault.{TreeFault}
+use Rattle.file_tree.specs.declared.fault.TreeFault.TheVariants as tree
+use Rattle.emerge_run.specs.declared.refusal.Refusal.{Refusal}
+use Rattle.emerge_run.specs.declared.refusal.Refusal.TheVariants as refusals
+use Rattle.emerge_run.specs.declared.words.WordFault.{WordFault}
+use Rattle.emerge_run.specs.declared.words.WordFault.TheVariants as word
+use Rattle.emerge_run.specs.declared.status.Status.{Status}
+use Rattle.emerge_run.specs.declared.status.Status.TheVariants as status
+
+abbrev pub refusal_of : TreeFault → Refusal
+refusal_of tree.Failed = refusals.Failed
+refusal_of tree.Memory = refusals.Memory
+
+abbrev pub status_of : Refusal → Status
+status_of (refusals.NotBuilt what) = status.NotBuilt what
+status_of refusals.Failed = status.DeviceFault
+status_of refusals.Memory = status.Memory
+
+abbrev pub status_of_tree : TreeFault → Status
+status_of_tree tree.Failed = status.DeviceFault
+status_of_tree tree.Memory = status.Memory
+
+abbrev pub status_of_word : WordFault → Status
+status_of_word word.Usage = status.Usage
+status_of_word word.Memory = status.Memory
+
+-- what the tree is refused for; a failure and want of memory say nothing of it
+abbrev pub TreeRefuses : Map → Order → Refusal → Type 0
+TreeRefuses m o (refusals.NotBuilt what) = Refuses m o what
+TreeRefuses m o refusals.Failed = Unit {0}
+TreeRefuses m o refusals.Memory = Unit {0}

@@ -1,0 +1,102 @@
+use crate::status::{Part, Status};
+use crate::words::WordFault;
+use file_tree::{Failed, TreeFault};
+use std::alloc::AllocError;
+
+/// Why a look at the tree ends the run.
+#[derive(Clone, Copy, Debug, PartialEq, Eq)]
+pub enum Refusal {
+    NotBuilt(Part),
+    Failed,
+    Memory,
+}
+
+impl From<Failed> for Refusal {
+    ghost use Rattle.std.specs.Prelude.{◌≡◌};
+    ghost use Rattle.emerge_run.specs.declared.refusal.Refusal.TheVariants as refusals;
+
+    ghost from_gives = { λ _ r. r ≡ refusals.Failed };
+
+    fn from(_: Failed) -> Refusal {
+        Refusal::Failed
+    }
+}
+
+impl From<AllocError> for Refusal {
+    ghost use Rattle.std.specs.Prelude.{◌≡◌};
+    ghost use Rattle.emerge_run.specs.declared.refusal.Refusal.TheVariants as refusals;
+
+    ghost from_gives = { λ _ r. r ≡ refusals.Memory };
+
+    fn from(_: AllocError) -> Refusal {
+        Refusal::Memory
+    }
+}
+
+impl From<TreeFault> for Refusal {
+    ghost use Rattle.std.specs.Prelude.{◌≡◌};
+    ghost use Rattle.emerge_run.specs.Refusals.{refusal_of};
+
+    ghost from_gives = { λ f r. r ≡ refusal_of f };
+
+    fn from(fault: TreeFault) -> Refusal {
+        match fault {
+            TreeFault::Failed => Refusal::Failed,
+            TreeFault::Memory => Refusal::Memory,
+        }
+    }
+}
+
+impl From<Refusal> for Status {
+    ghost use Rattle.std.specs.Prelude.{◌≡◌};
+    ghost use Rattle.emerge_run.specs.Refusals.{status_of};
+
+    ghost from_gives = { λ r s. s ≡ status_of r };
+
+    fn from(refusal: Refusal) -> Status {
+        match refusal {
+            Refusal::NotBuilt(what) => Status::NotBuilt { what },
+            Refusal::Failed => Status::DeviceFault,
+            Refusal::Memory => Status::Memory,
+        }
+    }
+}
+
+impl From<TreeFault> for Status {
+    ghost use Rattle.std.specs.Prelude.{◌≡◌};
+    ghost use Rattle.emerge_run.specs.Refusals.{status_of_tree};
+
+    ghost from_gives = { λ f s. s ≡ status_of_tree f };
+
+    fn from(fault: TreeFault) -> Status {
+        match fault {
+            TreeFault::Failed => Status::DeviceFault,
+            TreeFault::Memory => Status::Memory,
+        }
+    }
+}
+
+impl From<WordFault> for Status {
+    ghost use Rattle.std.specs.Prelude.{◌≡◌};
+    ghost use Rattle.emerge_run.specs.Refusals.{status_of_word};
+
+    ghost from_gives = { λ f s. s ≡ status_of_word f };
+
+    fn from(fault: WordFault) -> Status {
+        match fault {
+            WordFault::Usage => Status::Usage,
+            WordFault::Memory => Status::Memory,
+        }
+    }
+}
+
+impl From<AllocError> for Status {
+    ghost use Rattle.std.specs.Prelude.{◌≡◌};
+    ghost use Rattle.emerge_run.specs.declared.status.Status.TheVariants as status;
+
+    ghost from_gives = { λ _ s. s ≡ status.Memory };
+
+    fn from(_: AllocError) -> Status {
+        Status::Memory
+    }
+}

@@ -1,0 +1,177 @@
+ghost use Rattle.std.specs.Prelude.{◌≡◌, ◌<◌, ◌++◌, ◌∷◌, [], vec_capacity, vec_len};
+ghost use Rattle.tree_mem.specs.Items.{IsRising, IsRising-prop};
+
+use crate::fault::ImageFault;
+use crate::record::Change;
+use crate::{choosing, items};
+use file_tree::{Look, Object, Path};
+use std::alloc::{AllocError, Global};
+use std::collections::BTreeSet;
+use std::mem;
+
+/// A disk in memory: objects in byte order of their paths, the paths that were touched since the
+/// last sync, and a record of what undoes each change.
+#[derive(Drop)]
+pub struct MemDisk {
+    alloc: Global,
+    objects: Vec<(Path, Object)>,
+    touched: BTreeSet<Path>,
+    changes: Vec<Change>,
+    ghost rising: { IsRising objects.items } by { IsRising-prop objects.items },
+}
+
+/// Notes a change, where there is room for it.
+fn note(changes: &mut Vec<Change>, change: Change)
+    requires room { vec_len changes.old < vec_capacity changes.old }
+    ensures { changes.new.items ≡ changes.old.items ++ change ∷ [] }
+{
+    changes.push(change).unwrap()
+}
+
+impl MemDisk {
+    ghost use Rattle.std.specs.Prelude.{◌≡◌, ◌↔◌, ℕ, List, [], None, Some, false, true, Contains, IfErr, IfOk, IsSome, OnErr, OnOk};
+    ghost use Rattle.std.specs.Cmp.Lexicographic.{slice_cmp};
+    ghost use Rattle.std.specs.List.Sorted.{IsStrictlySortedBy};
+    ghost use Rattle.std.specs.Ordering.{nat_cmp};
+    ghost use Rattle.file_tree.specs.Disk.{Looks, next, settled, write};
+    ghost use Rattle.file_tree.specs.Paths.{is_below};
+    ghost use Rattle.tree_mem.specs.Items.{IsRising, held};
+    ghost use Rattle.tree_mem.specs.Image.{AllTouched, IsImageFault, chosen};
+    ghost use Rattle.tree_mem.specs.MemDisk.{disk_story};
+
+    /// A disk that holds these objects, no path of which is touched.
+    pub fn new(alloc: Global, objects: Vec<(Path, Object)>) -> MemDisk
+        requires rising { IsRising objects.items }
+        ensures { disk_story result ≡ record { past = []; now = record { holds = held objects.items; touched = λ q. false } } }
+    {
+        MemDisk {
+            alloc,
+            objects,
+            touched: BTreeSet::new(alloc),
+            changes: Vec::new(alloc),
+        }
+    }
+
+    pub fn alloc(&self) -> Global {
+        self.alloc
+    }
+
+    /// All objects, in byte order of their paths.
+    pub fn objects(&self) -> &[(Path, Object)]
+        ensures rising { IsRising result.now }
+        ensures held { (disk_story self.now).now.holds ≡ held result.now }
+    {
+        self.objects.as_slice()
+    }
+
+    /// The disk after a crash that grants the choice: no path is touched, and it has no past.
+    pub fn image(&self, choice: &[(Path, Option<Object>)]) -> Result<MemDisk, ImageFault>
+        ensures story { IfOk result (λ d. disk_story d ≡ record { past = []; now = record { holds = chosen choice.now (disk_story self.now).now.holds; touched = λ q. false } }) }
+        ensures touched { OnOk result (AllTouched (disk_story self.now).now.touched choice.now) }
+        ensures fault { IfErr result (IsImageFault (disk_story self.now).now.touched choice.now) }
+    {
+        let objects = choosing::image(self.alloc, self.objects.as_slice(), &self.touched, choice)?;
+        Ok(MemDisk::new(self.alloc, objects))
+    }
+
+    /// What a look at the path finds.
+    pub fn look(&self, path: &Path) -> Result<Look, AllocError>
+        ensures { IfOk result (λ l. Looks (disk_story self.now).now.holds path.now l) }
+    {
+        items::look(self.alloc, self.objects.as_slice(), path)
+    }
+
+    /// A copy of what the path holds.
+    pub fn read(&self, path: &Path) -> Result<Option<Object>, AllocError>
+        ensures { IfOk result (λ o. o ≡ (disk_story self.now).now.holds path.now) }
+    {
+        match items::get(self.objects.as_slice(), path) {
+            Some(object) => Ok(Some(object.try_clone()?)),
+            None => Ok(None),
+        }
+    }
+
+    /// The paths below this one that hold something, in byte order.
+    pub fn list(&self, below: &Path) -> Result<Vec<Path>, AllocError>
+        ensures answer { IfOk result (λ v. (q : List ℕ) → Contains v.items q ↔ ((is_below below.now q ≡ true) × IsSome ((disk_story self.now).now.holds q))) }
+        ensures rising { IfOk result (λ v. IsStrictlySortedBy (slice_cmp nat_cmp) v.items) }
+    {
+        items::list(self.alloc, self.objects.as_slice(), below)
+    }
+
+    /// Makes `to` hold a copy of what `from` holds, and touches it.
+    pub fn copy(&mut self, from: &Path, to: &Path) -> Result<(), AllocError>
+        ensures ok { OnOk result (disk_story self.new ≡ next (disk_story self.old) (write (disk_story self.old).now to.now ((disk_story self.old).now.holds from.now))) }
+        ensures err { OnErr result (disk_story self.new ≡ disk_story self.old) }
+    {
+        match self.read(from)? {
+            Some(object) => self.store(to, object),
+            None => self.clear(to),
+        }
+    }
+
+    /// Makes the path hold the object, and touches it.
+    pub fn store(&mut self, path: &Path, object: Object) -> Result<(), AllocError>
+        ensures ok { OnOk result (disk_story self.new ≡ next (disk_story self.old) (write (disk_story self.old).now path.now (Some object))) }
+        ensures err { OnErr result (disk_story self.new ≡ disk_story self.old) }
+    {
+        self.changes.reserve(1)?;
+        self.objects.reserve(1)?;
+        let kept = path.try_clone()?;
+        let noted = path.try_clone()?;
+        let is_new = self.touched.insert(path.try_clone()?)?;
+        let old = items::store(&mut self.objects, kept, object);
+        let change = Change::Wrote {
+            path: noted,
+            old,
+            was: !is_new,
+        };
+        note(&mut self.changes, change);
+        Ok(())
+    }
+
+    /// Makes the path hold nothing, and touches it.
+    pub fn clear(&mut self, path: &Path) -> Result<(), AllocError>
+        ensures ok { OnOk result (disk_story self.new ≡ next (disk_story self.old) (write (disk_story self.old).now path.now None)) }
+        ensures err { OnErr result (disk_story self.new ≡ disk_story self.old) }
+    {
+        self.changes.reserve(1)?;
+        let noted = path.try_clone()?;
+        let is_new = self.touched.insert(path.try_clone()?)?;
+        let old = items::clear(&mut self.objects, path);
+        let change = Change::Wrote {
+            path: noted,
+            old,
+            was: !is_new,
+        };
+        note(&mut self.changes, change);
+        Ok(())
+    }
+
+    /// Touches the path, which holds what it held.
+    pub fn touch(&mut self, path: &Path) -> Result<(), AllocError>
+        ensures ok { OnOk result (disk_story self.new ≡ next (disk_story self.old) (write (disk_story self.old).now path.now ((disk_story self.old).now.holds path.now))) }
+        ensures err { OnErr result (disk_story self.new ≡ disk_story self.old) }
+    {
+        self.changes.reserve(1)?;
+        let noted = path.try_clone()?;
+        let is_new = self.touched.insert(path.try_clone()?)?;
+        let change = Change::Touched {
+            path: noted,
+            was: !is_new,
+        };
+        note(&mut self.changes, change);
+        Ok(())
+    }
+
+    /// Forgets which paths were touched.
+    pub fn settle(&mut self) -> Result<(), AllocError>
+        ensures ok { OnOk result (disk_story self.new ≡ next (disk_story self.old) (settled (disk_story self.old).now)) }
+        ensures err { OnErr result (disk_story self.new ≡ disk_story self.old) }
+    {
+        self.changes.reserve(1)?;
+        let touched = mem::replace(&mut self.touched, BTreeSet::new(self.alloc));
+        note(&mut self.changes, Change::Synced { touched });
+        Ok(())
+    }
+}
