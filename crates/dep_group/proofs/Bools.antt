@@ -1,0 +1,15 @@
+-- What tests that are joined or denied say.
+use Rattle.std.specs.Prelude.{not, ◌&&◌}
+use Rattle.std.proofs.Common.{◌≡◌, Bool, true, false, refl}
+
+pub and_left : (a b : Bool) → (a && b) ≡ true → a ≡ true
+and_left true b h = refl
+and_left false b h = h
+
+pub and_right : (a b : Bool) → (a && b) ≡ true → b ≡ true
+and_right true b h = h
+and_right false b h = absurd (cc)
+
+pub of_not : (b : Bool) → not b ≡ true → b ≡ false
+of_not true h = cc
+of_not false h = refl

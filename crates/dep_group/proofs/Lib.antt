@@ -1,0 +1,7 @@
+pub mod Bools
+pub mod WordLemmas
+pub mod ShapeLemmas
+pub mod ReadingLemmas
+pub mod TokenLemmas
+pub mod NodeLemmas
+pub mod MapLemmas

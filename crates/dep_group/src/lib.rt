@@ -1,0 +1,23 @@
+//! What the grammars of dependency specifications and of REQUIRED_USE share: the words of a text with
+//! their places, what a word is to a text of groups, and trees of groups over leaves of any kind:
+//! their truth, their printed words, and the reading of such words.
+//!
+//! It promises that the printed words of a tree read as that tree, and that what reads as a tree are
+//! the tree's printed words. It stands on `basics`.
+#![tactic(auto)]
+
+mod law;
+mod print;
+mod reader;
+mod shape;
+#[cfg(test)]
+mod tests;
+mod token;
+mod word;
+
+pub use law::{printed_trees_are_read, read_trees_are_printed, replaced_tokens_are_read_alike};
+pub use print::push_word;
+pub use reader::{Node, read_nodes};
+pub use shape::{Shape, flag_of, shape_of};
+pub use token::{GroupFault, Opener, Token};
+pub use word::{Word, place, words};

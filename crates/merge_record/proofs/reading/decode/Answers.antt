@@ -1,0 +1,10 @@
+use Rattle.std.proofs.Common.{ap, subst, ◌∙◌, arith}
+use Rattle.merge_record.specs.Reading.{Gives, record_of}
+use Rattle.merge_record.proofs.Whole.{is_found, record_again}
+use Rattle.merge_record.proofs.reading.decode.Goals as goal
+
+pub returns-clause-found : goal.returns-clause-found
+returns-clause-found c = is_found c.args.bytes.now c.whole.result (λ i. omega (arith, c.type_inv.bytes i)) c.whole.ensures
+
+pub returns-clause-only : goal.returns-clause-only
+returns-clause-only c = λ r fits e. subst (λ f. Gives (λ x. x) c.whole.result f) (ap record_of e ∙ record_again r fits) c.whole.ensures

@@ -1,0 +1,16 @@
+use Rattle.std.proofs.lemmas.Result.{err_from_is_err_and}
+use Rattle.merge_record.specs.Reading.{many_at, placement_at}
+use Rattle.merge_record.proofs.Loop.{goes_on, ends, is_done}
+use Rattle.merge_record.proofs.reading.placements_of.Goals as goal
+
+pub returns-in_err-placement : goal.returns-in_err-placement
+returns-in_err-placement c =
+    let p = err_from_is_err_and c.from_residual.result c.from_residual.ensures.1 in
+    rw (p.1, p.2) (ends (placement_at c.args.size) c.in_err-placement.field-0.0 c.loop.placements.items c.args.count c.loop.counter c.loop.rest.now (many_at (placement_at c.args.size) c.args.count c.args.bytes.now) c.loop-test.true c.in_err-placement.ensures c.loop.invariant)
+
+pub loop-preserved : goal.loop-preserved
+loop-preserved c =
+    rw c.in_ok-push.ensures.items (goes_on (placement_at c.args.size) c.loop.placements.items c.args.count c.loop.counter c.loop.rest.now c.in_ok-placement.placement c.in_ok-placement.after.now (many_at (placement_at c.args.size) c.args.count c.args.bytes.now) c.loop-test.true c.in_ok-placement.ensures c.loop.invariant)
+
+pub returns : goal.returns
+returns c = is_done (placement_at c.args.size) c.loop.placements.items c.args.count c.loop.counter c.loop.rest.now (many_at (placement_at c.args.size) c.args.count c.args.bytes.now) c.loop-test.false c.loop.invariant

@@ -1,0 +1,32 @@
+//! The journal's record: what one group removes and places, and the names of its files.
+//!
+//! It promises that a record has one spelling, that whatever is read is spelled so, and which fault
+//! a text that spells none has first. It stands on `file_tree`, and on `byteorder`, `hex` and `md5`
+//! for the bytes.
+#![tactic(auto)]
+
+mod digest;
+mod fault;
+mod judging;
+mod laws;
+mod limits;
+mod names;
+mod open;
+mod reading;
+mod record;
+mod taken;
+#[cfg(test)]
+mod tests;
+mod writing;
+
+pub use digest::digest_of;
+pub use fault::{JudgeFault, RecordFault};
+pub use judging::{judge, judge_all};
+pub use laws::{judged_in_form, one_spelling, open_groups_rise, recovered_once};
+pub use limits::{MOST_FILE_BYTES, MOST_GROUP_PATHS, MOST_RECORD_BYTES};
+pub use names::{JOBS, gate_path, jobs_folder, names_differ, record_path, stage_path, token_path};
+pub use open::is_open_gate;
+pub use reading::decode;
+pub use record::{OwnerKey, Placement, Record};
+pub use taken::TakenPaths;
+pub use writing::{decode_encode, encode};

@@ -1,0 +1,93 @@
+-- Faults, and runs of digits.
+use Rattle.std.specs.Prelude.{Bool, true, false, ◌==◌}
+use Rattle.std.specs.List.{flat_map}
+use Rattle.std.proofs.Common.{◌≡◌, ◌∙◌, ℕ, ◌+◌, ◌-◌, ◌<◌, ◌≤◌, inl, inr, List, [], ◌∷◌, ◌++◌, length, take, drop, get_or, refl, sym, ap, subst, arith, append_assoc, length-drop}
+use Rattle.std.proofs.lemmas.Bool.{cases_lt, eqb-false}
+use Rattle.std.proofs.lemmas.List.{take-append-drop, take-take, get_or-drop}
+use Rattle.std.proofs.lemmas.List.Sums.{prefix_len_passes, prefix_len_stops, prefix_len-le-length}
+use Rattle.version_text.specs.Grammar.{is_digit, IsInteger, Parts, IsVersion, IsVersionText, BeginsVersion, StopsAt, spell_number, spell_ending, spelling}
+use Rattle.pms_version.specs.Limits.{digit_count, HasShortNumbers, IsReadable}
+use Rattle.pms_version.specs.Reading.{IsShortBefore, FirstFault}
+use Rattle.pms_version.specs.declared.fault.VersionFault.{VersionFault}
+use Rattle.pms_version.specs.declared.fault.VersionFault.TheVariants.{Empty, BadChar, TooManyDigits, TooLong, Memory}
+
+pub version_begins_so : (n : ℕ) (bytes : List ℕ) → IsVersionText bytes → BeginsVersion (take n bytes)
+version_begins_so n bytes text = (drop n bytes, subst IsVersionText (sym (take-append-drop n bytes)) text)
+
+pub begins_before_stop : (n at : ℕ) (bytes : List ℕ) → n ≤ at → StopsAt bytes at → BeginsVersion (take n bytes)
+begins_before_stop n at bytes h stop =
+    let front : take n (take at bytes) ≡ take n bytes = take-take n at bytes h in
+    let cut : take at bytes ≡ take n bytes ++ drop n (take at bytes) = sym (take-append-drop n (take at bytes)) ∙ ap (λ xs. xs ++ drop n (take at bytes)) front in (
+      drop n (take at bytes) ++ stop.begins.0,
+      subst IsVersionText (ap (λ xs. xs ++ stop.begins.0) cut ∙ append_assoc (take n bytes) (drop n (take at bytes)) stop.begins.0) stop.begins.1,
+    )
+
+pub not_zero : (bytes : List ℕ) → (length bytes == 0) ≡ false → 0 < length bytes
+not_zero bytes h = let ne : length bytes ≡ 0 → ⊥ = eqb-false (length bytes) 0 h in omega arith
+
+contrary : (t : Bool) → t ≡ true → t ≡ false → ⊥
+contrary t h k = cc
+
+pub row-more : (bytes : List ℕ) (start at : ℕ) → ((k : ℕ) → start ≤ k → k < at → is_digit (get_or bytes k 0) ≡ true) → is_digit (get_or bytes at 0) ≡ true → (k : ℕ) → start ≤ k → k < at + 1 → is_digit (get_or bytes k 0) ≡ true
+row-more bytes start at before here k l h = elim (cases_lt k at) [
+  | inl inside ↦ before k l inside
+  | inr last ↦ let same : at ≡ k = omega arith in subst (λ i. is_digit (get_or bytes i 0) ≡ true) same here
+]
+
+-- a row of digits is counted
+pub digit_count-row : (bytes : List ℕ) (start n : ℕ) → start + n ≤ length bytes → ((k : ℕ) → start ≤ k → k < start + n → is_digit (get_or bytes k 0) ≡ true) → n ≤ digit_count (drop start bytes)
+digit_count-row bytes start n l h = elim (cases_lt (digit_count (drop start bytes)) n) [
+  | inl short ↦
+      let count = digit_count (drop start bytes) in
+      let inside : count < length (drop start bytes) = omega (arith, length-drop start bytes) in
+      absurd (contrary (is_digit (get_or bytes (start + count) 0)) (h (start + count) (omega arith) (omega arith)) (sym (ap is_digit (get_or-drop start bytes count 0)) ∙ prefix_len_stops is_digit (drop start bytes) 0 inside))
+  | inr enough ↦ enough
+]
+
+-- no row goes past a byte that is no digit
+pub digit_count-stops : (bytes : List ℕ) (k at : ℕ) → k ≤ at → is_digit (get_or bytes at 0) ≡ false → digit_count (drop k bytes) ≤ at - k
+digit_count-stops bytes k at l h = elim (cases_lt (at - k) (digit_count (drop k bytes))) [
+  | inl long ↦
+      let there : k + (at - k) ≡ at = omega arith in
+      let digit : is_digit (get_or bytes at 0) ≡ true = sym (ap (λ i. is_digit (get_or bytes i 0)) there) ∙ (sym (ap is_digit (get_or-drop k bytes (at - k) 0)) ∙ prefix_len_passes is_digit (drop k bytes) (at - k) 0 long) in
+      absurd (contrary (is_digit (get_or bytes at 0)) digit h)
+  | inr short ↦ short
+]
+
+pub short_past : (bytes : List ℕ) (start at : ℕ) → IsShortBefore bytes start → at - start ≤ 38 → is_digit (get_or bytes at 0) ≡ false → IsShortBefore bytes (at + 1)
+short_past bytes start at short few other k h = elim (cases_lt k start) [
+  | inl before ↦ short k before
+  | inr from ↦ let count : digit_count (drop k bytes) ≤ at - k = digit_count-stops bytes k at (omega arith) other in omega arith
+]
+
+pub short_to_end : (bytes : List ℕ) (start : ℕ) → IsShortBefore bytes start → length bytes - start ≤ 38 → HasShortNumbers bytes
+short_to_end bytes start short few k = elim (cases_lt k start) [
+  | inl before ↦ short k before
+  | inr from ↦
+      let count : digit_count (drop k bytes) ≤ length (drop k bytes) = prefix_len-le-length is_digit (drop k bytes) in
+      omega (arith, length-drop k bytes)
+]
+
+not_empty : (p : Parts) → IsVersion p → 0 < length (spelling p)
+not_empty p v = some_digits p.first (flat_map spell_number p.more ++ (p.letter ++ spell_ending p.suffixes p.revision)) v.first
+  where
+    some_digits : (ds rest : List ℕ) → IsInteger ds → 0 < length (ds ++ rest)
+    some_digits [] rest h = absurd h
+    some_digits (d ∷ ds) rest h = omega arith
+
+stops_no_version : (bytes : List ℕ) (at : ℕ) → StopsAt bytes at → IsVersionText bytes → ⊥
+stops_no_version bytes at stop text = elim (cases_lt at (length bytes)) [
+  | inl inside ↦ stop.stops inside (version_begins_so (at + 1) bytes text)
+  | inr end ↦ let in_range : at ≤ length bytes = stop.in_range in let at_end : at ≡ length bytes = omega arith in stop.short at_end text
+]
+
+-- the text of a version within the limits has no fault but want of memory
+pub no_fault : (text : List ℕ) (fault : VersionFault) → FirstFault text fault → (p : Parts) → IsReadable p → text ≡ spelling p → fault ≡ Memory
+no_fault text Empty f p r e = let some : 0 < length (spelling p) = not_empty p r.version in absurd (omega (arith, ap length e))
+no_fault text TooLong f p r e = let short : length (spelling p) ≤ 255 = r.short in absurd (omega (arith, ap length e))
+no_fault text (BadChar at) f p r e = absurd (stops_no_version text at f.2 (p, r.version, e))
+no_fault text (TooManyDigits at) f p r e =
+    let few : digit_count (drop at text) ≤ 38 = subst HasShortNumbers (sym e) r.numbers at in
+    let many : 38 < digit_count (drop at text) = f.2 in
+    absurd (omega arith)
+no_fault text Memory f p r e = refl

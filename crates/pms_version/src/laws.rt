@@ -1,0 +1,27 @@
+ghost use Rattle.pms_version.specs.Begins.{version_begins};
+ghost use Rattle.pms_version.specs.Keys.{key_cmp};
+ghost use Rattle.pms_version.specs.Order.{version_cmp};
+ghost use Rattle.std.specs.Cmp.{IsTotalOrder};
+ghost use Rattle.std.specs.Ordering.{ordering_reverse};
+ghost use Rattle.std.specs.Prelude.{◌≡◌, true};
+ghost use Rattle.std.specs.declared.cmp.Ordering.TheVariants.{Equal, Less};
+ghost use Rattle.version_text.specs.Grammar.{IsVersion, Parts};
+
+/// A law: the order of versions is total, up to versions that are equal in it.
+pub fn order_is_total()
+    ensures itself { (a : Parts) → IsVersion a → version_cmp a a ≡ Equal }
+    ensures turned { (a b : Parts) → IsVersion a → IsVersion b → version_cmp b a ≡ ordering_reverse (version_cmp a b) }
+    ensures rises { (a b c : Parts) → IsVersion a → IsVersion b → IsVersion c → version_cmp a b ≡ Less → version_cmp b c ≡ Less → version_cmp a c ≡ Less }
+    ensures alike { (a b c : Parts) → IsVersion a → IsVersion b → IsVersion c → version_cmp a b ≡ Equal → version_cmp a c ≡ version_cmp b c }
+{}
+
+/// A law: versions are ordered as their keys are, and the order of keys is total on all parts.
+pub fn order_is_that_of_keys()
+    ensures keys { (a b : Parts) → IsVersion a → IsVersion b → version_cmp a b ≡ key_cmp a b }
+    ensures total { IsTotalOrder key_cmp }
+{}
+
+/// A law: a version begins itself.
+pub fn each_begins_itself()
+    ensures { (a : Parts) → IsVersion a → version_begins a a ≡ true }
+{}

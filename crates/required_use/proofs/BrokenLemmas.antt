@@ -1,0 +1,23 @@
+-- No expression is broken exactly where all hold.
+use Rattle.std.specs.Prelude.{not, cond, Option, Some, IsNone, IsTrue, ◌↔◌}
+use Rattle.std.specs.List.{position, position_from}
+use Rattle.std.proofs.Common.{◌≡◌, ℕ, ◌+◌, Bool, true, false, ◌&&◌, List, [], ◌∷◌, sym, subst, rules}
+use Rattle.std.proofs.lemmas.Iterator.Adapters.{position_from-zero}
+use Rattle.dep_group.specs.Trees.{holds, all_hold}
+use Rattle.required_use.specs.declared.required.Item.{Item}
+use Rattle.required_use.specs.declared.required.Required.{Required}
+use Rattle.required_use.specs.Grammar.{kind}
+use Rattle.required_use.specs.View.{view, trees_view}
+
+none_step : (b h : Bool) (rest : Option ℕ) (i : ℕ) → IsNone rest ↔ IsTrue h → IsNone (cond (not b) (Some i) rest) ↔ IsTrue (b && h)
+none_step true h rest i k = k
+none_step false h rest i k = (λ n. absurd (search rules), λ t. absurd (search rules))
+
+none_from : (fact : Item → Bool) (has : List ℕ → Bool) (ns : List Required) (i : ℕ) → IsNone (position_from (λ r. not (holds kind fact has (view r))) i ns) ↔ IsTrue (all_hold kind fact has (trees_view ns))
+none_from fact has [] i = (λ _. search rules, λ _. search rules)
+none_from fact has (n ∷ ns) i = none_step (holds kind fact has (view n)) (all_hold kind fact has (trees_view ns)) _ i (none_from fact has ns (i + 1))
+
+pub position-none : (fact : Item → Bool) (has : List ℕ → Bool) (ns : List Required) (r : Option ℕ) → r ≡ position (λ n. not (holds kind fact has (view n))) ns → IsNone r ↔ IsTrue (all_hold kind fact has (trees_view ns))
+position-none fact has ns r e =
+    let P : Option ℕ → Type 0 = λ o. IsNone o ↔ IsTrue (all_hold kind fact has (trees_view ns)) in
+    subst P (sym e) (subst P (sym (position_from-zero (λ n. not (holds kind fact has (view n))) ns)) (none_from fact has ns 0))

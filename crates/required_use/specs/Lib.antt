@@ -1,0 +1,4 @@
+pub mod Grammar
+pub mod View
+pub mod Faults
+pub mod Printing

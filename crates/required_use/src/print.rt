@@ -1,0 +1,104 @@
+ghost use Rattle.std.specs.Prelude.{◌≡◌, ◌∷◌, ◌++◌, IfOk, List, OnOk, string_bytes, ℕ};
+ghost use Rattle.dep_group.specs.declared.token.Opener.{Opener};
+ghost use Rattle.dep_group.specs.declared.token.Token.{Token};
+ghost use Rattle.dep_group.specs.declared.token.Token.TheVariants.{Closes, Opens};
+ghost use Rattle.dep_group.specs.Reading.{all_tokens, tokens};
+ghost use Rattle.dep_group.specs.Shapes.{condition};
+ghost use Rattle.dep_group.specs.Tokens.{tree_words};
+ghost use Rattle.dep_group.specs.Words.{and_space, spaced};
+ghost use Rattle.required_use.specs.declared.required.Item.{Item};
+ghost use Rattle.required_use.specs.Grammar.{grammar, item_text};
+ghost use Rattle.required_use.specs.Printing.{written};
+ghost use Rattle.required_use.specs.View.{trees_view, view};
+
+use crate::required::Required;
+use dep_group::push_word;
+use pms_names::Flag;
+use std::alloc::{AllocError, Global};
+
+/// The text of the expressions, with one space between each two words.
+pub fn print(alloc: Global, nodes: &[Required]) -> Result<String, AllocError>
+    ensures { IfOk result (λ text. string_bytes text ≡ spaced (tree_words grammar (trees_view nodes.now))) }
+{
+    let mut out = String::new(alloc);
+    push_all(nodes, &mut out)?;
+    Ok(out)
+}
+
+#[cycle(print)]
+fn push_all(nodes: &[Required], out: &mut String) -> Result<(), AllocError>
+    ensures { OnOk result ((rest : List (Token (Opener (List ℕ)) Item)) → written (string_bytes out.new) rest ≡ written (string_bytes out.old) (all_tokens (trees_view nodes.now) rest)) }
+{
+    for node in nodes {
+        push(node, out)?;
+    }
+    Ok(())
+}
+
+#[cycle(print)]
+fn push_group(nodes: &[Required], out: &mut String) -> Result<(), AllocError>
+    ensures { OnOk result ((rest : List (Token (Opener (List ℕ)) Item)) → written (string_bytes out.new) rest ≡ written (string_bytes out.old) (Opens ∷ all_tokens (trees_view nodes.now) (Closes ∷ rest))) }
+{
+    push_word(out, "", "(", "")?;
+    push_all(nodes, out)?;
+    push_word(out, "", ")", "")?;
+    Ok(())
+}
+
+#[cycle(print)]
+fn push(node: &Required, out: &mut String) -> Result<(), AllocError>
+    ensures { OnOk result ((rest : List (Token (Opener (List ℕ)) Item)) → written (string_bytes out.new) rest ≡ written (string_bytes out.old) (tokens (view node.now) rest)) }
+{
+    match node {
+        Required::Item { flag, on } => {
+            push_item(flag, *on, out)?;
+            Ok(())
+        }
+        Required::All(nodes) => {
+            push_group(nodes, out)?;
+            Ok(())
+        }
+        Required::AnyOf(nodes) => {
+            push_word(out, "", "||", "")?;
+            push_group(nodes, out)?;
+            Ok(())
+        }
+        Required::ExactlyOne(nodes) => {
+            push_word(out, "", "^^", "")?;
+            push_group(nodes, out)?;
+            Ok(())
+        }
+        Required::AtMostOne(nodes) => {
+            push_word(out, "", "??", "")?;
+            push_group(nodes, out)?;
+            Ok(())
+        }
+        Required::When { flag, on, nodes } => {
+            push_condition(flag, *on, out)?;
+            push_group(nodes, out)?;
+            Ok(())
+        }
+    }
+}
+
+fn push_item(flag: &Flag, on: bool, out: &mut String) -> Result<(), AllocError>
+    ensures { OnOk result (string_bytes out.new ≡ and_space (string_bytes out.old) ++ item_text flag.now on) }
+{
+    if on {
+        push_word(out, "", flag.text(), "")?;
+    } else {
+        push_word(out, "!", flag.text(), "")?;
+    }
+    Ok(())
+}
+
+fn push_condition(flag: &Flag, on: bool, out: &mut String) -> Result<(), AllocError>
+    ensures { OnOk result (string_bytes out.new ≡ and_space (string_bytes out.old) ++ condition flag.now on) }
+{
+    if on {
+        push_word(out, "", flag.text(), "?")?;
+    } else {
+        push_word(out, "!", flag.text(), "?")?;
+    }
+    Ok(())
+}

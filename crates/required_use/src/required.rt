@@ -1,0 +1,193 @@
+ghost use Rattle.std.specs.Prelude.{◌≡◌, ◌+◌, ◌≤◌, ◌↔◌, Bool, IfErr, IfOk, IsNone, IsTrue, List, MatchResult, map, not, string_bytes, ℕ};
+ghost use Rattle.std.specs.List.{position};
+ghost use Rattle.dep_group.specs.declared.token.Opener.{Opener};
+ghost use Rattle.dep_group.specs.Trees.{Trees, all_hold, group, holds, is_member, is_met, true_members, trees_of};
+ghost use Rattle.pms_names.specs.Flags.{has};
+ghost use Rattle.dep_group.specs.Tokens.{IsInForm, tree_words};
+ghost use Rattle.dep_group.specs.Words.{spaced, words_of};
+ghost use Rattle.required_use.specs.declared.required.Item.{Item};
+ghost use Rattle.required_use.specs.Faults.{FirstFault, IsMemory};
+ghost use Rattle.required_use.specs.Grammar.{grammar, is_on, kind, never};
+ghost use Rattle.required_use.specs.View.{trees, trees_view, view};
+
+use crate::fault::RequiredFault;
+use crate::{parse, print};
+use dep_group::{Node, Opener};
+use pms_names::{Flag, Flags};
+use std::alloc::{AllocError, Global};
+
+/// A flag that is wanted on, or off.
+#[derive(Debug, Drop)]
+pub struct Item {
+    pub flag: Flag,
+    pub on: bool,
+}
+
+/// One expression of REQUIRED_USE.
+#[derive(Debug, Drop)]
+pub enum Required {
+    Item {
+        flag: Flag,
+        on: bool,
+    },
+    All(Vec<Required>),
+    AnyOf(Vec<Required>),
+    ExactlyOne(Vec<Required>),
+    AtMostOne(Vec<Required>),
+    When {
+        flag: Flag,
+        on: bool,
+        nodes: Vec<Required>,
+    },
+}
+
+/// What a package demands of its flags: all of these.
+#[derive(Debug, Drop)]
+pub struct RequiredUse {
+    pub nodes: Vec<Required>,
+}
+
+impl RequiredUse {
+    /// Reads the whole text. Its first fault from the left is given; a group that is never closed is
+    /// a fault at the end.
+    pub fn parse(alloc: Global, text: &str) -> Result<RequiredUse, RequiredFault>
+        ensures found { IfOk result (λ r. words_of text.now ≡ tree_words grammar (trees r)) }
+        ensures form { IfOk result (λ r. IsInForm grammar never (trees r)) }
+        ensures only { (x : Trees (Opener (List ℕ)) Item) → IsInForm grammar never x → words_of text.now ≡ tree_words grammar x → MatchResult result (λ r. trees r ≡ x) IsMemory }
+        ensures fault { IfErr result (FirstFault text.now) }
+    {
+        match parse::read(alloc, text) {
+            Ok(nodes) => Ok(RequiredUse { nodes }),
+            Err(fault) => Err(fault),
+        }
+    }
+
+    /// The text, with one space between each two words.
+    pub fn print(&self, alloc: Global) -> Result<String, AllocError>
+        ensures { IfOk result (λ text. string_bytes text ≡ spaced (tree_words grammar (trees self.now))) }
+    {
+        print::print(alloc, &self.nodes)
+    }
+
+    /// Whether all hold where these flags are on, and no others.
+    pub fn holds(&self, enabled: &Flags) -> bool
+        ensures { result ≡ all_hold kind (is_on enabled.now) (has enabled.now) (trees self.now) }
+    {
+        all_hold(&self.nodes, enabled)
+    }
+
+    /// The index of the first of the outermost expressions that does not hold.
+    pub fn first_broken(&self, enabled: &Flags) -> Option<usize>
+        ensures first { result ≡ position (λ r. not (holds kind (is_on enabled.now) (has enabled.now) (view r))) self.now.nodes.items }
+        ensures none { IsNone result ↔ IsTrue (all_hold kind (is_on enabled.now) (has enabled.now) (trees self.now)) }
+    {
+        first_false(&self.nodes, enabled)
+    }
+}
+
+fn first_false(nodes: &[Required], enabled: &Flags) -> Option<usize>
+    ensures { result ≡ position (λ r. not (holds kind (is_on enabled.now) (has enabled.now) (view r))) nodes.now }
+{
+    nodes.iter().position(|node| !node.holds(enabled))
+}
+
+/// The text of an expression in form reads as its words: with the clauses of `parse` and `print`, what
+/// is printed is read back.
+pub fn printed_text_has_the_words()
+    ensures { (x : Trees (Opener (List ℕ)) Item) → IsInForm grammar never x → words_of (spaced (tree_words grammar x)) ≡ tree_words grammar x }
+{}
+
+impl Required {
+    /// Whether it holds where these flags are on, and no others.
+    #[cycle(holds)]
+    pub fn holds(&self, enabled: &Flags) -> bool
+        ensures { result ≡ holds kind (is_on enabled.now) (has enabled.now) (view self.now) }
+    {
+        match self {
+            Required::Item { flag, on } => is_met(enabled, flag, *on),
+            Required::All(nodes) => all_hold(nodes, enabled),
+            Required::AnyOf(nodes) => true_members(nodes, enabled) > 0,
+            Required::ExactlyOne(nodes) => true_members(nodes, enabled) == 1,
+            Required::AtMostOne(nodes) => true_members(nodes, enabled) <= 1,
+            Required::When { flag, on, nodes } => !is_met(enabled, flag, *on)
+                || all_hold(nodes, enabled),
+        }
+    }
+}
+
+#[cycle(holds)]
+fn all_hold(nodes: &[Required], enabled: &Flags) -> bool
+    ensures { result ≡ all_hold kind (is_on enabled.now) (has enabled.now) (trees_view nodes.now) }
+{
+    for node in nodes {
+        if !node.holds(enabled) {
+            return false;
+        }
+    }
+    true
+}
+
+#[cycle(holds)]
+fn true_members(nodes: &[Required], enabled: &Flags) -> usize
+    ensures { result ≡ true_members kind (is_on enabled.now) (has enabled.now) (trees_view nodes.now) }
+{
+    let mut count = 0;
+    for node in nodes {
+        if is_member(node, enabled) && node.holds(enabled) {
+            count += 1;
+        }
+    }
+    count
+}
+
+fn is_member(node: &Required, enabled: &Flags) -> bool
+    ensures { result ≡ is_member kind (has enabled.now) (view node.now) }
+{
+    match node {
+        Required::When { flag, on, .. } => is_met(enabled, flag, *on),
+        _ => true,
+    }
+}
+
+fn is_met(enabled: &Flags, flag: &Flag, on: bool) -> bool
+    ensures { result ≡ is_met (has enabled.now) flag.now on }
+{
+    enabled.has(flag) == on
+}
+
+impl Node<Opener<Flag>, Item> for Required {
+    ghost use Rattle.dep_group.specs.Trees.{is_any_of};
+    ghost use Rattle.required_use.specs.View.{view};
+    ghost use Rattle.required_use.specs.Grammar.{never};
+
+    ghost view = { view };
+
+    ghost any_of = { is_any_of };
+
+    ghost barred = { never };
+
+    fn of_leaf(leaf: Item) -> Required {
+        let Item { flag, on } = leaf;
+        Required::Item { flag, on }
+    }
+
+    fn of_group(opener: Option<Opener<Flag>>, nodes: Vec<Required>) -> Required
+        ensures { view result ≡ group opener (trees_view nodes.items) }
+    {
+        match opener {
+            None => Required::All(nodes),
+            Some(Opener::AnyOf) => Required::AnyOf(nodes),
+            Some(Opener::ExactlyOne) => Required::ExactlyOne(nodes),
+            Some(Opener::AtMostOne) => Required::AtMostOne(nodes),
+            Some(Opener::When { flag, on }) => Required::When { flag, on, nodes },
+        }
+    }
+
+    fn is_any_of(opener: &Opener<Flag>) -> bool {
+        matches!(opener, Opener::AnyOf)
+    }
+
+    fn is_barred(_leaf: &Item) -> bool {
+        false
+    }
+}

@@ -1,0 +1,68 @@
+use crate::RequiredUse;
+use pms_names::{Flag, Flags};
+use std::alloc::Global;
+use std::test::Fail;
+
+fn flags(alloc: Global, names: &[&str]) -> Result<Flags, Fail> {
+    let mut flags = Flags::new(alloc);
+    for name in names {
+        flags.insert(Flag::parse(alloc, *name)?)?;
+    }
+    Ok(flags)
+}
+
+#[test]
+fn truth_over_flags(rt: HostRuntime) -> Result<(), Fail> {
+    let one = flags(rt.alloc(), ["a"].as_slice())?;
+    let both = flags(rt.alloc(), ["a", "b"].as_slice())?;
+    for (text, alone, together) in [
+        ("^^ ( a b )", None, Some(0)),
+        ("?? ( a b )", None, Some(0)),
+        ("|| ( b c )", Some(0), None),
+        ("|| ( )", Some(0), Some(0)),
+        ("^^ ( )", Some(0), Some(0)),
+        ("?? ( )", None, None),
+        ("|| ( b? ( a ) )", Some(0), None),
+        ("a b? ( !a )", None, Some(1)),
+        ("( a !b )", None, Some(0)),
+        ("", None, None),
+    ] {
+        let required = RequiredUse::parse(rt.alloc(), text)?;
+        assert_eq!(rt; required.first_broken(&one), alone, "{text}");
+        assert_eq!(rt; required.first_broken(&both), together, "{text}");
+        assert_eq!(rt; required.holds(&one), alone.is_none(), "{text}");
+    }
+    Ok(())
+}
+
+#[test]
+fn printed_with_single_spaces(rt: HostRuntime) -> Result<(), Fail> {
+    let required = RequiredUse::parse(
+        rt.alloc(),
+        " ^^ (\ta\n!b ) !c? ( ?? ( d ) ( e ) || ( f ) )",
+    )?;
+    let text = required.print(rt.alloc())?;
+    assert_eq!(rt;
+        text.as_str(),
+        "^^ ( a !b ) !c? ( ?? ( d ) ( e ) || ( f ) )"
+    );
+    Ok(())
+}
+
+#[test]
+fn first_faults(rt: HostRuntime) -> Result<(), Fail> {
+    for (text, want) in [
+        ("a ( ( b )", "the group at 2 is not closed"),
+        ("a )", "no group for the parenthesis at 2 to close"),
+        ("a (b )", "a parenthesis without a space in the word at 2"),
+        ("a || b", "no item at 2"),
+        ("-a", "no item at 0"),
+        ("-a? ( b )", "no item at 0"),
+    ] {
+        match RequiredUse::parse(rt.alloc(), text) {
+            Ok(_) => assert!(rt; false, "{text}"),
+            Err(fault) => assert_eq!(rt; fault.to_string(rt.alloc())?.as_str(), want),
+        }
+    }
+    Ok(())
+}

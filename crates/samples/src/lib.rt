@@ -1,0 +1,14 @@
+//! A small tree and a builder in memory: what the built-in run of the program works on, and what the
+//! tests of whole runs begin with.
+//!
+//! It promises of an [`ImageBuilder`] that it tells its image and answers it. It stands on
+//! `build_pool`, `file_tree` and `tree_mem`.
+#![tactic(auto)]
+
+mod image_builder;
+#[cfg(test)]
+mod tests;
+mod trees;
+
+pub use image_builder::ImageBuilder;
+pub use trees::{CACHE_TEXT, file, sample_image, sample_tree, tree_of};

@@ -1,0 +1,90 @@
+ghost use Rattle.std.specs.Prelude.{◌≡◌, ◌↔◌, ℕ, ◌≤◌, List, length, take, map, IfOk, IfErr, OnOk, OnErr, IfSome, IfNone, IsTrue};
+ghost use Rattle.std.specs.List.{AllByRecursion};
+ghost use Rattle.pms_names.specs.Flags.{has};
+ghost use Rattle.use_flags.specs.Changes.{change_of, IsChange, changed, has_after};
+ghost use Rattle.use_flags.specs.Words.{words};
+ghost use Rattle.use_flags.specs.Faults.{FirstFault};
+ghost use Rattle.use_flags.specs.declared.fault.UseFault.TheVariants.{Memory};
+
+use crate::fault::UseFault;
+use crate::words::next_word;
+use pms_names::{Flag, Flags, NameFault};
+use std::alloc::{AllocError, Global};
+
+/// One change of a set of flags.
+#[derive(Debug, Drop)]
+pub enum Change {
+    /// Written `flag`.
+    Add(Flag),
+    /// Written `-flag`.
+    Take(Flag),
+    /// Written `-*`: takes out every flag.
+    Clear,
+}
+
+/// Reads a text of changes, such as the value of USE.
+pub fn changes(alloc: Global, text: &str) -> Result<Vec<Change>, UseFault>
+    ensures found { IfOk result (λ v. v.items ≡ map change_of (words text.now)) }
+    ensures changes { OnOk result (AllByRecursion IsChange (words text.now)) }
+    ensures only { AllByRecursion IsChange (words text.now) → IfErr result (λ e. e ≡ Memory) }
+    ensures fault { IfErr result (FirstFault IsChange text.now) }
+{
+    let bytes = text.as_bytes();
+    let mut changes = Vec::new(alloc);
+    let mut from = 0;
+    while let Some(word) = next_word(bytes, from) {
+        let Some(change) = read_change(alloc, word.bytes)? else {
+            return Err(UseFault::Item { at: word.at });
+        };
+        changes.push(change)?;
+        from = word.at + word.bytes.len();
+    }
+    Ok(changes)
+}
+
+fn read_change(alloc: Global, word: &[u8]) -> Result<Option<Change>, AllocError>
+    ensures found { IfOk result (λ change. IfSome change (λ change. change ≡ change_of word.now)) }
+    ensures change { IfOk result (λ change. IfSome change (λ _. IsChange word.now)) }
+    ensures none { IfOk result (λ change. IfNone change (IsChange word.now → ⊥)) }
+{
+    if word == b"-*".as_slice() {
+        return Ok(Some(Change::Clear));
+    }
+    let (is_taken, name) = match word {
+        [b'-', name @ ..] => (true, name),
+        _ => (false, word),
+    };
+    match Flag::from_bytes(alloc, name) {
+        Ok(flag) if is_taken => Ok(Some(Change::Take(flag))),
+        Ok(flag) => Ok(Some(Change::Add(flag))),
+        Err(NameFault::Memory) => Err(AllocError),
+        Err(_) => Ok(None),
+    }
+}
+
+/// Applies the changes in their order. Where memory runs out, some first changes are applied.
+pub fn apply(flags: &mut Flags, changes: &[Change]) -> Result<(), AllocError>
+    ensures ok { OnOk result ((q : List ℕ) → has flags.new q ≡ has_after changes.now q (has flags.old q)) }
+    ensures err { OnErr result ((n : ℕ) × (n ≤ length changes.now) × ((q : List ℕ) → has flags.new q ≡ has_after (take n changes.now) q (has flags.old q))) }
+{
+    for change in changes {
+        apply_one(flags, change)?;
+    }
+    Ok(())
+}
+
+fn apply_one(flags: &mut Flags, change: &Change) -> Result<(), AllocError>
+    ensures ok { OnOk result ((q : List ℕ) → has flags.new q ≡ changed q (has flags.old q) change.now) }
+    ensures err { OnErr result (flags.new ≡ flags.old) }
+{
+    match change {
+        Change::Add(flag) => {
+            let _ = flags.insert(flag.try_clone()?)?;
+        }
+        Change::Take(flag) => {
+            let _ = flags.remove(flag);
+        }
+        Change::Clear => flags.clear(),
+    }
+    Ok(())
+}

@@ -1,0 +1,18 @@
+//! Texts of USE flags: the items of IUSE, and changes of a set of flags.
+//!
+//! It promises that each text is read as the words between its white space, that a text with a
+//! word of another form is refused at the first such word, and that applying changes is going
+//! through them one by one.
+//! It stands on `pms_names` for flags and sets of them.
+#![tactic(auto)]
+
+mod change;
+mod fault;
+mod iuse;
+#[cfg(test)]
+mod tests;
+mod words;
+
+pub use change::{Change, apply, changes};
+pub use fault::UseFault;
+pub use iuse::Iuse;

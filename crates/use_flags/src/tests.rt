@@ -1,0 +1,55 @@
+use crate::{Change, Iuse, UseFault, apply, changes};
+use pms_names::{Flag, Flags, NameFault};
+use std::alloc::Global;
+use std::test::Fail;
+
+fn is_among(alloc: Global, flags: &Flags, text: &str) -> Result<bool, NameFault> {
+    let flag = Flag::parse(alloc, text)?;
+    Ok(flags.has(&flag))
+}
+
+#[test]
+fn items_of_iuse(rt: HostRuntime) -> Result<(), Fail> {
+    let alloc = rt.alloc();
+    let Ok(iuse) = Iuse::parse(alloc, " +a b\n-c +d -d\te +e") else {
+        return Err(Fail::from("not read"));
+    };
+    for (flag, is_on) in [
+        ("a", true),
+        ("b", false),
+        ("c", false),
+        ("d", false),
+        ("e", true),
+    ] {
+        assert!(rt;
+            matches!(is_among(alloc, &iuse.flags, flag), Ok(true)),
+            "{flag}"
+        );
+        assert!(rt;
+            is_among(alloc, &iuse.on, flag).is_ok_and(|on| on == is_on),
+            "{flag}"
+        );
+    }
+    assert!(rt; matches!(Iuse::parse(alloc, "--a"), Err(UseFault::Item { at: 0 })));
+    assert!(rt; matches!(Iuse::parse(alloc, "a  +@"), Err(UseFault::Item { at: 3 })));
+    Ok(())
+}
+
+#[test]
+fn changes_of_a_set(rt: HostRuntime) -> Result<(), Fail> {
+    let alloc = rt.alloc();
+    assert!(rt; matches!(changes(alloc, "--a"), Err(UseFault::Item { at: 0 })));
+    assert!(rt; matches!(changes(alloc, "a +b"), Err(UseFault::Item { at: 2 })));
+    let Ok(list) = changes(alloc, "x -* a b -a") else {
+        return Err(Fail::from("not read"));
+    };
+    assert!(rt;
+        list.get(1)
+            .is_some_and(|change| matches!(change, Change::Clear))
+    );
+    let mut flags = Flags::new(alloc);
+    apply(&mut flags, list.as_slice())?;
+    assert!(rt; flags.list().len() == 1);
+    assert!(rt; matches!(is_among(alloc, &flags, "b"), Ok(true)));
+    Ok(())
+}
