@@ -10,7 +10,7 @@ pub is_number-same : (n m : ℕ) → m ≡ n → is_number n m ≡ 1
 is_number-same n m e = ap (λ t. cond t 1 0) (eq-eqb m n e)
 
 pub no_other : {B : Type 0} (number : B → ℕ) (rest : List B) (b : B) (lent : List Away) (k : ℕ) (d : Away)
-  → id_times number (number b) (record { resting = rest ++ b ∷ []; lent = lent }) ≤ 1 → k < length lent → (get_or lent k d).number ≡ number b → ⊥
+    → id_times number (number b) (record { resting = rest ++ b ∷ []; lent = lent }) ≤ 1 → k < length lent → (get_or lent k d).number ≡ number b → ⊥
 no_other {B} number rest b lent k d once lt e =
     let f : B → ℕ = λ x. is_number (number b) (number x) in
     let h : Away → ℕ = λ a. is_number (number b) a.number in

@@ -1,6 +1,6 @@
 ghost use Rattle.std.specs.Prelude.{◌<◌, IfOk, length};
 
-use crate::{ImageBuilder, file, sample_image, sample_tree, tree_of};
+use crate::{CACHE_TEXT, ImageBuilder, file, sample_image, sample_tree, tree_of};
 use build_pool::BuildPool;
 use emerge_run::{Ended, emerge};
 use file_tree::{Entry, Kind};
@@ -10,23 +10,45 @@ use tree_mem::{MemSink, MemTree};
 
 type Run = Ended<MemTree, MemSink, ImageBuilder>;
 
-/// A pool of one builder of this image.
-fn pool_of(alloc: Global, image: Vec<Entry>) -> Result<BuildPool<ImageBuilder>, AllocError>
+/// A pool of this one builder.
+fn pool_of(alloc: Global, builder: ImageBuilder) -> Result<BuildPool<ImageBuilder>, AllocError>
     ensures { IfOk result (λ p. 0 < length p.resting) }
 {
-    let builder = ImageBuilder::new(7, image);
     let builders = vec![in alloc; builder]?;
     BuildPool::new(alloc, builders)
 }
 
-/// A run of these words, which are split at spaces.
-fn run_on(alloc: Global, words: &str, tree: MemTree, image: Vec<Entry>) -> Result<Run, AllocError> {
+/// The words of a text, which is split at spaces.
+fn words_of(alloc: Global, text: &str) -> Result<Vec<String>, AllocError> {
     let mut list = Vec::new(alloc);
-    for word in words.split_whitespace() {
+    for word in text.split_whitespace() {
         list.push(String::from_str(alloc, word)?)?;
     }
-    let pool = pool_of(alloc, image)?;
-    Ok(emerge(alloc, &list, tree, MemSink::new(alloc), pool))
+    Ok(list)
+}
+
+/// A run of these words.
+fn run_with(
+    alloc: Global,
+    words: &str,
+    tree: MemTree,
+    out: MemSink,
+    builder: ImageBuilder,
+) -> Result<Run, AllocError> {
+    let words = words_of(alloc, words)?;
+    let pool = pool_of(alloc, builder)?;
+    Ok(emerge(alloc, &words, tree, out, pool))
+}
+
+/// A run of these words with an image and a sink that doesn't fail.
+fn run_on(alloc: Global, words: &str, tree: MemTree, image: Vec<Entry>) -> Result<Run, AllocError> {
+    run_with(
+        alloc,
+        words,
+        tree,
+        MemSink::new(alloc),
+        ImageBuilder::new(7, image),
+    )
 }
 
 /// What a run came to: its number, and what it wrote.
@@ -56,75 +78,119 @@ fn listing(alloc: Global, tree: &MemTree) -> Result<String, AllocError> {
 fn one_file_into_an_empty_tree(rt: HostRuntime) -> Result<(), Fail> {
     let alloc = rt.alloc();
     let run = run_on(alloc, "=c/p-1", sample_tree(alloc)?, sample_image(alloc)?)?;
-    assert_eq!(rt; told(alloc, &run)?.as_str(), "0 done 1 +c/p-1\nemerge: ok 1\n");
+    assert_eq!(rt;
+        told(alloc, &run)?.as_str(),
+        "0 done 1 +c/p-1\nemerge: ok 1\n"
+    );
     assert_eq!(rt; run.acknowledged.as_slice(), [1].as_slice());
-    let want = "etc/portage/make.profile/make.defaults ARCH=\"amd64\"\nACCEPT_KEYWORDS=\"amd64\"\n\nusr/bin/p \nvar/db/pkg/c/p-1/CONTENTS obj /usr/bin/p d41d8cd98f00b204e9800998ecf8427e 0\n\nvar/db/pkg/c/p-1/EAPI 8\n\nvar/db/pkg/c/p-1/SLOT 0\n\nvar/db/repos/gentoo/c/p/p-1.ebuild \nvar/db/repos/gentoo/metadata/md5-cache/c/p-1 EAPI=8\nKEYWORDS=amd64\nSLOT=0\n_md5_=d41d8cd98f00b204e9800998ecf8427e\n\n";
+    let want =
+        "etc/portage/make.profile/make.defaults ARCH=\"amd64\"\nACCEPT_KEYWORDS=\"amd64\"\n\nusr/bin/p \nvar/db/pkg/c/p-1/CONTENTS obj /usr/bin/p d41d8cd98f00b204e9800998ecf8427e 0\n\nvar/db/pkg/c/p-1/EAPI 8\n\nvar/db/pkg/c/p-1/SLOT 0\n\nvar/db/repos/gentoo/c/p/p-1.ebuild \nvar/db/repos/gentoo/metadata/md5-cache/c/p-1 EAPI=8\nKEYWORDS=amd64\nSLOT=0\n_md5_=d41d8cd98f00b204e9800998ecf8427e\n\n";
     assert_eq!(rt; listing(alloc, &run.tree)?.as_str(), want);
     assert_eq!(rt; run.tree.refused(), 0);
     Ok(())
 }
 
+/// What a run of these words over the sample comes to.
+fn told_of_words(alloc: Global, words: &str) -> Result<String, AllocError> {
+    let run = run_on(alloc, words, sample_tree(alloc)?, sample_image(alloc)?)?;
+    told(alloc, &run)
+}
+
 #[test]
 fn words_that_are_no_command(rt: HostRuntime) -> Result<(), Fail> {
     let alloc = rt.alloc();
-    let table = [
-        "", "=c/p-1 =c/p-1", "c/p-1", "=c/p", "=c/p-", "=C/p-1", "=c/P-1", "=c/p-1234567890", "=c/p-1.0", "=c/p2-1",
-        "=/p-1", "=c/-1", "!c/p", "=c/p-1:0",
-    ];
-    for words in table {
-        let run = run_on(alloc, words, sample_tree(alloc)?, sample_image(alloc)?)?;
-        assert_eq!(rt; told(alloc, &run)?.as_str(), "2 emerge: Usage\n", "at {words}");
+    let table =
+        ",=c/p-1 =c/p-1,c/p-1,=c/p,=c/p-,=C/p-1,=c/P-1,=c/p-1234567890,=c/p-1.0,=c/p2-1,=/p-1,=c/-1,!c/p,=c/p-1:0";
+    for words in table.split(',') {
+        assert_eq!(rt;
+            told_of_words(alloc, words)?.as_str(),
+            "2 emerge: Usage\n",
+            "at {words}"
+        );
+    }
+    Ok(())
+}
+
+/// What a run over the sample's cache entry and one more file comes to, with an image of one file.
+fn told_beside(
+    alloc: Global,
+    words: &str,
+    also: &str,
+    path: &str,
+    kind: Kind,
+) -> Result<String, AllocError> {
+    let cached = file(
+        alloc,
+        "var/db/repos/gentoo/metadata/md5-cache/c/p-1",
+        Kind::Plain,
+        CACHE_TEXT,
+    )
+    .map_err(|_| AllocError)?;
+    let other = file(alloc, also, Kind::Plain, "").map_err(|_| AllocError)?;
+    let entries = vec![in alloc; cached, other]?;
+    let tree = tree_of(alloc, entries).map_err(|_| AllocError)?;
+    let program = file(alloc, path, kind, "").map_err(|_| AllocError)?;
+    let run = run_on(alloc, words, tree, vec![in alloc; program]?)?;
+    told(alloc, &run)
+}
+
+#[test]
+fn trees_that_are_not_built_yet(rt: HostRuntime) -> Result<(), Fail> {
+    let alloc = rt.alloc();
+    let program = "usr/bin/p";
+    let repository = told_beside(alloc, "=c/q-1", "etc/x", program, Kind::Plain)?;
+    assert_eq!(rt; repository.as_str(), "20 emerge: NotBuilt: Repository\n");
+    let database = told_beside(
+        alloc,
+        "=c/p-1",
+        "var/db/pkg/c/q-1/SLOT",
+        program,
+        Kind::Plain,
+    )?;
+    assert_eq!(rt; database.as_str(), "20 emerge: NotBuilt: Database\n");
+    let journal = told_beside(
+        alloc,
+        "=c/p-1",
+        "var/lib/portage/jobs/00000001/gate",
+        program,
+        Kind::Plain,
+    )?;
+    assert_eq!(rt; journal.as_str(), "20 emerge: NotBuilt: Journal\n");
+    Ok(())
+}
+
+#[test]
+fn images_that_are_not_built_yet(rt: HostRuntime) -> Result<(), Fail> {
+    let alloc = rt.alloc();
+    // what also stands in the tree, and the image's path
+    let table =
+        "etc/x var/db/pkg/x,etc/x var/lib/portage,etc/x var/db,usr/bin/p usr/bin/p,usr/bin/p/x usr/bin/p,usr usr/bin/p";
+    for row in table.split(',') {
+        let (also, path) = row.split_once(' ').ok_or("a row has two paths")?;
+        let came = told_beside(alloc, "=c/p-1", also, path, Kind::Plain)?;
+        assert_eq!(rt; came.as_str(), "20 emerge: NotBuilt: Image\n", "at {row}");
     }
     Ok(())
 }
 
 #[test]
-fn what_is_not_built_yet(rt: HostRuntime) -> Result<(), Fail> {
+fn kinds_and_counts_that_are_not_built_yet(rt: HostRuntime) -> Result<(), Fail> {
     let alloc = rt.alloc();
-    // what also stands in the tree, the path and the kind of the image's one file, and the part
-    let table = [
-        ("=c/q-1", "etc/x", "usr/bin/p", Kind::Plain, "Repository"),
-        ("=c/p-1", "var/db/pkg/c/q-1/SLOT", "usr/bin/p", Kind::Plain, "Database"),
-        ("=c/p-1", "var/lib/portage/jobs/00000001/gate", "usr/bin/p", Kind::Plain, "Journal"),
-        ("=c/p-1", "etc/x", "usr/bin/p", Kind::Exec, "Image"),
-        ("=c/p-1", "etc/x", "usr/bin/p", Kind::Link, "Image"),
-        ("=c/p-1", "etc/x", "var/db/pkg/x", Kind::Plain, "Image"),
-        ("=c/p-1", "etc/x", "var/lib/portage", Kind::Plain, "Image"),
-        ("=c/p-1", "etc/x", "var/db", Kind::Plain, "Image"),
-        ("=c/p-1", "usr/bin/p", "usr/bin/p", Kind::Plain, "Image"),
-        ("=c/p-1", "usr/bin/p/x", "usr/bin/p", Kind::Plain, "Image"),
-        ("=c/p-1", "usr", "usr/bin/p", Kind::Plain, "Image"),
-    ];
-    for (words, also, path, kind, part) in table {
-        let entries = sample_entries(alloc, also)?;
-        let image = vec![in alloc; file(alloc, path, kind, "")?]?;
-        let run = run_on(alloc, words, tree_of(alloc, entries)?, image)?;
-        let want = format!(in alloc; "20 emerge: NotBuilt: {part}\n")?;
-        assert_eq!(rt; told(alloc, &run)?, want, "{part} with {also} and {path}");
-    }
-    Ok(())
-}
-
-/// The sample's cache entry, and a file beside it.
-fn sample_entries(alloc: Global, also: &str) -> Result<Vec<Entry>, Fail> {
-    let cached = file(alloc, "var/db/repos/gentoo/metadata/md5-cache/c/p-1", Kind::Plain, crate::CACHE_TEXT)?;
-    let other = file(alloc, also, Kind::Plain, "")?;
-    Ok(vec![in alloc; cached, other]?)
-}
-
-#[test]
-fn images_of_other_sizes(rt: HostRuntime) -> Result<(), Fail> {
-    let alloc = rt.alloc();
+    let want = "20 emerge: NotBuilt: Image\n";
+    assert_eq!(rt;
+        told_beside(alloc, "=c/p-1", "etc/x", "usr/bin/p", Kind::Exec)?.as_str(),
+        want
+    );
+    assert_eq!(rt;
+        told_beside(alloc, "=c/p-1", "etc/x", "usr/bin/p", Kind::Link)?.as_str(),
+        want
+    );
     let none = run_on(alloc, "=c/p-1", sample_tree(alloc)?, Vec::new(alloc))?;
-    assert_eq!(rt; told(alloc, &none)?.as_str(), "20 emerge: NotBuilt: Image\n");
-    let first = file(alloc, "usr/bin/p", Kind::Plain, "")?;
-    let second = file(alloc, "usr/bin/q", Kind::Plain, "")?;
-    let two = run_on(alloc, "=c/p-1", sample_tree(alloc)?, vec![in alloc; first, second]?)?;
-    assert_eq!(rt; told(alloc, &two)?.as_str(), "20 emerge: NotBuilt: Image\n");
-    let mut large = file(alloc, "usr/bin/p", Kind::Plain, "")?;
-    large.object.bytes = vec![in alloc; 0; 268_435_457]?;
-    let large = run_on(alloc, "=c/p-1", sample_tree(alloc)?, vec![in alloc; large]?)?;
-    assert_eq!(rt; told(alloc, &large)?.as_str(), "20 emerge: NotBuilt: Image\n");
+    assert_eq!(rt; told(alloc, &none)?.as_str(), want);
+    let mut both = sample_image(alloc)?;
+    both.push(file(alloc, "usr/bin/q", Kind::Plain, "")?)?;
+    let two = run_on(alloc, "=c/p-1", sample_tree(alloc)?, both)?;
+    assert_eq!(rt; told(alloc, &two)?.as_str(), want);
     Ok(())
 }
 
@@ -133,13 +199,20 @@ fn a_builder_that_fails(rt: HostRuntime) -> Result<(), Fail> {
     let alloc = rt.alloc();
     let mut builder = ImageBuilder::new(7, sample_image(alloc)?);
     builder.fail();
-    let builders = vec![in alloc; builder]?;
-    let pool = BuildPool::new(alloc, builders)?;
-    let words = vec![in alloc; String::from_str(alloc, "=c/p-1")?]?;
-    let run = emerge(alloc, &words, sample_tree(alloc)?, MemSink::new(alloc), pool);
-    assert_eq!(rt; told(alloc, &run)?.as_str(), "15 emerge: BuildFailed: c/p-1\n");
+    let run = run_with(
+        alloc,
+        "=c/p-1",
+        sample_tree(alloc)?,
+        MemSink::new(alloc),
+        builder,
+    )?;
+    assert_eq!(rt;
+        told(alloc, &run)?.as_str(),
+        "15 emerge: BuildFailed: c/p-1\n"
+    );
     assert_eq!(rt; run.pool.faults(), 1);
-    assert_eq!(rt; listing(alloc, &run.tree)?, listing(alloc, &sample_tree(alloc)?)?);
+    let before = sample_tree(alloc)?;
+    assert_eq!(rt; listing(alloc, &run.tree)?, listing(alloc, &before)?);
     Ok(())
 }
 
@@ -148,12 +221,25 @@ fn first_write_fails(rt: HostRuntime) -> Result<(), Fail> {
     let alloc = rt.alloc();
     let mut out = MemSink::new(alloc);
     out.fail_at(1)?;
-    let words = vec![in alloc; String::from_str(alloc, "=c/p-1")?]?;
-    let run = emerge(alloc, &words, sample_tree(alloc)?, out, pool_of(alloc, sample_image(alloc)?)?);
+    let run = run_with(
+        alloc,
+        "=c/p-1",
+        sample_tree(alloc)?,
+        out,
+        ImageBuilder::new(7, sample_image(alloc)?),
+    )?;
     assert_eq!(rt; told(alloc, &run)?.as_str(), "17 emerge: OutputFault\n");
     assert_eq!(rt; run.history.as_slice(), [1].as_slice());
     assert_eq!(rt; run.acknowledged.len(), 0);
     Ok(())
+}
+
+/// What a run whose call of this number fails comes to.
+fn told_of_failure(alloc: Global, call: u64) -> Result<String, AllocError> {
+    let mut tree = sample_tree(alloc)?;
+    tree.fail_at(call)?;
+    let run = run_on(alloc, "=c/p-1", tree, sample_image(alloc)?)?;
+    told(alloc, &run)
 }
 
 #[test]
@@ -161,12 +247,17 @@ fn each_failing_call_is_told(rt: HostRuntime) -> Result<(), Fail> {
     let alloc = rt.alloc();
     let whole = run_on(alloc, "=c/p-1", sample_tree(alloc)?, sample_image(alloc)?)?;
     let calls = whole.tree.calls();
-    assert!(rt; calls > 5);
-    for call in 1..calls + 1 {
-        let mut tree = sample_tree(alloc)?;
-        tree.fail_at(call)?;
-        let run = run_on(alloc, "=c/p-1", tree, sample_image(alloc)?)?;
-        assert_eq!(rt; told(alloc, &run)?.as_str(), "16 emerge: DeviceFault\n", "at call {call}");
+    assert!(rt; 5 < calls);
+    for call in 1..calls {
+        assert_eq!(rt;
+            told_of_failure(alloc, call)?.as_str(),
+            "16 emerge: DeviceFault\n",
+            "at call {call}"
+        );
     }
+    assert_eq!(rt;
+        told_of_failure(alloc, calls)?.as_str(),
+        "16 emerge: DeviceFault\n"
+    );
     Ok(())
 }

@@ -4,7 +4,8 @@ use tree_mem::{MemFault, MemTree};
 
 /// The cache entry of a package without dependencies, in slot 0 and stable on amd64, whose ebuild
 /// is empty.
-pub const CACHE_TEXT: &str = "EAPI=8\nKEYWORDS=amd64\nSLOT=0\n_md5_=d41d8cd98f00b204e9800998ecf8427e\n";
+pub const CACHE_TEXT: &str =
+    "EAPI=8\nKEYWORDS=amd64\nSLOT=0\n_md5_=d41d8cd98f00b204e9800998ecf8427e\n";
 
 /// An entry of these words. A text that is no path is refused.
 pub fn file(alloc: Global, path: &str, kind: Kind, text: &str) -> Result<Entry, PathFault> {
@@ -30,9 +31,23 @@ pub fn tree_of(alloc: Global, entries: Vec<Entry>) -> Result<MemTree, MemFault> 
 
 /// A tree with nothing installed, a profile for amd64, and one candidate: `c/p-1`.
 pub fn sample_tree(alloc: Global) -> Result<MemTree, AllocError> {
-    let defaults = file(alloc, "etc/portage/make.profile/make.defaults", Kind::Plain, "ARCH=\"amd64\"\nACCEPT_KEYWORDS=\"amd64\"\n").map_err(|_| AllocError)?;
-    let ebuild = file(alloc, "var/db/repos/gentoo/c/p/p-1.ebuild", Kind::Plain, "").map_err(|_| AllocError)?;
-    let cached = file(alloc, "var/db/repos/gentoo/metadata/md5-cache/c/p-1", Kind::Plain, CACHE_TEXT).map_err(|_| AllocError)?;
+    let defaults = file(
+        alloc,
+        "etc/portage/make.profile/make.defaults",
+        Kind::Plain,
+        "ARCH=\"amd64\"\nACCEPT_KEYWORDS=\"amd64\"\n",
+    )
+    .map_err(|_| AllocError)?;
+    let ebuild = file(alloc, "var/db/repos/gentoo/c/p/p-1.ebuild", Kind::Plain, "").map_err(
+        |_| AllocError,
+    )?;
+    let cached = file(
+        alloc,
+        "var/db/repos/gentoo/metadata/md5-cache/c/p-1",
+        Kind::Plain,
+        CACHE_TEXT,
+    )
+    .map_err(|_| AllocError)?;
     let entries = vec![in alloc; defaults, ebuild, cached]?;
     tree_of(alloc, entries).map_err(|_| AllocError)
 }

@@ -14,6 +14,8 @@ mod items;
 mod record;
 mod sink;
 mod sorting;
+#[cfg(test)]
+mod tests;
 mod tree;
 
 pub use fault::{ImageFault, MemFault};

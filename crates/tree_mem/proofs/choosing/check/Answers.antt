@@ -1,4 +1,4 @@
-use Rattle.std.proofs.Common.{◌≡◌, false, true, rules}
+use Rattle.std.proofs.Common.{◌≡◌, false, true}
 use Rattle.tree_mem.specs.Record.{is_among}
 use Rattle.tree_mem.proofs.Wishes.{first-untouched, touched-all, touched-more}
 use Rattle.tree_mem.proofs.choosing.check.Goals as goal

@@ -1,4 +1,4 @@
-use Rattle.std.proofs.Common.{◌≡◌, ◌∙◌, ap}
+use Rattle.std.proofs.Common.{◌∙◌, ap}
 use Rattle.file_tree.specs.Disk.{Story}
 use Rattle.tree_mem.specs.Items.{held}
 use Rattle.tree_mem.specs.Record.{is_among}
