@@ -30,7 +30,13 @@ fn run<R: Env + Print + AllocGlobal>(rt: &R, alloc: Global) -> Result<u8, AllocE
     let words = words(rt, alloc)?;
     let builder = ImageBuilder::new(1, sample_image(alloc)?);
     let pool = BuildPool::new(alloc, vec![in alloc; builder]?)?;
-    let ended = emerge(alloc, &words, sample_tree(alloc)?, MemSink::new(alloc), pool);
+    let ended = emerge(
+        alloc,
+        &words,
+        sample_tree(alloc)?,
+        MemSink::new(alloc),
+        pool,
+    );
     let code = ended.status.code();
     match io::writer(rt).write_all(ended.out.bytes()) {
         Ok(()) => Ok(code),
