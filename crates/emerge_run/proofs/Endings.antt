@@ -37,7 +37,7 @@ outcome_stopped tells told resting words m s s' history d failed b has image its
     its,
     record {
       answer = subst (λ (x : Status). Asks words m image x) (sym same) asks;
-      tree = inl (subst (λ (h : List ℕ). IsApplied words m image h d) (sym none) held);
+      tree = subst (λ (h : List ℕ). IsApplied words m image h d failed) (sym none) (inl held);
     },
   ),
 )
@@ -90,15 +90,21 @@ late_asks words m image o status.Usage late one order ready fits = absurd late
 late_asks words m image o (status.NotBuilt part) late one order ready fits = absurd late
 late_asks words m image o (status.BuildFailed order) late one order' ready fits = absurd late
 
-late_tree : (words : List (List ℕ)) (m : Map) (image : Order → List Entry) (o : Order) (e : Entry) (es : List Entry) (history : List ℕ) (d : Disk)
-    → IsOrder words o → image o ≡ e ∷ [] → es ≡ files o e → CarriedOut es m history d → IsApplied words m image history d
-late_tree words m image o e es [] d order is same h = h
-late_tree words m image o e es (g ∷ gs) d order is same h = (o, order, (e, is, h.0 ∙ ap (λ (x : List Entry). with_files x m) same, h.1))
+late_tree : (words : List (List ℕ)) (m : Map) (image : Order → List Entry) (o : Order) (e : Entry) (es : List Entry) (history : List ℕ) (d : Disk) (failed : Type 0)
+    → IsOrder words o → image o ≡ e ∷ [] → es ≡ files o e → CarriedOut es m history d failed → IsApplied words m image history d failed
+late_tree words m image o e es [] d failed order is same h = h
+late_tree words m image o e es (g ∷ gs) d failed order is same h = (o, order, (e, is, h.0 ∙ ap (λ (x : List Entry). with_files x m) same, h.1))
+
+-- another reason for which nothing is said of the tree
+pub carried_other : (es : List Entry) (m : Map) (history : List ℕ) (d : Disk) (failed failed' : Type 0) → (failed → failed') → CarriedOut es m history d failed → CarriedOut es m history d failed'
+carried_other es m [] d failed failed' so (inl held) = inl held
+carried_other es m [] d failed failed' so (inr was) = inr (so was)
+carried_other es m (g ∷ gs) d failed failed' so h = h
 
 -- a run whose group was begun
 pub outcome_carried : {B : Type 0} (tells : Bool) (told : B → Order → List Entry) (resting : List B) (words : List (List ℕ)) (m : Map) (s : Status) (history : List ℕ) (d : Disk) (failed : Type 0)
     (o : Order) (e : Entry) (es : List Entry) (b : B) → Contains resting b → (IsTrue tells → told b o ≡ e ∷ []) → IsOrder words o → IsReady m o → Fits m e → es ≡ files o e
-    → IsLate s → ((n : ℕ) → s ≡ status.Ok n → n ≡ 1) → CarriedOut es m history d ⊎ failed → OfSomeBuilder tells told resting (λ image. Outcome words m image history s d failed)
+    → IsLate s → ((n : ℕ) → s ≡ status.Ok n → n ≡ 1) → CarriedOut es m history d failed → OfSomeBuilder tells told resting (λ image. Outcome words m image history s d failed)
 outcome_carried tells told resting words m s history d failed o e es b has told_is order ready fits same late one tree =
     let seen = seen_image tells (told b) o (e ∷ []) (λ t. sym (told_is t)) in (
       b,
@@ -108,16 +114,23 @@ outcome_carried tells told resting words m s history d failed o e es b has told_
         seen.1,
         record {
           answer = late_asks words m seen.0 o s late one order ready (e, seen.2, fits);
-          tree = elim tree [ inl done ↦ inl (late_tree words m seen.0 o e es history d order seen.2 same done) | inr rose ↦ inr rose ];
+          tree = late_tree words m seen.0 o e es history d failed order seen.2 same tree;
         },
       ),
     )
 
 -- the lines and then the last line
+pub all_told : (words : List (List ℕ)) (acknowledged : List ℕ) (s : Status) (old mid new : List ℕ)
+    → ((text : List ℕ) × IsLines words acknowledged text × (mid ≡ old ++ text)) → new ≡ mid ++ last_line s
+    → (text : List ℕ) × IsOutput words acknowledged s text × (new ≡ old ++ text)
+all_told words acknowledged s old mid new lines last =
+    (lines.0 ++ last_line s, (lines.0, lines.1, refl), last ∙ (ap (λ (x : List ℕ). x ++ last_line s) lines.2 ∙ append_assoc old lines.0 (last_line s)))
+
+-- the same where the output may have failed
 pub all_written : (words : List (List ℕ)) (acknowledged : List ℕ) (s : Status) (old mid new : List ℕ) (was between now : ℕ) → was ≤ between → between ≤ now
     → ((text : List ℕ) × IsLines words acknowledged text × (mid ≡ old ++ text)) ⊎ Rose was between → (new ≡ mid ++ last_line s) ⊎ Rose between now
     → ((text : List ℕ) × IsOutput words acknowledged s text × (new ≡ old ++ text)) ⊎ Rose was now
 all_written words acknowledged s old mid new was between now le ge (inr rose) last = inr (rose_before was between now ge rose)
 all_written words acknowledged s old mid new was between now le ge (inl lines) (inr rose) = inr (rose_later was between now le rose)
 all_written words acknowledged s old mid new was between now le ge (inl lines) (inl last) =
-    inl (lines.0 ++ last_line s, (lines.0, lines.1, refl), last ∙ (ap (λ (x : List ℕ). x ++ last_line s) lines.2 ∙ append_assoc old lines.0 (last_line s)))
+    inl (all_told words acknowledged s old mid new lines last)

@@ -17,15 +17,15 @@ use Rattle.emerge_run.specs.declared.status.Status.TheVariants as status
 abbrev pub IsMerged : List (List ℕ) → Map → (Order → List Entry) → Disk → Type 0
 IsMerged words m image d = (o : Order) × IsOrder words o × ((e : Entry) × (image o ≡ e ∷ []) × (d.holds ≡ with_files (files o e) m) × IsUntouched d)
 
--- the disk reads as the map with the groups applied
-abbrev pub IsApplied : List (List ℕ) → Map → (Order → List Entry) → List ℕ → Disk → Type 0
-IsApplied words m image [] d = d.holds ≡ m
-IsApplied words m image (g ∷ gs) d = IsMerged words m image d
+-- the disk reads as the map with the groups applied; where there are none, a device that failed may have left anything
+abbrev pub IsApplied : List (List ℕ) → Map → (Order → List Entry) → List ℕ → Disk → Type 0 → Type 0
+IsApplied words m image [] d failed = (d.holds ≡ m) ⊎ failed
+IsApplied words m image (g ∷ gs) d failed = IsMerged words m image d
 
--- how a run over this tree ended: with the answer that it asks for, and a tree with the groups applied, unless the device failed
+-- how a run over this tree ended: with the answer that it asks for, and a tree with the groups applied, unless the device failed before any was
 pub record Outcome (words : List (List ℕ)) (m : Map) (image : Order → List Entry) (history : List ℕ) (s : Status) (d : Disk) (failed : Type 0) : Type 0 where
   pub answer : Asks words m image s
-  pub tree : IsApplied words m image history d ⊎ failed
+  pub tree : IsApplied words m image history d failed
 
 -- some builder of those at rest tells this image, where builders tell
 abbrev pub OfSomeBuilder : {B : Type 0} → Bool → (B → Order → List Entry) → List B → ((Order → List Entry) → Type 0) → Type 0
@@ -92,6 +92,6 @@ IsLate (status.NotBuilt part) = ⊥
 IsLate (status.BuildFailed order) = ⊥
 
 -- the disk after a group of these files, by whether the group stands in the history
-abbrev pub CarriedOut : List Entry → Map → List ℕ → Disk → Type 0
-CarriedOut es m [] d = d.holds ≡ m
-CarriedOut es m (g ∷ gs) d = (d.holds ≡ with_files es m) × IsUntouched d
+abbrev pub CarriedOut : List Entry → Map → List ℕ → Disk → Type 0 → Type 0
+CarriedOut es m [] d failed = (d.holds ≡ m) ⊎ failed
+CarriedOut es m (g ∷ gs) d failed = (d.holds ≡ with_files es m) × IsUntouched d

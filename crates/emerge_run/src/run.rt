@@ -70,6 +70,7 @@ pub fn emerge<T: Tree + Send, S: Sink + Send, B: Builder + Send>(
 
     // What was written is the lines of the acknowledged groups and the last line, unless the output failed.
     ensures written { IsTrue S.tells → ((text : List ℕ) × IsOutput (map string_bytes words.now) result.acknowledged.items result.status text × (S.written result.out ≡ S.written out ++ text)) ⊎ Rose (S.faults out) (S.faults result.out) }
+    ensures told { IsTrue S.tells → (n : ℕ) → result.status ≡ Status.Ok n → (text : List ℕ) × IsOutput (map string_bytes words.now) result.acknowledged.items result.status text × (S.written result.out ≡ S.written out ++ text) }
 
     // Each answer but want of memory has its cause.
     ensures usage { result.status ≡ Status.Usage → IsCommand (map string_bytes words.now) → ⊥ }
@@ -105,6 +106,7 @@ fn attempt<T: Tree, S: Sink, B: Builder>(
     ensures ok { (n : ℕ) → result.status ≡ Status.Ok n → (result.acknowledged.items ≡ 1 ∷ []) × (n ≡ 1) }
     ensures acknowledged { (result.acknowledged.items ≡ []) ⊎ (result.acknowledged.items ≡ result.history.items) }
     ensures written { IsTrue S.tells → ((text : List ℕ) × IsLines (map string_bytes words.now) result.acknowledged.items text × (S.written out.new ≡ S.written out.old ++ text)) ⊎ Rose (S.faults out.old) (S.faults out.new) }
+    ensures told { IsTrue S.tells → (n : ℕ) → result.status ≡ Status.Ok n → (text : List ℕ) × IsLines (map string_bytes words.now) result.acknowledged.items text × (S.written out.new ≡ S.written out.old ++ text) }
     ensures usage { result.status ≡ Status.Usage → IsCommand (map string_bytes words.now) → ⊥ }
     ensures no_command { (IsCommand (map string_bytes words.now) → ⊥) → (result.status ≡ Status.Usage) ⊎ (result.status ≡ Status.Memory) }
     ensures build { (o : Order) → result.status ≡ Status.BuildFailed o → PoolRose B.faults pool.old pool.new }
@@ -165,11 +167,12 @@ fn carry_out<T: Tree, S: Sink>(tree: &mut T, out: &mut S, prepared: Prepared) ->
     requires fresh { IsTrue T.tells → All (λ e. (T.story tree.old).now.holds e.path ≡ None) prepared.files.items }
     requires history { (prepared.history.items ≡ []) × (vec_len prepared.history < vec_capacity prepared.history) }
     requires acknowledged { (prepared.acknowledged.items ≡ []) × (vec_len prepared.acknowledged < vec_capacity prepared.acknowledged) }
-    ensures tree { IsTrue T.tells → CarriedOut prepared.files.items (T.story tree.old).now.holds result.history.items (T.story tree.new).now ⊎ Rose (T.faults tree.old) (T.faults tree.new) }
+    ensures tree { IsTrue T.tells → CarriedOut prepared.files.items (T.story tree.old).now.holds result.history.items (T.story tree.new).now (Rose (T.faults tree.old) (T.faults tree.new)) }
     ensures late { IsLate result.status }
     ensures ok { (n : ℕ) → result.status ≡ Status.Ok n → (result.acknowledged.items ≡ 1 ∷ []) × (n ≡ 1) }
     ensures acknowledged { (result.acknowledged.items ≡ []) ⊎ ((result.acknowledged.items ≡ 1 ∷ []) × (result.history.items ≡ 1 ∷ [])) }
     ensures written { IsTrue S.tells → (S.written out.new ≡ S.written out.old ++ flat_map (λ _. string_bytes prepared.line) result.acknowledged.items) ⊎ Rose (S.faults out.old) (S.faults out.new) }
+    ensures told { IsTrue S.tells → (n : ℕ) → result.status ≡ Status.Ok n → S.written out.new ≡ S.written out.old ++ flat_map (λ _. string_bytes prepared.line) result.acknowledged.items }
     ensures device { result.status ≡ Status.DeviceFault → Rose (T.faults tree.old) (T.faults tree.new) }
     ensures output { result.status ≡ Status.OutputFault → Rose (S.faults out.old) (S.faults out.new) }
     ensures tree_count { T.faults tree.old ≤ T.faults tree.new }
@@ -205,6 +208,7 @@ fn acknowledge<S: Sink>(
     ensures history { history.new.items ≡ 1 ∷ [] }
     ensures cases { ((result ≡ Status.Ok 1) × (acknowledged.new.items ≡ 1 ∷ [])) ⊎ ((result ≡ Status.OutputFault) × ((acknowledged.new.items ≡ []) × Rose (S.faults out.old) (S.faults out.new))) }
     ensures written { IsTrue S.tells → (S.written out.new ≡ S.written out.old ++ flat_map (λ _. line.now) acknowledged.new.items) ⊎ Rose (S.faults out.old) (S.faults out.new) }
+    ensures told { IsTrue S.tells → (n : ℕ) → result ≡ Status.Ok n → S.written out.new ≡ S.written out.old ++ flat_map (λ _. line.now) acknowledged.new.items }
     ensures count { S.faults out.old ≤ S.faults out.new }
 {
     add(history, 1);
@@ -229,6 +233,7 @@ fn add(list: &mut Vec<u32>, number: u32)
 fn finish<S: Sink>(alloc: Global, out: &mut S, status: Status) -> Status
     ensures status { (result ≡ status) ⊎ ((result ≡ Status.Memory) ⊎ ((result ≡ Status.OutputFault) × Rose (S.faults out.old) (S.faults out.new))) }
     ensures written { IsTrue S.tells → (S.written out.new ≡ S.written out.old ++ last_line result) ⊎ Rose (S.faults out.old) (S.faults out.new) }
+    ensures told { IsTrue S.tells → (n : ℕ) → result ≡ Status.Ok n → (status ≡ Status.Ok n) × (S.written out.new ≡ S.written out.old ++ last_line result) }
     ensures count { S.faults out.old ≤ S.faults out.new }
 {
     if let Some(line) = fixed_line(&status) {
@@ -246,6 +251,7 @@ fn write_last<S: Sink>(out: &mut S, line: &str, status: Status) -> Status
     requires line { line.now ≡ last_line status }
     ensures status { (result ≡ status) ⊎ ((result ≡ Status.OutputFault) × Rose (S.faults out.old) (S.faults out.new)) }
     ensures written { IsTrue S.tells → (S.written out.new ≡ S.written out.old ++ last_line result) ⊎ Rose (S.faults out.old) (S.faults out.new) }
+    ensures told { IsTrue S.tells → (n : ℕ) → result ≡ Status.Ok n → (status ≡ Status.Ok n) × (S.written out.new ≡ S.written out.old ++ last_line result) }
     ensures count { S.faults out.old ≤ S.faults out.new }
 {
     match out.write(line.as_bytes()) {

@@ -1,4 +1,4 @@
-use Rattle.std.proofs.Common.{◌≡◌, ◌⊎◌, ◌≤◌, ◌∙◌, List, ap, arith, inl, inr, refl, subst, sym}
+use Rattle.std.proofs.Common.{◌≡◌, ◌≤◌, ◌∙◌, List, ap, arith, refl, subst, sym}
 use Rattle.std.specs.Prelude.{All, None}
 use Rattle.file_tree.specs.Disk.{Map, Rose, Story}
 use Rattle.file_tree.specs.declared.objects.Entry.{Entry}
@@ -6,7 +6,7 @@ use Rattle.emerge_run.specs.Images.{Fits}
 use Rattle.emerge_run.specs.Outcomes.{CarriedOut, ImageAsks}
 use Rattle.emerge_run.specs.Package.{files}
 use Rattle.emerge_run.proofs.Asked.{some_builder}
-use Rattle.emerge_run.proofs.Endings.{fresh_files, image_asks, outcome_carried, outcome_stopped, rose_later}
+use Rattle.emerge_run.proofs.Endings.{carried_other, fresh_files, image_asks, outcome_carried, outcome_stopped, rose_later}
 use Rattle.emerge_run.proofs.run.attempt.Goals as goal
 
 pub returns-in-Err-clause-outcome : goal.returns-in-Err-clause-outcome
@@ -45,9 +45,8 @@ returns-in-Ok-prepare-clause-outcome g c t =
     let found = c.in-Ok-find_entry.ensures.fits t in
     let fits = subst (λ (x : Map). Fits x c.in-Ok-find_entry.entry) mid found.2.1 in
     let le : g.T.Tree.faults c.args.tree.now ≤ g.T.Tree.faults c.find_entry.new.tree = omega (arith, c.find_order.ensures.count, c.find_entry.ensures.count) in
-    let at = subst (λ (x : Map). CarriedOut c.in-Ok-prepare.prepared.files.items x c.carry_out.result.history.items (g.T.Tree.story c.carry_out.new.tree).now ⊎ Rose (g.T.Tree.faults c.find_entry.new.tree) (g.T.Tree.faults c.carry_out.new.tree)) held (c.carry_out.ensures.tree t) in
-    let tree : CarriedOut c.in-Ok-prepare.prepared.files.items m c.carry_out.result.history.items (g.T.Tree.story c.carry_out.new.tree).now ⊎ Rose (g.T.Tree.faults c.args.tree.now) (g.T.Tree.faults c.carry_out.new.tree) =
-    elim at [ inl done ↦ inl done | inr rose ↦ inr (rose_later _ _ _ le rose) ] in
+    let at = subst (λ (x : Map). CarriedOut c.in-Ok-prepare.prepared.files.items x c.carry_out.result.history.items (g.T.Tree.story c.carry_out.new.tree).now (Rose (g.T.Tree.faults c.find_entry.new.tree) (g.T.Tree.faults c.carry_out.new.tree))) held (c.carry_out.ensures.tree t) in
+    let tree = carried_other c.in-Ok-prepare.prepared.files.items m c.carry_out.result.history.items (g.T.Tree.story c.carry_out.new.tree).now _ (Rose (g.T.Tree.faults c.args.tree.now) (g.T.Tree.faults c.carry_out.new.tree)) (rose_later _ _ _ le) at in
     outcome_carried g.B.Builder.tells g.B.Builder.told c.args.pool.now.resting _ m c.carry_out.result.status c.carry_out.result.history.items (g.T.Tree.story c.carry_out.new.tree).now _
     c.in-Ok.order c.in-Ok-find_entry.entry c.in-Ok-prepare.prepared.files.items found.0 found.1 found.2.0 c.in-Ok.ensures.found (c.in-Ok.ensures.ready t) fits c.in-Ok-prepare.ensures.files
     c.carry_out.ensures.late (λ n e. (c.carry_out.ensures.ok n e).1) tree

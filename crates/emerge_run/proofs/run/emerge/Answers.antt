@@ -1,4 +1,4 @@
-use Rattle.emerge_run.proofs.Endings.{all_written}
+use Rattle.emerge_run.proofs.Endings.{all_told, all_written}
 use Rattle.emerge_run.proofs.run.emerge.Goals as goal
 
 pub returns-clause-written : goal.returns-clause-written
@@ -6,3 +6,9 @@ returns-clause-written g c t =
     all_written _ c.attempt-reached.result.acknowledged.items c.finish-status.result (g.S.Sink.written c.args.out) (g.S.Sink.written c.attempt-reached.new.out) (g.S.Sink.written c.finish-status.new.out)
     (g.S.Sink.faults c.args.out) (g.S.Sink.faults c.attempt-reached.new.out) (g.S.Sink.faults c.finish-status.new.out)
     c.attempt-reached.ensures.out_count c.finish-status.ensures.count (c.attempt-reached.ensures.written t) (c.finish-status.ensures.written t)
+
+pub returns-clause-told : goal.returns-clause-told
+returns-clause-told g c t n is =
+    let last = c.finish-status.ensures.told t n is in
+    all_told _ c.attempt-reached.result.acknowledged.items c.finish-status.result (g.S.Sink.written c.args.out) (g.S.Sink.written c.attempt-reached.new.out) (g.S.Sink.written c.finish-status.new.out)
+    (c.attempt-reached.ensures.told t n last.0) last.1
