@@ -1,6 +1,7 @@
 -- How a run's outcome comes of its stages.
 use Rattle.std.proofs.Common.{◌≡◌, ◌⊎◌, ◌≤◌, ℕ, Bool, true, false, List, [], ◌∷◌, ◌++◌, None, inl, inr, refl, ap, sym, ◌∙◌, arith, subst, append_assoc}
 use Rattle.std.specs.Prelude.{All, Contains, IsTrue, codes}
+use Rattle.std.specs.List.{flat_map}
 use Rattle.std.proofs.lemmas.List.Elements.{All-from_recursion}
 use Rattle.file_tree.specs.Disk.{Disk, HasBelow, Map, Rose}
 use Rattle.file_tree.specs.Paths.{is_below}
@@ -9,8 +10,8 @@ use Rattle.build_pool.specs.declared.orders.Order.{Order}
 use Rattle.emerge_run.specs.Answers.{Asks, IsReady}
 use Rattle.emerge_run.specs.Images.{Fits, FitsImage}
 use Rattle.emerge_run.specs.Outcomes.{CarriedOut, ImageAsks, IsApplied, IsLate, IsLines, IsOutput, OfSomeBuilder, Outcome}
-use Rattle.emerge_run.specs.Package.{database_path, files, record_path, with_files}
-use Rattle.emerge_run.specs.Texts.{last_line}
+use Rattle.emerge_run.specs.Package.{SameOutside, database_path, files, record_path, with_files}
+use Rattle.emerge_run.specs.Texts.{done_line, last_line}
 use Rattle.emerge_run.specs.Words.{IsOrder}
 use Rattle.emerge_run.proofs.Parts.{none_or_some}
 use Rattle.emerge_run.specs.declared.status.Part.TheVariants.{Database, Image, Journal, Repository}
@@ -92,13 +93,14 @@ late_asks words m image o (status.BuildFailed order) late one order' ready fits 
 
 late_tree : (words : List (List ℕ)) (m : Map) (image : Order → List Entry) (o : Order) (e : Entry) (es : List Entry) (history : List ℕ) (d : Disk) (failed : Type 0)
     → IsOrder words o → image o ≡ e ∷ [] → es ≡ files o e → CarriedOut es m history d failed → IsApplied words m image history d failed
-late_tree words m image o e es [] d failed order is same h = h
+late_tree words m image o e es [] d failed order is same (inl held) = inl held
+late_tree words m image o e es [] d failed order is same (inr part) = inr (part.0, (o, order, (e, is, subst (λ (x : List Entry). SameOutside x m d.holds) same part.1)))
 late_tree words m image o e es (g ∷ gs) d failed order is same h = (o, order, (e, is, h.0 ∙ ap (λ (x : List Entry). with_files x m) same, h.1))
 
 -- another reason for which nothing is said of the tree
 pub carried_other : (es : List Entry) (m : Map) (history : List ℕ) (d : Disk) (failed failed' : Type 0) → (failed → failed') → CarriedOut es m history d failed → CarriedOut es m history d failed'
 carried_other es m [] d failed failed' so (inl held) = inl held
-carried_other es m [] d failed failed' so (inr was) = inr (so was)
+carried_other es m [] d failed failed' so (inr part) = inr (so part.0, part.1)
 carried_other es m (g ∷ gs) d failed failed' so h = h
 
 -- a run whose group was begun
@@ -118,6 +120,12 @@ outcome_carried tells told resting words m s history d failed o e es b has told_
         },
       ),
     )
+
+-- the lines that the group's line comes to, once for each acknowledged group
+pub lines_of : (words : List (List ℕ)) (o : Order) (acknowledged line : List ℕ) → IsOrder words o → line ≡ done_line o 1 → (acknowledged ≡ []) ⊎ (acknowledged ≡ 1 ∷ [])
+    → IsLines words acknowledged (flat_map (λ _. line) acknowledged)
+lines_of words o acknowledged line order is (inl none) = subst (λ (a : List ℕ). IsLines words a (flat_map (λ _. line) a)) (sym none) refl
+lines_of words o acknowledged line order is (inr one) = subst (λ (a : List ℕ). IsLines words a (flat_map (λ _. line) a)) (sym one) (o, order, ap (λ (x : List ℕ). x ++ []) is)
 
 -- the lines and then the last line
 pub all_told : (words : List (List ℕ)) (acknowledged : List ℕ) (s : Status) (old mid new : List ℕ)

@@ -4,7 +4,7 @@ use Rattle.std.specs.Prelude.{All, Contains, bytes_eq}
 use Rattle.std.proofs.lemmas.Bool.{cond-true, cond-false}
 use Rattle.std.proofs.lemmas.Slice.Eq.{bytes_eq-Decides}
 use Rattle.file_tree.specs.Thing.{Thing}
-use Rattle.file_tree.specs.Disk.{Map, with_path}
+use Rattle.file_tree.specs.Disk.{Map, Moves, Story, Syncs, with_path}
 use Rattle.file_tree.specs.declared.objects.Entry.{Entry}
 use Rattle.emerge_run.specs.Package.{IsOutside, SameOutside, with_files, without_files}
 
@@ -18,6 +18,18 @@ pub same_outside_put : (es : List Entry) (m m' : Map) (i : ℕ) (e : Entry) (x :
 same_outside_put es m m' i e x h lt is q out =
     let apart : bytes_eq e.path q ≡ false = subst (λ (y : Entry). bytes_eq y.path q ≡ false) (sym is) (outside_at es q i e out lt) in
     cond-false (bytes_eq e.path q) x (m' q) apart ∙ h q out
+
+-- a call on one of the files, whatever it answered
+pub same_outside_moved : (es : List Entry) (m : Map) (s s' : Story) (i : ℕ) (e : Entry) → SameOutside es m s.now.holds → i < length es → e ≡ get_or es i e → Moves s e.path s' → SameOutside es m s'.now.holds
+same_outside_moved es m s s' i e h lt is (inl none) = subst (λ (x : Story). SameOutside es m x.now.holds) (sym none) h
+same_outside_moved es m s s' i e h lt is (inr moved) = subst (λ (x : Story). SameOutside es m x.now.holds) (sym moved.1) (same_outside_put es m s.now.holds i e moved.0 h lt is)
+
+pub same_outside_synced : (es : List Entry) (m : Map) (s s' : Story) → SameOutside es m s.now.holds → Syncs s s' → SameOutside es m s'.now.holds
+same_outside_synced es m s s' h (inl none) = subst (λ (x : Story). SameOutside es m x.now.holds) (sym none) h
+same_outside_synced es m s s' h (inr done) = subst (λ (x : Story). SameOutside es m x.now.holds) (sym done) h
+
+pub same_outside_then : (es : List Entry) (m m' m'' : Map) → SameOutside es m m' → SameOutside es m' m'' → SameOutside es m m''
+same_outside_then es m m' m'' h h' = λ q out. h' q out ∙ h q out
 
 -- the path of one of the entries
 abbrev IsPathOf : List Entry → List ℕ → Type 0
@@ -57,3 +69,9 @@ pub with_files_step : (es : List Entry) (m m' : Map) (i : ℕ) (e : Entry) → e
 with_files_step [] m m' i e is lt h = absurd (omega arith)
 with_files_step (x ∷ es) m m' zero e is lt h = ap (with_files es) (h ∙ ap (λ (y : Entry). with_path m y.path (Some y.object)) is)
 with_files_step (x ∷ es) m m' (suc i) e is lt h = with_files_step es m m' i e is (omega arith) h
+
+pub without_files_step : (es : List Entry) (m m' : Map) (i : ℕ) (e : Entry) → e ≡ get_or es i e → i < length es → m' ≡ with_path m e.path None
+    → without_files (drop (suc i) es) m' ≡ without_files (drop i es) m
+without_files_step [] m m' i e is lt h = absurd (omega arith)
+without_files_step (x ∷ es) m m' zero e is lt h = ap (without_files es) (h ∙ ap (λ (y : Entry). with_path m y.path None) is)
+without_files_step (x ∷ es) m m' (suc i) e is lt h = without_files_step es m m' i e is (omega arith) h

@@ -6,7 +6,7 @@ use Rattle.file_tree.specs.declared.objects.Entry.{Entry}
 use Rattle.build_pool.specs.declared.orders.Order.{Order}
 use Rattle.emerge_run.specs.Answers.{Asks}
 use Rattle.emerge_run.specs.Images.{FitsImage}
-use Rattle.emerge_run.specs.Package.{files, with_files}
+use Rattle.emerge_run.specs.Package.{SameOutside, files, with_files}
 use Rattle.emerge_run.specs.Texts.{done_line, last_line}
 use Rattle.emerge_run.specs.Words.{IsOrder}
 use Rattle.emerge_run.specs.declared.status.Part.TheVariants.{Image}
@@ -17,12 +17,16 @@ use Rattle.emerge_run.specs.declared.status.Status.TheVariants as status
 abbrev pub IsMerged : List (List ℕ) → Map → (Order → List Entry) → Disk → Type 0
 IsMerged words m image d = (o : Order) × IsOrder words o × ((e : Entry) × (image o ≡ e ∷ []) × (d.holds ≡ with_files (files o e) m) × IsUntouched d)
 
--- the disk reads as the map with the groups applied; where there are none, a device that failed may have left anything
+-- every path but those of the package of the words holds what the map holds there
+abbrev pub IsElsewhere : List (List ℕ) → Map → (Order → List Entry) → Disk → Type 0
+IsElsewhere words m image d = (o : Order) × IsOrder words o × ((e : Entry) × (image o ≡ e ∷ []) × SameOutside (files o e) m d.holds)
+
+-- the disk reads as the map with the groups applied; where there are none, a device that failed may have left a part of the package
 abbrev pub IsApplied : List (List ℕ) → Map → (Order → List Entry) → List ℕ → Disk → Type 0 → Type 0
-IsApplied words m image [] d failed = (d.holds ≡ m) ⊎ failed
+IsApplied words m image [] d failed = (d.holds ≡ m) ⊎ (failed × IsElsewhere words m image d)
 IsApplied words m image (g ∷ gs) d failed = IsMerged words m image d
 
--- how a run over this tree ended: with the answer that it asks for, and a tree with the groups applied, unless the device failed before any was
+-- how a run over this tree ended: with the answer that it asks for, and a tree with the groups applied, unless the device failed before any was, which leaves no more than a part of the package
 pub record Outcome (words : List (List ℕ)) (m : Map) (image : Order → List Entry) (history : List ℕ) (s : Status) (d : Disk) (failed : Type 0) : Type 0 where
   pub answer : Asks words m image s
   pub tree : IsApplied words m image history d failed
@@ -93,5 +97,5 @@ IsLate (status.BuildFailed order) = ⊥
 
 -- the disk after a group of these files, by whether the group stands in the history
 abbrev pub CarriedOut : List Entry → Map → List ℕ → Disk → Type 0 → Type 0
-CarriedOut es m [] d failed = (d.holds ≡ m) ⊎ failed
+CarriedOut es m [] d failed = (d.holds ≡ m) ⊎ (failed × SameOutside es m d.holds)
 CarriedOut es m (g ∷ gs) d failed = (d.holds ≡ with_files es m) × IsUntouched d

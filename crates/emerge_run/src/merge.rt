@@ -11,6 +11,7 @@ pub fn merge<T: Tree>(tree: &mut T, files: &[Entry]) -> Result<(), TreeFault>
     ensures merged { IsTrue T.tells → OnOk result ((T.story tree.new).now.holds ≡ with_files files.now (T.story tree.old).now.holds) }
     ensures settled { IsTrue T.tells → OnOk result (IsUntouched (T.story tree.new).now) }
     ensures undone { IsTrue T.tells → IsErrOf result TreeFault.Memory → (T.story tree.new).now.holds ≡ (T.story tree.old).now.holds }
+    ensures outside { IsTrue T.tells → SameOutside files.now (T.story tree.old).now.holds (T.story tree.new).now.holds }
     ensures count { T.faults tree.old ≤ T.faults tree.new }
     ensures cause { IsErrOf result TreeFault.Failed → Rose (T.faults tree.old) (T.faults tree.new) }
 {
@@ -27,7 +28,7 @@ pub fn merge<T: Tree>(tree: &mut T, files: &[Entry]) -> Result<(), TreeFault>
 /// Puts each file at its path.
 fn put_all<T: Tree>(tree: &mut T, files: &[Entry]) -> Result<(), TreeFault>
     ensures put { IsTrue T.tells → OnOk result ((T.story tree.new).now.holds ≡ with_files files.now (T.story tree.old).now.holds) }
-    ensures outside { IsTrue T.tells → IsErrOf result TreeFault.Memory → SameOutside files.now (T.story tree.old).now.holds (T.story tree.new).now.holds }
+    ensures outside { IsTrue T.tells → SameOutside files.now (T.story tree.old).now.holds (T.story tree.new).now.holds }
     ensures count { T.faults tree.old ≤ T.faults tree.new }
     ensures cause { IsErrOf result TreeFault.Failed → Rose (T.faults tree.old) (T.faults tree.new) }
 {
@@ -40,6 +41,7 @@ fn put_all<T: Tree>(tree: &mut T, files: &[Entry]) -> Result<(), TreeFault>
 /// Makes the path of each file hold nothing.
 fn remove_all<T: Tree>(tree: &mut T, files: &[Entry]) -> Result<(), Failed>
     ensures removed { IsTrue T.tells → OnOk result ((T.story tree.new).now.holds ≡ without_files files.now (T.story tree.old).now.holds) }
+    ensures outside { IsTrue T.tells → SameOutside files.now (T.story tree.old).now.holds (T.story tree.new).now.holds }
     ensures count { T.faults tree.old ≤ T.faults tree.new }
     ensures cause { IsErr result → Rose (T.faults tree.old) (T.faults tree.new) }
 {

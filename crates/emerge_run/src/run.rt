@@ -52,7 +52,7 @@ struct Reached {
 ///
 /// A package that is merged has its files at their paths and its record below `var/db/pkg`; its line
 /// comes after they are synced. Want of memory may be answered in place of anything, and only a
-/// device's fault leaves a part of a package.
+/// device's fault leaves a part of a package, and nothing else is ever changed.
 pub fn emerge<T: Tree + Send, S: Sink + Send, B: Builder + Send>(
     alloc: Global,
     words: &[String],
@@ -66,6 +66,8 @@ pub fn emerge<T: Tree + Send, S: Sink + Send, B: Builder + Send>(
     ensures outcome { IsTrue T.tells → OfSomeBuilder B.tells B.told pool.resting (λ image. Outcome (map string_bytes words.now) (T.story tree).now.holds image result.history.items result.status (T.story result.tree).now (Rose (T.faults tree) (T.faults result.tree))) }
     ensures unchanged { IsTrue T.tells → IsRefusal result.status → T.story result.tree ≡ T.story tree }
     ensures ok { (n : ℕ) → result.status ≡ Status.Ok n → (result.acknowledged.items ≡ 1 ∷ []) × (n ≡ 1) }
+    ensures history { (result.history.items ≡ []) ⊎ (result.history.items ≡ 1 ∷ []) }
+    ensures refused { IsRefusal result.status → result.history.items ≡ [] }
     ensures acknowledged { (result.acknowledged.items ≡ []) ⊎ (result.acknowledged.items ≡ result.history.items) }
 
     // What was written is the lines of the acknowledged groups and the last line, unless the output failed.
@@ -104,6 +106,8 @@ fn attempt<T: Tree, S: Sink, B: Builder>(
     ensures outcome { IsTrue T.tells → OfSomeBuilder B.tells B.told pool.old.resting (λ image. Outcome (map string_bytes words.now) (T.story tree.old).now.holds image result.history.items result.status (T.story tree.new).now (Rose (T.faults tree.old) (T.faults tree.new))) }
     ensures unchanged { IsTrue T.tells → IsRefusal result.status → T.story tree.new ≡ T.story tree.old }
     ensures ok { (n : ℕ) → result.status ≡ Status.Ok n → (result.acknowledged.items ≡ 1 ∷ []) × (n ≡ 1) }
+    ensures history { (result.history.items ≡ []) ⊎ (result.history.items ≡ 1 ∷ []) }
+    ensures refused { IsRefusal result.status → result.history.items ≡ [] }
     ensures acknowledged { (result.acknowledged.items ≡ []) ⊎ (result.acknowledged.items ≡ result.history.items) }
     ensures written { IsTrue S.tells → ((text : List ℕ) × IsLines (map string_bytes words.now) result.acknowledged.items text × (S.written out.new ≡ S.written out.old ++ text)) ⊎ Rose (S.faults out.old) (S.faults out.new) }
     ensures told { IsTrue S.tells → (n : ℕ) → result.status ≡ Status.Ok n → (text : List ℕ) × IsLines (map string_bytes words.now) result.acknowledged.items text × (S.written out.new ≡ S.written out.old ++ text) }
@@ -170,6 +174,7 @@ fn carry_out<T: Tree, S: Sink>(tree: &mut T, out: &mut S, prepared: Prepared) ->
     ensures tree { IsTrue T.tells → CarriedOut prepared.files.items (T.story tree.old).now.holds result.history.items (T.story tree.new).now (Rose (T.faults tree.old) (T.faults tree.new)) }
     ensures late { IsLate result.status }
     ensures ok { (n : ℕ) → result.status ≡ Status.Ok n → (result.acknowledged.items ≡ 1 ∷ []) × (n ≡ 1) }
+    ensures history { (result.history.items ≡ []) ⊎ (result.history.items ≡ 1 ∷ []) }
     ensures acknowledged { (result.acknowledged.items ≡ []) ⊎ ((result.acknowledged.items ≡ 1 ∷ []) × (result.history.items ≡ 1 ∷ [])) }
     ensures written { IsTrue S.tells → (S.written out.new ≡ S.written out.old ++ flat_map (λ _. string_bytes prepared.line) result.acknowledged.items) ⊎ Rose (S.faults out.old) (S.faults out.new) }
     ensures told { IsTrue S.tells → (n : ℕ) → result.status ≡ Status.Ok n → S.written out.new ≡ S.written out.old ++ flat_map (λ _. string_bytes prepared.line) result.acknowledged.items }

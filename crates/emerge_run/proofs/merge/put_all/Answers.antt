@@ -1,6 +1,6 @@
 use Rattle.std.proofs.Common.{◌<◌, ◌∙◌, ap, arith, length, add-one}
 use Rattle.file_tree.specs.Disk.{Story}
-use Rattle.emerge_run.proofs.Files.{same_outside_put, with_files_step}
+use Rattle.emerge_run.proofs.Files.{same_outside_moved, same_outside_put, with_files_step}
 use Rattle.emerge_run.proofs.merge.put_all.Goals as goal
 
 pub loop-file-preserved : goal.loop-file-preserved
@@ -15,3 +15,8 @@ loop-file-preserved g c =
           held ∙ same_outside_put c.args.files.now _ _ c.loop-file.file-index c.file-item.result _ (c.loop-file.invariant.1 t) lt c.file-item.is q out,
       omega (arith, c.loop-file.invariant.2, c.in_ok-put.ensures.count),
     )
+
+pub returns-in_err-put-clause-outside : goal.returns-in_err-put-clause-outside
+returns-in_err-put-clause-outside g c t =
+    let lt : c.loop-file.file-index < length c.args.files.now = omega arith in
+    same_outside_moved c.args.files.now _ _ _ c.loop-file.file-index c.file-item.result (c.loop-file.invariant.1 t) lt c.file-item.is (c.put.ensures.moved t)

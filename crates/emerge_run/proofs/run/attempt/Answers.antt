@@ -1,4 +1,4 @@
-use Rattle.std.proofs.Common.{◌≡◌, ◌≤◌, ◌∙◌, List, ap, arith, refl, subst, sym}
+use Rattle.std.proofs.Common.{◌≡◌, ◌⊎◌, ◌≤◌, ◌∙◌, List, [], ◌∷◌, ap, arith, inl, inr, refl, subst, sym}
 use Rattle.std.specs.Prelude.{All, None}
 use Rattle.file_tree.specs.Disk.{Map, Rose, Story}
 use Rattle.file_tree.specs.declared.objects.Entry.{Entry}
@@ -6,7 +6,7 @@ use Rattle.emerge_run.specs.Images.{Fits}
 use Rattle.emerge_run.specs.Outcomes.{CarriedOut, ImageAsks}
 use Rattle.emerge_run.specs.Package.{files}
 use Rattle.emerge_run.proofs.Asked.{some_builder}
-use Rattle.emerge_run.proofs.Endings.{carried_other, fresh_files, image_asks, outcome_carried, outcome_stopped, rose_later}
+use Rattle.emerge_run.proofs.Endings.{carried_other, fresh_files, image_asks, lines_of, outcome_carried, outcome_stopped, rose_later}
 use Rattle.emerge_run.proofs.run.attempt.Goals as goal
 
 pub returns-in-Err-clause-outcome : goal.returns-in-Err-clause-outcome
@@ -58,3 +58,9 @@ returns-clause-outcome g c t =
     let held = ap (λ (s : Story). s.now.holds) (c.find_entry.ensures.same t) ∙ mid in
     outcome_stopped g.B.Builder.tells g.B.Builder.told c.args.pool.now.resting _ (g.T.Tree.story c.args.tree.now).now.holds _ c.stopped-in-Err-prepare.result.status c.stopped-in-Err-prepare.result.history.items
     (g.T.Tree.story c.find_entry.new.tree).now _ b.0 b.1 (g.B.Builder.told b.0) (λ _. refl) tt c.stopped-in-Err-prepare.ensures.status c.stopped-in-Err-prepare.ensures.history held
+
+pub returns-in-Ok-prepare-clause-written : goal.returns-in-Ok-prepare-clause-written
+returns-in-Ok-prepare-clause-written g c t =
+    let some : (c.carry_out.result.acknowledged.items ≡ []) ⊎ (c.carry_out.result.acknowledged.items ≡ 1 ∷ []) = elim c.carry_out.ensures.acknowledged [ inl none ↦ inl none | inr one ↦ inr one.0 ] in
+    let lines = lines_of _ c.in-Ok.order c.carry_out.result.acknowledged.items _ c.in-Ok.ensures.found c.in-Ok-prepare.ensures.line some in
+    elim (c.carry_out.ensures.written t) [ inl done ↦ inl (_, lines, done) | inr rose ↦ inr rose ]
