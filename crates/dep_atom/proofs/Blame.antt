@@ -1,0 +1,82 @@
+-- Why a text is no atom.
+use Rattle.std.proofs.Common.{◌≡◌, ◌∙◌, ℕ, ◌+◌, ◌⊎◌, Bool, false, List, [], ◌∷◌, ◌++◌, get_or, take, drop, sym, ap, subst}
+use Rattle.std.specs.List.{AllByRecursion}
+use Rattle.version_text.specs.Grammar.{Parts, spelling}
+use Rattle.pms_version.specs.Limits.{IsReadable}
+use Rattle.pms_names.specs.declared.name.Name.{Name as FullName}
+use Rattle.dep_atom.specs.declared.atom.Block.{Block}
+use Rattle.dep_atom.specs.declared.atom.Op.{Op}
+use Rattle.dep_atom.specs.declared.slot.SlotPart.{SlotPart}
+use Rattle.dep_atom.specs.declared.uses.UseDep.{UseDep}
+use Rattle.dep_atom.specs.declared.fault.AtomFault.{AtomFault}
+use Rattle.dep_atom.specs.declared.fault.AtomFault.TheVariants.{Name, Version, OperatorWithoutVersion, VersionWithoutOperator, BadStar, BadSlot, BadUse, Memory}
+use Rattle.dep_atom.specs.Cuts.{Lacks, Starts, end_text}
+use Rattle.dep_atom.specs.Faults.{IsNameText, IsNameFault, IsVersionFault, IsSlotFault, IsUseFault, PartedFault, IsUnstarred, BodyFault, SlotTextFault, UsesTextFault, IsBodyText, IsSlotText, FirstFault}
+use Rattle.dep_atom.specs.Form.{IsNameForm, IsSlotForm, IsUseForm}
+use Rattle.dep_atom.specs.Reading.{block_at, op_at}
+use Rattle.dep_atom.specs.Text.{block_text, op_text, name_text, slot_text, uses_text}
+use Rattle.dep_atom.proofs.Once.{star_end}
+
+pub unstarred : (text front : List ℕ) (star : Bool) → text ≡ front ++ end_text 42 star → (star ≡ false → (f : List ℕ) → text ≡ f ++ (42 ∷ []) → ⊥) → IsUnstarred text front star
+unstarred text front star e none = record { whole = e ∙ ap (λ s. front ++ s) (sym (star_end star)); none = none }
+
+pub parted_name : (text : List ℕ) (at : ℕ) (may_star star : Bool) (fault : AtomFault) → IsNameFault fault → ((n : FullName) → IsNameForm n → take at text ≡ name_text n → fault ≡ Memory) → PartedFault text at may_star star fault
+parted_name text at may_star star Name is only = λ n form e. absurd (let m = only n form e in cc)
+parted_name text at may_star star Version is only = absurd is
+parted_name text at may_star star OperatorWithoutVersion is only = absurd is
+parted_name text at may_star star VersionWithoutOperator is only = absurd is
+parted_name text at may_star star BadStar is only = absurd is
+parted_name text at may_star star BadSlot is only = absurd is
+parted_name text at may_star star (BadUse k) is only = absurd is
+parted_name text at may_star star Memory is only = tt
+
+pub parted_version : (text : List ℕ) (at : ℕ) (may_star star : Bool) (fault : AtomFault) → IsNameText (take at text) → IsVersionFault fault → ((p : Parts) → IsReadable p → drop (at + 1) text ≡ spelling p → fault ≡ Memory) → PartedFault text at may_star star fault
+parted_version text at may_star star Name named is only = absurd is
+parted_version text at may_star star Version named is only = (named, λ p form e. absurd (let m = only p form e in cc))
+parted_version text at may_star star OperatorWithoutVersion named is only = absurd is
+parted_version text at may_star star VersionWithoutOperator named is only = absurd is
+parted_version text at may_star star BadStar named is only = absurd is
+parted_version text at may_star star BadSlot named is only = absurd is
+parted_version text at may_star star (BadUse k) named is only = absurd is
+parted_version text at may_star star Memory named is only = tt
+
+pub slot_blame : (text : List ℕ) (fault : AtomFault) → IsSlotFault fault → ((s : SlotPart) → IsSlotForm s → text ≡ slot_text s → fault ≡ Memory) → SlotTextFault text fault
+slot_blame text Name is only = absurd is
+slot_blame text Version is only = absurd is
+slot_blame text OperatorWithoutVersion is only = absurd is
+slot_blame text VersionWithoutOperator is only = absurd is
+slot_blame text BadStar is only = absurd is
+slot_blame text BadSlot is only = λ s form e. absurd (let m = only s form e in cc)
+slot_blame text (BadUse k) is only = absurd is
+slot_blame text Memory is only = tt
+
+pub uses_blame : (text : List ℕ) (fault : AtomFault) → IsUseFault fault → ((us : List UseDep) → AllByRecursion IsUseForm us → text ≡ uses_text us → fault ≡ Memory) → UsesTextFault text fault
+uses_blame text Name is only = absurd is
+uses_blame text Version is only = absurd is
+uses_blame text OperatorWithoutVersion is only = absurd is
+uses_blame text VersionWithoutOperator is only = absurd is
+uses_blame text BadStar is only = absurd is
+uses_blame text BadSlot is only = absurd is
+uses_blame text (BadUse k) is only = λ us forms e. absurd (let m = only us forms e in cc)
+uses_blame text Memory is only = tt
+
+pub blame : (text bytes behind_block behind_op body behind slot uses : List ℕ) (block : Block) (op : Op) (fault : AtomFault) → bytes ≡ text → bytes ≡ block_text block ++ behind_block → block ≡ block_at (get_or bytes 0 0) (get_or bytes 1 0) → behind_block ≡ op_text op ++ behind_op → op ≡ op_at (get_or behind_block 0 0) (get_or behind_block 1 0) → behind_op ≡ body ++ behind → Lacks 58 91 body → Starts 58 91 behind → behind ≡ slot ++ uses → Lacks 91 91 slot → Starts 91 91 uses → BodyFault op body fault ⊎ (IsBodyText op body × (SlotTextFault slot fault ⊎ (IsSlotText slot × UsesTextFault uses fault))) → FirstFault text fault
+blame text bytes behind_block behind_op body behind slot uses block op fault same parts block_told op_parts op_told body_parts lacks starts tail slot_lacks uses_start why =
+    let all : behind_block ≡ op_text op ++ (body ++ (slot ++ uses)) = op_parts ∙ ap (λ x. op_text op ++ x) (body_parts ∙ ap (λ x. body ++ x) tail) in
+    subst (λ (t : List ℕ). FirstFault t fault) same (record {
+      cut = record {
+        block = block;
+        op = op;
+        body = body;
+        slot = slot;
+        uses = uses;
+        whole = parts ∙ ap (λ x. block_text block ++ x) all;
+        block_told = block_told;
+        op_told = op_told ∙ ap (λ (x : List ℕ). op_at (get_or x 0 0) (get_or x 1 0)) all;
+        body_lacks = lacks;
+        slot_starts = subst (λ (x : List ℕ). Starts 58 91 x) tail starts;
+        slot_lacks = slot_lacks;
+        uses_start = uses_start;
+      };
+      why = why;
+    })

@@ -1,0 +1,103 @@
+ghost use Rattle.std.specs.Prelude.{◌≡◌, ◌++◌, ◌∷◌, ℕ, IfOk, IfErr, MatchResult, MatchOption};
+ghost use Rattle.dep_atom.specs.Ids.{IsId, name_and_version, PartsAt, name_fault, version_fault, FirstIdFault};
+ghost use Rattle.dep_atom.specs.declared.fault.AtomFault.TheVariants.{Memory};
+
+use crate::fault::AtomFault;
+use pms_names::{Category, Flags, Name, NameFault, PackageName, SlotName};
+use pms_version::{Version, VersionFault};
+use std::alloc::{AllocError, Global};
+
+/// One package of one version, as `category/package-version`.
+#[derive(Debug, Drop)]
+pub struct PackageId {
+    pub name: Name,
+    pub version: Version,
+}
+
+/// What an atom asks of a package.
+#[derive(Debug, Drop)]
+pub struct Facts {
+    pub id: PackageId,
+    pub slot: SlotName,
+    pub subslot: SlotName,
+    /// The flags that the package knows.
+    pub iuse: Flags,
+    /// The flags that it was built with, or would be.
+    pub enabled: Flags,
+}
+
+impl PackageId {
+    ghost use Rattle.dep_atom.specs.Ids.{IsId, name_and_version, FirstIdFault};
+    ghost use Rattle.dep_atom.specs.declared.package.PackageId.{PackageId as Id};
+
+    /// Reads a category, and a package's name with a hyphen and its version.
+    pub fn parse(alloc: Global, category: &str, pf: &str) -> Result<PackageId, AtomFault>
+        ensures found { IfOk result (λ id. IsId id × (category.now ≡ id.name.category) × (pf.now ≡ name_and_version id)) }
+        ensures only { (id : Id) → IsId id → category.now ≡ id.name.category → pf.now ≡ name_and_version id → MatchResult result (λ r. r ≡ id) (λ e. e ≡ Memory) }
+        ensures fault { IfErr result (FirstIdFault category.now pf.now) }
+    {
+        version_text::one_name_and_version();
+        version_text::one_spelling();
+        let category = match Category::parse(alloc, category) {
+            Ok(category) => category,
+            Err(fault) => return Err(name_fault(fault)),
+        };
+        let Some(at) = version_hyphen(pf.as_bytes()) else {
+            return Err(AtomFault::Version);
+        };
+        let (package, _) = pf.as_bytes().split_at(at);
+        let package = match PackageName::from_bytes(alloc, package) {
+            Ok(package) => package,
+            Err(fault) => return Err(name_fault(fault)),
+        };
+        let (_, version) = pf.split_at(at + 1);
+        match Version::parse(alloc, version) {
+            Ok(version) => Ok(PackageId {
+                name: Name { category, package },
+                version,
+            }),
+            Err(fault) => Err(version_fault(fault)),
+        }
+    }
+
+    pub fn try_clone(&self) -> Result<PackageId, AllocError>
+        ensures { IfOk result (λ id. id ≡ self.now) }
+    {
+        let name = self.name.try_clone()?;
+        let version = self.version.try_clone()?;
+        Ok(PackageId { name, version })
+    }
+}
+
+/// The hyphen that parts a name and its version. No two hyphens of a text do.
+pub(crate) fn version_hyphen(bytes: &[u8]) -> Option<usize>
+    ensures { MatchOption result ((at : ℕ) → PartsAt bytes.now at → ⊥) (PartsAt bytes.now) }
+{
+    for (at, b) in bytes.iter().enumerate() {
+        if *b == b'-' {
+            let (_, behind) = bytes.split_at(at + 1);
+            if version_text::is_version(behind) {
+                return Some(at);
+            }
+        }
+    }
+    None
+}
+
+pub(crate) fn name_fault(fault: NameFault) -> AtomFault
+    ensures { result ≡ name_fault fault }
+{
+    match fault {
+        NameFault::Memory => AtomFault::Memory,
+        _ => AtomFault::Name,
+    }
+}
+
+pub(crate) fn version_fault(fault: VersionFault) -> AtomFault
+    ensures { result ≡ version_fault fault }
+{
+    match fault {
+        VersionFault::Memory => AtomFault::Memory,
+        _ => AtomFault::Version,
+    }
+}
