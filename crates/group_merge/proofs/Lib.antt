@@ -1,0 +1,5 @@
+pub mod Images
+pub mod Stages
+pub mod Survives
+pub mod Turns
+pub mod Walk
