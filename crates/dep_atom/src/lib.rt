@@ -12,8 +12,6 @@ mod fault;
 mod package;
 mod reading;
 mod slot;
-#[cfg(test)]
-mod tests;
 mod uses;
 
 pub use atom::{Atom, Block, Op};
