@@ -24,7 +24,7 @@ or_right_of : (a b : Bool) → a ≡ false → (a || b) ≡ true → b ≡ true
 or_right_of true b e h = absurd (cc e)
 or_right_of false b e h = h
 
-or_false : (a b : Bool) → (a || b) ≡ false → (a ≡ false) × (b ≡ false)
+pub or_false : (a b : Bool) → (a || b) ≡ false → (a ≡ false) × (b ≡ false)
 or_false true b h = absurd (cc h)
 or_false false b h = (refl, h)
 

@@ -18,7 +18,7 @@ use Rattle.merge_record.specs.Recovered.{IsRecovered}
 use Rattle.merge_record.specs.declared.record.Placement.{Placement}
 use Rattle.group_merge.specs.Group.{AreStaged, IsGroup, applied, cleared}
 use Rattle.group_merge.specs.Phases.{IsOpened, IsSealed, IsShut}
-use Rattle.group_merge.proofs.Images.{opened_leaves, shut_leaves}
+use Rattle.group_merge.proofs.Images.{opened_leaves, or_false, shut_leaves}
 use Rattle.group_merge.proofs.Survives.{opened_settled, opened_write, sealed_settled, sealed_write, shut_settled, shut_write}
 
 pub packed : (Q : Disk → Type 0) (P : Map → Type 0) (old new : Story) → Runs Q P old new → Since P old new × Q new.now
@@ -70,14 +70,10 @@ pub record IsOwn (r : Content) (q : List ℕ) : Type 0 where
   pub outside : is_below jobs q ≡ false
   pub own : is_in (footprint r) q ≡ true
 
-or_none : (a b : Bool) → (a || b) ≡ false → (a ≡ false) × (b ≡ false)
-or_none true b h = absurd (cc h)
-or_none false b h = (refl, h)
-
 pub own_path : (r : Content) (os : List Thing) (q : List ℕ) → IsGroup r os → Has (footprint r) q → IsOwn r q
 own_path r os q is has =
     let clear = (are_free-words [] (footprint r) is.free).outside q has in
-    record { outside = (or_none (is_below jobs q) (is_below q jobs) (or_none (bytes_eq q jobs) (is_below jobs q || is_below q jobs) clear).1).0; own = in_if_has (footprint r) q has }
+    record { outside = (or_false (is_below jobs q) (is_below q jobs) (or_false (bytes_eq q jobs) (is_below jobs q || is_below q jobs) clear).1).0; own = in_if_has (footprint r) q has }
 
 pub has_at : {A : Type 0} (xs : List A) (i : ℕ) (x : A) → i < length xs → x ≡ get_or xs i x → Has xs x
 has_at [] i x lt e = absurd (omega arith)

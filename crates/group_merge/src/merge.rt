@@ -41,6 +41,9 @@ pub fn merge_group<T: Tree>(
     // Where no gate was open, a crash at any moment recovers to the map without the group, or to the map with it.
     ensures moments { IsTrue T.tells → (m : Map) → IsShut m (T.story tree.old).now → Since (IsBeforeOrAfter what.now objects.now m) (T.story tree.old) (T.story tree.new) }
 
+    // Memory can run out only while no gate is open.
+    ensures memory { IsTrue T.tells → (m : Map) → IsShut m (T.story tree.old).now → IsErrOf result TreeFault.Memory → IsShut m (T.story tree.new).now }
+
     // After Ok a crash leaves the map with the group, and no gate is open.
     ensures merged { IsTrue T.tells → (m : Map) → IsShut m (T.story tree.old).now → OnOk result (IsShut (λ q. changed what.now objects.now q (m q)) (T.story tree.new).now) }
     ensures count { T.faults tree.old ≤ T.faults tree.new }
@@ -67,7 +70,7 @@ fn seal_group<T: Tree>(
     requires group { IsGroup what.now objects.now }
     requires filed { filed.now ≡ plain (spelling what.now) }
     requires sign { sign.now ≡ token }
-    ensures moments { IsTrue T.tells → (m : Map) → IsShut m (T.story tree.old).now → Since (λ c. IsRecovered c (cleared m)) (T.story tree.old) (T.story tree.new) }
+    ensures moments { IsTrue T.tells → (m : Map) → IsShut m (T.story tree.old).now → Since (λ c. IsRecovered c (cleared m)) (T.story tree.old) (T.story tree.new) × IsShut m (T.story tree.new).now }
     ensures sealed { IsTrue T.tells → (m : Map) → IsShut m (T.story tree.old).now → OnOk result (IsSealed what.now objects.now m (T.story tree.new).now) }
     ensures kept { IsTrue T.tells → OnOk result (IsKept what.now objects.now (T.story tree.new).now) }
     ensures token { IsTrue T.tells → OnOk result ((T.story tree.new).now.holds (token_path paths.now.group) ≡ Some token) }

@@ -12,7 +12,7 @@ use Rattle.group_merge.proofs.merge.merge_group.Goals as goal
 
 pub returns-in_err-seal_group-clause-moments : goal.returns-in_err-seal_group-clause-moments
 returns-in_err-seal_group-clause-moments g c t m shut =
-    since_weaker (Before m) (IsBeforeOrAfter c.args.what.now c.args.objects.now m) (λ x h. inl h) (g.T.Tree.story c.args.tree.now) (g.T.Tree.story c.seal_group.new.tree) (c.seal_group.ensures.moments t m shut)
+    since_weaker (Before m) (IsBeforeOrAfter c.args.what.now c.args.objects.now m) (λ x h. inl h) (g.T.Tree.story c.args.tree.now) (g.T.Tree.story c.seal_group.new.tree) (c.seal_group.ensures.moments t m shut).0
 
 pub returns-in_err-open_gate-clause-moments : goal.returns-in_err-open_gate-clause-moments
 returns-in_err-open_gate-clause-moments g c t m shut =
@@ -22,7 +22,7 @@ returns-in_err-open_gate-clause-moments g c t m shut =
     let r = c.args.what.now in
     let os = c.args.objects.now in
     let o = c.open_gate.ensures.moments t r os m c.requires.group c.requires.number (c.in_ok-seal_group.ensures.sealed t m shut) in
-    let first = first_stretch r os m old filed gated (c.seal_group.ensures.moments t m shut) o.0 in
+    let first = first_stretch r os m old filed gated (c.seal_group.ensures.moments t m shut).0 o.0 in
     first
 
 pub change_paths-requires-clause-count : goal.change_paths-requires-clause-count
@@ -53,7 +53,7 @@ returns-in_err-change_paths-clause-moments g c t m shut =
     let r = c.args.what.now in
     let os = c.args.objects.now in
     let o = c.open_gate.ensures.moments t r os m c.requires.group c.requires.number (c.in_ok-seal_group.ensures.sealed t m shut) in
-    let first = first_stretch r os m old filed gated (c.seal_group.ensures.moments t m shut) o.0 in
+    let first = first_stretch r os m old filed gated (c.seal_group.ensures.moments t m shut).0 o.0 in
     let opens = c.in_ok-open_gate.ensures.ok t ∙ ap (λ (n : ℕ). opened n filed.now) (sym c.requires.number) in
     let held = subst (λ (n : ℕ). filed.now.holds (token_path n) ≡ Some token) (sym c.requires.number) (c.in_ok-seal_group.ensures.token t) in
     let open' = opened_if_sealed r os m filed.now gated.now o.1 opens held in
@@ -70,7 +70,7 @@ returns-in_err-close_gate-clause-moments g c t m shut =
     let r = c.args.what.now in
     let os = c.args.objects.now in
     let o = c.open_gate.ensures.moments t r os m c.requires.group c.requires.number (c.in_ok-seal_group.ensures.sealed t m shut) in
-    let first = first_stretch r os m old filed gated (c.seal_group.ensures.moments t m shut) o.0 in
+    let first = first_stretch r os m old filed gated (c.seal_group.ensures.moments t m shut).0 o.0 in
     let opens = c.in_ok-open_gate.ensures.ok t ∙ ap (λ (n : ℕ). opened n filed.now) (sym c.requires.number) in
     let held = subst (λ (n : ℕ). filed.now.holds (token_path n) ≡ Some token) (sym c.requires.number) (c.in_ok-seal_group.ensures.token t) in
     let open' = opened_if_sealed r os m filed.now gated.now o.1 opens held in
@@ -89,7 +89,7 @@ returns-clause-moments g c t m shut =
     let r = c.args.what.now in
     let os = c.args.objects.now in
     let o = c.open_gate.ensures.moments t r os m c.requires.group c.requires.number (c.in_ok-seal_group.ensures.sealed t m shut) in
-    let first = first_stretch r os m old filed gated (c.seal_group.ensures.moments t m shut) o.0 in
+    let first = first_stretch r os m old filed gated (c.seal_group.ensures.moments t m shut).0 o.0 in
     let opens = c.in_ok-open_gate.ensures.ok t ∙ ap (λ (n : ℕ). opened n filed.now) (sym c.requires.number) in
     let held = subst (λ (n : ℕ). filed.now.holds (token_path n) ≡ Some token) (sym c.requires.number) (c.in_ok-seal_group.ensures.token t) in
     let open' = opened_if_sealed r os m filed.now gated.now o.1 opens held in
@@ -108,7 +108,7 @@ returns-clause-merged g c t m shut =
     let r = c.args.what.now in
     let os = c.args.objects.now in
     let o = c.open_gate.ensures.moments t r os m c.requires.group c.requires.number (c.in_ok-seal_group.ensures.sealed t m shut) in
-    let first = first_stretch r os m old filed gated (c.seal_group.ensures.moments t m shut) o.0 in
+    let first = first_stretch r os m old filed gated (c.seal_group.ensures.moments t m shut).0 o.0 in
     let opens = c.in_ok-open_gate.ensures.ok t ∙ ap (λ (n : ℕ). opened n filed.now) (sym c.requires.number) in
     let held = subst (λ (n : ℕ). filed.now.holds (token_path n) ≡ Some token) (sym c.requires.number) (c.in_ok-seal_group.ensures.token t) in
     let open' = opened_if_sealed r os m filed.now gated.now o.1 opens held in
@@ -119,3 +119,6 @@ returns-clause-merged g c t m shut =
     let z = c.close_gate.ensures.moments t r os m c.requires.group c.requires.number merged' in
     shut_if_closed r os (λ q. changed r os q (m q)) changing.now (g.T.Tree.story c.close_gate.new.tree).now z.1
     (c.in_ok-close_gate.ensures.ok t ∙ ap (λ (n : ℕ). closed n changing.now) (sym c.requires.number))
+
+pub returns-in_err-seal_group-clause-memory : goal.returns-in_err-seal_group-clause-memory
+returns-in_err-seal_group-clause-memory g c t m shut e = (c.seal_group.ensures.moments t m shut).1

@@ -13,13 +13,13 @@ pub returns-in_err-seal-clause-moments : goal.returns-in_err-seal-clause-moments
 returns-in_err-seal-clause-moments g c t m shut =
     let a = c.stage_all.ensures.moments t m shut in
     let b = c.seal.ensures.moments t m a.1 in
-    since_then (Before m) (g.T.Tree.story c.args.tree.now) (g.T.Tree.story c.stage_all.new.tree) (g.T.Tree.story c.seal.new.tree) a.0 b.0
+    (since_then (Before m) (g.T.Tree.story c.args.tree.now) (g.T.Tree.story c.stage_all.new.tree) (g.T.Tree.story c.seal.new.tree) a.0 b.0, b.1)
 
 pub returns-clause-moments : goal.returns-clause-moments
 returns-clause-moments g c t m shut =
     let a = c.stage_all.ensures.moments t m shut in
     let b = c.seal.ensures.moments t m a.1 in
-    since_then (Before m) (g.T.Tree.story c.args.tree.now) (g.T.Tree.story c.stage_all.new.tree) (g.T.Tree.story c.seal.new.tree) a.0 b.0
+    (since_then (Before m) (g.T.Tree.story c.args.tree.now) (g.T.Tree.story c.stage_all.new.tree) (g.T.Tree.story c.seal.new.tree) a.0 b.0, b.1)
 
 pub returns-clause-sealed : goal.returns-clause-sealed
 returns-clause-sealed g c t m shut =
