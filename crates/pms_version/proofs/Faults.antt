@@ -5,7 +5,8 @@ use Rattle.std.proofs.Common.{◌≡◌, ◌∙◌, ℕ, ◌+◌, ◌-◌, ◌<�
 use Rattle.std.proofs.lemmas.Bool.{cases_lt, eqb-false}
 use Rattle.std.proofs.lemmas.List.{take-append-drop, take-take, get_or-drop}
 use Rattle.std.proofs.lemmas.List.Sums.{prefix_len_passes, prefix_len_stops, prefix_len-le-length}
-use Rattle.version_text.specs.Grammar.{is_digit, IsInteger, Parts, IsVersion, IsVersionText, BeginsVersion, StopsAt, spell_number, spell_ending, spelling}
+use Rattle.basics.specs.Bytes.{is_digit}
+use Rattle.version_text.specs.Grammar.{IsInteger, Parts, IsVersion, IsVersionText, BeginsVersion, StopsAt, spell_number, spell_ending, spelling}
 use Rattle.pms_version.specs.Limits.{digit_count, HasShortNumbers, IsReadable}
 use Rattle.pms_version.specs.Reading.{IsShortBefore, FirstFault}
 use Rattle.pms_version.specs.declared.fault.VersionFault.{VersionFault}

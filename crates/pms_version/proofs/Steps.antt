@@ -5,7 +5,8 @@ use Rattle.std.proofs.Common.{◌≡◌, ◌∙◌, ℕ, ◌+◌, ◌<◌, ◌�
 use Rattle.std.proofs.lemmas.List.{drop-drop}
 use Rattle.version_text.proofs.Bytes.{below_is_no_lower}
 use Rattle.version_text.proofs.Unique.{Behind, BehindSuffix, behind_suffix, behind_numbers, behind_number, suffix_is_no_digit, behind_is_no_digit, digits_apart, kind_at-word, all_digits}
-use Rattle.version_text.specs.Grammar.{is_digit, is_lower, AreDigits, IsInteger, IsLetter, SuffixKind, SuffixText, Parts, IsVersion, kind_at, word, spell_number, spell_suffix, spell_revision, spell_ending, spelling}
+use Rattle.basics.specs.Bytes.{is_digit, is_lower}
+use Rattle.version_text.specs.Grammar.{AreDigits, IsInteger, IsLetter, SuffixKind, SuffixText, Parts, IsVersion, kind_at, word, spell_number, spell_suffix, spell_revision, spell_ending, spelling}
 use Rattle.version_text.specs.Grammar.SuffixKind.{Alpha, Beta, Pre, Rc, P}
 use Rattle.pms_version.specs.Limits.{digit_count, HasShortNumbers, IsReadable}
 use Rattle.pms_version.specs.Steps.{AreSuffixes, EndsNumbers, ReadsNumbers, HasReadNumbers, HasReadLetter, ReadsSuffixes, HasReadSuffixes}

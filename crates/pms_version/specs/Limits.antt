@@ -1,7 +1,8 @@
 -- The limits on versions that are read: 255 bytes, and 38 digits a number.
 use Rattle.std.specs.Prelude.{ℕ, ◌≤◌, List, length, drop}
 use Rattle.std.specs.List.{prefix_len}
-use Rattle.version_text.specs.Grammar.{is_digit, Parts, IsVersion, spelling}
+use Rattle.basics.specs.Bytes.{is_digit}
+use Rattle.version_text.specs.Grammar.{Parts, IsVersion, spelling}
 
 -- how many digits stand at the beginning
 abbrev pub digit_count : List ℕ → ℕ

@@ -1,7 +1,8 @@
 -- What reading the parts of a version one after another has come to.
 use Rattle.std.specs.Prelude.{ℕ, ◌≡◌, false, List, [], ◌++◌, slice_index}
 use Rattle.std.specs.List.{AllByRecursion, flat_map}
-use Rattle.version_text.specs.Grammar.{is_digit, AreDigits, IsInteger, IsLetter, SuffixText, spell_number, spell_ending}
+use Rattle.basics.specs.Bytes.{is_digit}
+use Rattle.version_text.specs.Grammar.{AreDigits, IsInteger, IsLetter, SuffixText, spell_number, spell_ending}
 
 -- neither a number nor a further number goes on here
 pub record EndsNumbers (after : List ℕ) : Type 0 where

@@ -1,11 +1,13 @@
 ghost use Rattle.pms_version.specs.Limits.{HasShortNumbers, digit_count};
 ghost use Rattle.pms_version.specs.Reading.{FirstFault, IsShortBefore};
 ghost use Rattle.pms_version.specs.declared.fault.VersionFault.TheVariants.{Memory};
-ghost use Rattle.std.specs.Prelude.{◌≡◌, ◌≢◌, ◌+◌, ◌<◌, ◌≤◌, IfErr, IfNone, IfSome, OnOk, drop, length, slice_index};
-ghost use Rattle.version_text.specs.Grammar.{IsVersionText, is_digit};
+ghost use Rattle.std.specs.Prelude.{◌≢◌, ◌+◌, ◌<◌, ◌≤◌, IfErr, IfNone, IfSome, OnOk, drop, length};
+ghost use Rattle.basics.specs.Bytes.{is_digit};
+ghost use Rattle.version_text.specs.Grammar.{IsVersionText};
 
 use crate::fault::VersionFault;
 use crate::number::MOST_DIGITS;
+use basics::is_digit;
 use version_text::version_stop;
 
 /// The most bytes of a version.
@@ -58,10 +60,4 @@ fn long_number(bytes: &[u8]) -> Option<usize>
         }
     }
     None
-}
-
-fn is_digit(byte: u8) -> bool
-    ensures { result ≡ is_digit byte }
-{
-    byte >= b'0' && byte <= b'9'
 }

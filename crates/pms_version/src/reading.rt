@@ -1,14 +1,15 @@
 ghost use Rattle.pms_version.specs.Inside.{kind_of};
-ghost use Rattle.pms_version.specs.Limits.{HasShortNumbers, IsReadable};
+ghost use Rattle.pms_version.specs.Limits.{HasShortNumbers};
 ghost use Rattle.pms_version.specs.Steps.{HasReadLetter, HasReadNumbers, HasReadSuffixes};
 ghost use Rattle.std.specs.Option.{option_to_list};
 ghost use Rattle.std.specs.Prelude.{◌≡◌, ◌≤◌, ◌++◌, IfOk, List, drop, false, length, slice_index, ℕ};
-ghost use Rattle.version_text.specs.Grammar.{AreDigits, IsVersion, IsVersionText, Parts, SuffixKind, is_digit, is_lower, kind_at, spell_revision, spelling, word};
+ghost use Rattle.basics.specs.Bytes.{is_digit, is_lower};
+ghost use Rattle.version_text.specs.Grammar.{AreDigits, IsVersion, IsVersionText, Parts, kind_at, spell_revision, spelling, word};
 
 use crate::number::Number;
 use crate::suffix::{Kind, Suffix};
 use crate::version::Version;
-use basics::Text;
+use basics::{Text, is_digit, is_lower};
 use std::alloc::{AllocError, Global};
 
 /// Reads a text that is known to be a version's, within the limits.
@@ -39,18 +40,6 @@ pub(crate) fn read(alloc: Global, text: &str) -> Result<Version, AllocError>
         suffixes,
         revision,
     })
-}
-
-fn is_digit(byte: u8) -> bool
-    ensures { result ≡ is_digit byte }
-{
-    byte >= b'0' && byte <= b'9'
-}
-
-fn is_lower(byte: u8) -> bool
-    ensures { result ≡ is_lower byte }
-{
-    byte >= b'a' && byte <= b'z'
 }
 
 /// The byte at a place, or 0 past the end.

@@ -1,4 +1,4 @@
-ghost use Rattle.pms_version.specs.Begins.{ends_in_number, letter_and_suffixes_begin, numbers_begin, suffix_begins, suffixes_begin, version_begins};
+ghost use Rattle.pms_version.specs.Begins.{ends_in_number, letter_and_suffixes_begin, numbers_begin, suffixes_begin, version_begins};
 ghost use Rattle.pms_version.specs.Limits.{IsReadable};
 ghost use Rattle.pms_version.specs.Order.{base_cmp, later_number_cmp, suffixes_cmp, version_cmp, without_revision};
 ghost use Rattle.pms_version.specs.Reading.{FirstFault};

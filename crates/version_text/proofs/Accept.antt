@@ -3,7 +3,8 @@ use Rattle.std.specs.Prelude.{true, false, ◌==◌}
 use Rattle.std.specs.List.{AllByRecursion, flat_map}
 use Rattle.std.proofs.Common.{◌≡◌, ◌∙◌, ℕ, List, [], ◌∷◌, ◌++◌, ◌≤◌, refl, sym, ap, subst, arith}
 use Rattle.std.proofs.lemmas.List.Sums.{fold-append}
-use Rattle.version_text.specs.Grammar.{is_digit, is_lower, AreDigits, IsInteger, IsLetter, SuffixKind, SuffixText, Parts, IsVersion, word, spell_number, spell_suffix, spell_revision, spell_ending, spelling}
+use Rattle.basics.specs.Bytes.{is_digit, is_lower}
+use Rattle.version_text.specs.Grammar.{AreDigits, IsInteger, IsLetter, SuffixKind, SuffixText, Parts, IsVersion, word, spell_number, spell_suffix, spell_revision, spell_ending, spelling}
 use Rattle.version_text.specs.Grammar.SuffixKind.{Alpha, Beta, Pre, Rc, P}
 use Rattle.version_text.specs.declared.place.Place.{Place}
 use Rattle.version_text.specs.declared.place.Place.TheVariants.{Number, MoreNumber, Letter, Underscore, GotP, Suffix, Hyphen, HyphenR, Revision}

@@ -2,7 +2,7 @@
 use Rattle.std.specs.Prelude.{true, false, ◌==◌}
 use Rattle.std.proofs.Common.{◌≡◌, ℕ, ◌<◌, ◌≤◌, arith}
 use Rattle.std.proofs.lemmas.Bool.Decides.{nat_tests}
-use Rattle.version_text.specs.Grammar.{is_digit, is_lower}
+use Rattle.basics.specs.Bytes.{is_digit, is_lower}
 
 pub digit_range : (b : ℕ) → is_digit b ≡ true → (48 ≤ b) × (b ≤ 57)
 digit_range b h = grind (arith, nat_tests)

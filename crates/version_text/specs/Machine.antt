@@ -1,7 +1,7 @@
 -- What the recogniser knows of the bytes that it has read.
 use Rattle.std.specs.Prelude.{ℕ, Bool, true, false, ◌==◌, if◌then◌else◌, List}
 use Rattle.std.specs.List.{fold}
-use Rattle.version_text.specs.Grammar.{is_digit, is_lower}
+use Rattle.basics.specs.Bytes.{is_digit, is_lower}
 use Rattle.version_text.specs.declared.place.Place.{Place}
 use Rattle.version_text.specs.declared.place.Place.TheVariants.{Number, MoreNumber, Letter, Underscore, GotA, GotAl, GotAlp, GotAlph, GotB, GotBe, GotBet, GotR, GotP, GotPr, Suffix, Hyphen, HyphenR, Revision, Nowhere}
 

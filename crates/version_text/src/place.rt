@@ -1,6 +1,8 @@
 ghost use Rattle.std.specs.Prelude.{◌≡◌, if◌then◌else◌};
-ghost use Rattle.version_text.specs.Grammar.{is_digit, is_lower};
+ghost use Rattle.basics.specs.Bytes.{is_digit, is_lower};
 ghost use Rattle.version_text.specs.Machine.{behind_number, behind_p, expect, is_nowhere, may_end, next, next_part, start_word};
+
+use basics::{is_digit, is_lower};
 
 /// What was read of a version so far, as far as it matters to what may follow.
 #[derive(Clone, Copy)]
@@ -78,18 +80,6 @@ impl Place {
             _ => false,
         }
     }
-}
-
-fn is_digit(byte: u8) -> bool
-    ensures { result ≡ is_digit byte }
-{
-    byte >= b'0' && byte <= b'9'
-}
-
-fn is_lower(byte: u8) -> bool
-    ensures { result ≡ is_lower byte }
-{
-    byte >= b'a' && byte <= b'z'
 }
 
 fn digit_or(byte: u8, digit: Place, other: Place) -> Place

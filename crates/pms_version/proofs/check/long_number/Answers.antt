@@ -1,5 +1,5 @@
 use Rattle.std.proofs.Common.{◌∙◌, ◌≡◌, ◌<◌, ◌≤◌, ◌+◌, ℕ, sym, get_or, arith, true}
-use Rattle.version_text.specs.Grammar.{is_digit}
+use Rattle.basics.specs.Bytes.{is_digit}
 use Rattle.pms_version.specs.Reading.{IsShortBefore}
 use Rattle.pms_version.proofs.Faults.{digit_count-row, row-more, short_past, short_to_end}
 use Rattle.pms_version.proofs.check.long_number.Goals as goal

@@ -1,5 +1,5 @@
 use Rattle.std.proofs.Common.{◌≡◌, ◌≤◌, ◌-◌, ℕ, ◌<◌, get_or, true}
-use Rattle.version_text.specs.Grammar.{is_digit}
+use Rattle.basics.specs.Bytes.{is_digit}
 use Rattle.pms_version.specs.Reading.{IsShortBefore}
 use Rattle.pms_version.proofs.check.long_number.Given as goal
 

@@ -1,5 +1,5 @@
 use Rattle.std.proofs.Common.{◌∙◌, ◌∷◌, [], ◌≡◌, ap, sym, subst, drop, get_or, true}
-use Rattle.version_text.specs.Grammar.{is_lower}
+use Rattle.basics.specs.Bytes.{is_lower}
 use Rattle.pms_version.specs.Steps.{HasReadLetter}
 use Rattle.pms_version.proofs.Steps.{a_letter, no_letter, short_behind}
 use Rattle.pms_version.proofs.reading.read_letter.Goals as goal
