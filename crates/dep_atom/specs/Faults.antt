@@ -1,7 +1,8 @@
 -- Which fault of a text that is no atom comes first, from left to right.
-use Rattle.std.specs.Prelude.{◌≡◌, ℕ, ◌+◌, ◌<◌, ◌⊎◌, Bool, true, false, List, [], ◌∷◌, ◌++◌, length, take, drop, slice_index, Option}
+use Rattle.std.specs.Prelude.{◌≡◌, ℕ, ◌+◌, ◌-◌, ◌<◌, ◌⊎◌, Bool, true, false, List, [], ◌∷◌, ◌++◌, length, take, drop, slice_index, Option}
 use Rattle.std.specs.List.{AllByRecursion}
-use Rattle.version_text.specs.Grammar.{Parts, spelling, is_digit}
+use Rattle.basics.specs.Bytes.{is_digit}
+use Rattle.version_text.specs.Grammar.{Parts, spelling}
 use Rattle.pms_version.specs.Limits.{IsReadable}
 use Rattle.pms_names.specs.declared.name.Name.{Name}
 use Rattle.dep_atom.specs.declared.atom.Block.{Block}
@@ -15,7 +16,7 @@ use Rattle.dep_atom.specs.Cuts.{Lacks, Starts}
 use Rattle.dep_atom.specs.Form.{IsNameForm, IsPackageForm, IsSlotForm, IsUseForm}
 use Rattle.dep_atom.specs.Ids.{PartsAt}
 use Rattle.dep_atom.specs.Reading.{block_at, op_at}
-use Rattle.dep_atom.specs.Text.{block_text, op_text, name_text, version_part, star_text, slot_text, uses_text}
+use Rattle.dep_atom.specs.Text.{block_text, op_text, name_text, version_part, star_text, slot_text, use_text, opened_text, uses_text}
 
 -- the text of no name
 abbrev pub NoName : List ℕ → Type 0
@@ -45,10 +46,11 @@ IsSlotFault faults.BadSlot = Unit {0}
 IsSlotFault faults.Memory = Unit {0}
 IsSlotFault _ = ⊥
 
-abbrev pub IsUseFault : AtomFault → Type 0
-IsUseFault (faults.BadUse at) = Unit {0}
-IsUseFault faults.Memory = Unit {0}
-IsUseFault _ = ⊥
+-- the fault of a USE item that begins at `at`
+abbrev pub IsUseFaultAt : ℕ → AtomFault → Type 0
+IsUseFaultAt at (faults.BadUse k) = k ≡ at
+IsUseFaultAt at faults.Memory = Unit {0}
+IsUseFaultAt at _ = ⊥
 
 -- the first fault of what stands in an atom without an operator
 abbrev pub PlainFault : List ℕ → AtomFault → Type 0
@@ -100,10 +102,50 @@ SlotTextFault text faults.BadSlot = (s : SlotPart) → IsSlotForm s → text ≡
 SlotTextFault text faults.Memory = Unit {0}
 SlotTextFault text _ = ⊥
 
-abbrev pub UsesTextFault : List ℕ → AtomFault → Type 0
-UsesTextFault text (faults.BadUse at) = (us : List UseDep) → AllByRecursion IsUseForm us → text ≡ uses_text us → ⊥
-UsesTextFault text faults.Memory = Unit {0}
-UsesTextFault text _ = ⊥
+-- what stands here, up to a comma, a closing bracket or the end, is no USE item
+pub record BeginsNoItem (left : List ℕ) : Type 0 where
+  pub item : List ℕ
+  pub behind : List ℕ
+  pub whole : left ≡ item ++ behind
+  pub lacks : Lacks 44 93 item
+  pub ends : Starts 44 93 behind
+  pub none : (u : UseDep) → IsUseForm u → item ≡ use_text u → ⊥
+
+-- nothing stands here, or a closing bracket with more behind it
+abbrev pub IsNoEnd : List ℕ → Type 0
+IsNoEnd [] = Unit {0}
+IsNoEnd (b ∷ []) = ⊥
+IsNoEnd (b ∷ c ∷ more) = b ≡ 93
+
+-- a USE part up to where its next item begins
+abbrev pub before_item : List UseDep → List ℕ
+before_item [] = 91 ∷ []
+before_item (first ∷ others) = opened_text (first ∷ others) ++ (44 ∷ [])
+
+-- a USE part is in order up to `left`, where an item is to begin and none does, or where the list is to end and doesn't
+pub record GoesWrong (uses left : List ℕ) : Type 0 where
+  pub items : List UseDep
+  pub forms : AllByRecursion IsUseForm items
+  pub why : ((uses ≡ before_item items ++ left) × BeginsNoItem left) ⊎ ((0 < length items) × (uses ≡ opened_text items ++ left) × IsNoEnd left)
+
+-- the fault of the USE item with which the text begins, at `at`
+abbrev pub ItemFault : ℕ → List ℕ → AtomFault → Type 0
+ItemFault at text (faults.BadUse k) = (k ≡ at) × BeginsNoItem text
+ItemFault at text faults.Memory = Unit {0}
+ItemFault at text _ = ⊥
+
+-- the fault of a USE part with which a text of `total` bytes ends
+abbrev pub EndFault : ℕ → List ℕ → AtomFault → Type 0
+EndFault total uses (faults.BadUse at) = (left : List ℕ) × (at ≡ total - length left) × GoesWrong uses left
+EndFault total uses faults.Memory = Unit {0}
+EndFault total uses _ = ⊥
+
+-- no USE part is so spelled, and it goes wrong `at` bytes behind the beginning of the whole text
+abbrev pub UsesTextFault : List ℕ → List ℕ → AtomFault → Type 0
+UsesTextFault text uses (faults.BadUse at) =
+    ((us : List UseDep) → AllByRecursion IsUseForm us → uses ≡ uses_text us → ⊥) × ((left : List ℕ) × (at + length left ≡ length text) × GoesWrong uses left)
+UsesTextFault text uses faults.Memory = Unit {0}
+UsesTextFault text uses _ = ⊥
 
 -- an atom's text as it comes apart: the block and the operator that it begins with, what stands before the first colon or opening
 -- bracket, what stands before the first opening bracket behind that, and the rest
@@ -131,4 +173,4 @@ IsSlotText text = (s : SlotPart) × IsSlotForm s × (text ≡ slot_text s)
 -- the first fault: of the package, then of the slot part, then of the USE part
 pub record FirstFault (text : List ℕ) (fault : AtomFault) : Type 0 where
   pub cut : Cut text
-  pub why : BodyFault cut.op cut.body fault ⊎ (IsBodyText cut.op cut.body × (SlotTextFault cut.slot fault ⊎ (IsSlotText cut.slot × UsesTextFault cut.uses fault)))
+  pub why : BodyFault cut.op cut.body fault ⊎ (IsBodyText cut.op cut.body × (SlotTextFault cut.slot fault ⊎ (IsSlotText cut.slot × UsesTextFault text cut.uses fault)))

@@ -6,3 +6,4 @@ pub mod Ids
 pub mod Match
 pub mod Reading
 pub mod Text
+pub mod Values

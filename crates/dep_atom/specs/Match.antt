@@ -16,6 +16,7 @@ use Rattle.dep_atom.specs.declared.uses.UseKind.{UseKind}
 use Rattle.dep_atom.specs.declared.uses.UseKind.TheVariants.{On, Off, Same, Opposite, OnIfOn, OffIfOff}
 use Rattle.dep_atom.specs.declared.uses.UseDep.{UseDep}
 use Rattle.dep_atom.specs.declared.atom.Atom.{Atom}
+use Rattle.dep_atom.specs.Values.{AtomValue, atom_value}
 
 abbrev pub same_name : Name → Name → Bool
 same_name a b = bytes_eq a.category b.category && bytes_eq a.«package» b.«package»
@@ -68,7 +69,11 @@ agrees_with kind asker (Some value) = agrees kind asker value
 abbrev pub accepts_use : List (List ℕ) → List (List ℕ) → List (List ℕ) → UseDep → Bool
 accepts_use iuse enabled asker item = agrees_with item.kind (has asker item.flag) (value_of iuse enabled item.flag item.otherwise)
 
--- the name, the version, the slot and each USE item of the atom accept the package, for an asker with these flags
+-- the name, the version, the slot and each USE item of an atom that says this accept the package, for an asker with these flags
+abbrev pub value_matches : AtomValue → Facts → List (List ℕ) → Bool
+value_matches a target asker =
+    same_name a.name target.id.name && (accepts_version a.op a.star a.version target.id.version && (accepts_slot a.slot target.slot target.subslot && list_all (accepts_use target.iuse target.enabled asker) a.uses))
+
+-- the same of an atom
 abbrev pub matches : Atom → Facts → List (List ℕ) → Bool
-matches atom target asker =
-    same_name atom.name target.id.name && (accepts_version atom.op atom.star atom.version target.id.version && (accepts_slot atom.slot target.slot target.subslot && list_all (accepts_use target.iuse target.enabled asker) atom.uses.items))
+matches atom target asker = value_matches (atom_value atom) target asker

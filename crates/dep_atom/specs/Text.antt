@@ -13,6 +13,7 @@ use Rattle.dep_atom.specs.declared.uses.UseKind.{UseKind}
 use Rattle.dep_atom.specs.declared.uses.UseKind.TheVariants.{On, Off, Same, Opposite, OnIfOn, OffIfOff}
 use Rattle.dep_atom.specs.declared.uses.UseDep.{UseDep}
 use Rattle.dep_atom.specs.declared.atom.Atom.{Atom}
+use Rattle.dep_atom.specs.Values.{AtomValue, atom_value}
 
 -- nothing, `!` or `!!`
 abbrev pub block_text : Block → List ℕ
@@ -102,10 +103,13 @@ abbrev pub opened_text : List UseDep → List ℕ
 opened_text [] = []
 opened_text (first ∷ others) = 91 ∷ (use_text first ++ flat_map further_use_text others)
 
+-- the one spelling of an atom that says this
+abbrev pub value_text : AtomValue → List ℕ
+value_text a = block_text a.block ++ (op_text a.op ++ (name_text a.name ++ (version_part a.version ++ (star_text a.star ++ (slot_text a.slot ++ uses_text a.uses)))))
+
 -- the one spelling of the atom
 abbrev pub atom_text : Atom → List ℕ
-atom_text atom =
-    block_text atom.block ++ (op_text atom.op ++ (name_text atom.name ++ (version_part atom.version ++ (star_text atom.star ++ (slot_text atom.slot ++ uses_text atom.uses.items)))))
+atom_text atom = value_text (atom_value atom)
 
 -- the equals sign of the slot part
 abbrev pub keeps_equals : SlotPart → Bool

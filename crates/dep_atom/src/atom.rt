@@ -58,10 +58,10 @@ pub struct Atom {
 }
 
 impl Atom {
-    ghost use Rattle.dep_atom.specs.Text.{atom_text, SameAtom, keeps_equals};
-    ghost use Rattle.dep_atom.specs.Atoms.{IsAtom};
+    ghost use Rattle.dep_atom.specs.Text.{atom_text, value_text, SameAtom, keeps_equals};
+    ghost use Rattle.dep_atom.specs.Atoms.{IsAtom, IsAtomValue};
+    ghost use Rattle.dep_atom.specs.Values.{AtomValue, atom_value};
     ghost use Rattle.dep_atom.specs.Faults.{FirstFault};
-    ghost use Rattle.dep_atom.specs.declared.atom.Atom.{Atom as TheAtom};
     ghost use Rattle.dep_atom.specs.declared.fault.AtomFault.TheVariants.{Memory};
 
     /// Does the package meet what the atom asks, of an asker with these flags? A block matches
@@ -79,7 +79,7 @@ impl Atom {
     pub fn parse(alloc: Global, text: &str) -> Result<Atom, AtomFault>
         ensures found { IfOk result (λ atom. text.now ≡ atom_text atom) }
         ensures form { IfOk result IsAtom }
-        ensures only { (a : TheAtom) → IsAtom a → text.now ≡ atom_text a → MatchResult result (λ r. SameAtom r a) (λ e. e ≡ Memory) }
+        ensures only { (a : AtomValue) → IsAtomValue a → text.now ≡ value_text a → MatchResult result (λ r. atom_value r ≡ a) (λ e. e ≡ Memory) }
         ensures fault { IfErr result (FirstFault text.now) }
     {
         let total = text.len();

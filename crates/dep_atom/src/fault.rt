@@ -19,7 +19,8 @@ pub enum AtomFault {
     BadStar,
     #[error("no slot part")]
     BadSlot,
-    /// `at` is the first byte of the first USE item that is none.
+    /// `at` is the first byte of the first USE item that is none. Where each is one, it is the end of
+    /// a list that isn't closed, or the bracket behind which the text goes on.
     #[error("no USE item at {at}")]
     BadUse { at: usize },
     #[error("out of memory")]

@@ -12,6 +12,8 @@ mod fault;
 mod package;
 mod reading;
 mod slot;
+#[cfg(test)]
+mod tests;
 mod uses;
 
 pub use atom::{Atom, Block, Op};

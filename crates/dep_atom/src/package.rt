@@ -1,4 +1,4 @@
-ghost use Rattle.std.specs.Prelude.{◌≡◌, ◌++◌, ◌∷◌, ℕ, IfOk, IfErr, MatchResult, MatchOption};
+ghost use Rattle.std.specs.Prelude.{◌≡◌, ℕ, IfOk, IfErr, MatchResult, MatchOption};
 ghost use Rattle.dep_atom.specs.Ids.{IsId, name_and_version, PartsAt, name_fault, version_fault, FirstIdFault};
 ghost use Rattle.dep_atom.specs.declared.fault.AtomFault.TheVariants.{Memory};
 

@@ -1,4 +1,4 @@
-ghost use Rattle.std.specs.Prelude.{◌≡◌, ◌++◌, ◌∷◌, [], ◌≤◌, ◌<◌, ℕ, Bool, true, false, List, Option, length, slice_index, IfOk, IfErr, IfNone, IfSome, IsTrue, ◌↔◌, MatchOption, MatchResult};
+ghost use Rattle.std.specs.Prelude.{◌≡◌, ◌++◌, ◌∷◌, [], ◌-◌, ◌≤◌, ◌<◌, ℕ, Bool, true, false, List, Option, length, slice_index, IfOk, IfErr, IfNone, IfSome, IsTrue, ◌↔◌, MatchOption, MatchResult};
 ghost use Rattle.version_text.specs.Grammar.{Parts, spelling};
 ghost use Rattle.pms_version.specs.Limits.{IsReadable};
 ghost use Rattle.pms_names.specs.Names.{IsName};
@@ -9,7 +9,7 @@ ghost use Rattle.dep_atom.specs.Text.{before_flag, block_text, op_text, star_tex
 ghost use Rattle.dep_atom.specs.Form.{IsNameForm, IsSlotForm, IsPackageForm, IsSubslotForm, IsUseForm, IsVersionedForm};
 ghost use Rattle.dep_atom.specs.Text.{name_text, otherwise_text, use_text, uses_text, version_part};
 ghost use Rattle.std.specs.List.{AllByRecursion};
-ghost use Rattle.dep_atom.specs.Faults.{BodyFault, HasNumber, IsNameFault, IsSlotFault, IsUseFault, IsVersionFault, MissingFault, PlainFault, VersionedFault};
+ghost use Rattle.dep_atom.specs.Faults.{BodyFault, HasNumber, IsNameFault, IsSlotFault, EndFault, ItemFault, IsUseFaultAt, IsVersionFault, MissingFault, PlainFault, VersionedFault};
 ghost use Rattle.pms_names.specs.declared.name.Name.{Name as FullName};
 ghost use Rattle.dep_atom.specs.declared.fault.AtomFault.TheVariants.{Memory};
 ghost use Rattle.dep_atom.specs.declared.reading.Package.{Package as ThePackage};
@@ -333,7 +333,7 @@ pub(crate) fn read_uses(alloc: Global, text: &[u8], total: usize) -> Result<Vec<
     ensures found { IfOk result (λ uses. text.now ≡ uses_text uses.items) }
     ensures form { IfOk result (λ uses. AllByRecursion IsUseForm uses.items) }
     ensures only { (us : List Use) → AllByRecursion IsUseForm us → text.now ≡ uses_text us → MatchResult result (λ r. r.items ≡ us) (λ e. e ≡ Memory) }
-    ensures fault { IfErr result IsUseFault }
+    ensures fault { IfErr result (λ e. Starts 91 91 text.now → EndFault total text.now e) }
 {
     let Some(first) = take_byte(text, b'[') else {
         return if text.is_empty() {
@@ -375,7 +375,8 @@ fn read_first_use(alloc: Global, text: &[u8], total: usize) -> Result<(UseDep, &
     ensures form { IfOk result (λ r. IsUseForm r.0) }
     ensures shorter { IfOk result (λ r. length r.1.now ≤ length text.now) }
     ensures only { (u : Use) (rest : List ℕ) → IsUseForm u → Starts 44 93 rest → text.now ≡ use_text u ++ rest → MatchResult result (λ r. (r.0 ≡ u) × (r.1.now ≡ rest)) (λ e. e ≡ Memory) }
-    ensures fault { IfErr result IsUseFault }
+    ensures starts { IfOk result (λ r. Starts 44 93 r.1.now) }
+    ensures fault { IfErr result (ItemFault (total - length text.now) text.now) }
 {
     let (item, rest) = split_before(text, b',', b']');
     match read_use(alloc, item, total.saturating_sub(text.len())) {
@@ -389,7 +390,7 @@ fn read_use(alloc: Global, item: &[u8], at: usize) -> Result<UseDep, AtomFault>
     ensures found { IfOk result (λ u. item.now ≡ use_text u) }
     ensures form { IfOk result IsUseForm }
     ensures only { (u : Use) → IsUseForm u → item.now ≡ use_text u → MatchResult result (λ r. r ≡ u) (λ e. e ≡ Memory) }
-    ensures fault { IfErr result IsUseFault }
+    ensures fault { IfErr result (IsUseFaultAt at) }
 {
     let (front, has_equals) = take_end(item, b'=');
     let (front, has_question) = take_end(front, b'?');
@@ -415,7 +416,7 @@ fn read_flag(alloc: Global, text: &[u8], at: usize) -> Result<Flag, AtomFault>
     ensures found { IfOk result (λ flag. flag ≡ text.now) }
     ensures form { IfOk result (λ _. IsName kinds.Flag text.now) }
     ensures only { IsName kinds.Flag text.now → IfErr result (λ e. e ≡ Memory) }
-    ensures fault { IfErr result IsUseFault }
+    ensures fault { IfErr result (IsUseFaultAt at) }
 {
     match Flag::from_bytes(alloc, text) {
         Ok(flag) => Ok(flag),

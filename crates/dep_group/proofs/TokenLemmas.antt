@@ -17,7 +17,7 @@ use Rattle.dep_group.specs.declared.word.Word.{Word}
 use Rattle.dep_group.specs.Shapes.{shape, condition, question_mark, open_parenthesis, close_parenthesis}
 use Rattle.dep_group.specs.Trees.{Tree, Trees, leaf, group, no_trees, tree, trees_of, is_any_of}
 use Rattle.dep_group.specs.Reading.{opening, tokens, all_tokens, read, list_of}
-use Rattle.dep_group.specs.Tokens.{opener_text, opener_shape, Grammar, IsOpener, token_text, Spells, IsToken, AreTokens, tree_words, IsInForm}
+use Rattle.dep_group.specs.Tokens.{opener_text, opener_shape, Grammar, IsOpener, token_text, Spells, IsToken, IsOnlyToken, EachWord, AreTokens, AreOnlyTokens, tree_words, IsInForm}
 use Rattle.dep_group.proofs.ReadingLemmas.{read-ok, read-sound, read-printed}
 
 -- two shapes with different numbers are different
@@ -81,6 +81,52 @@ openers_same (When f on) (When f' on') h k = whens_same f f' on on' h k
 abbrev pub OneSpelling : {L : Type 0} → Grammar L → Type 0
 OneSpelling g = (a b : _) → g.IsLeaf a → g.IsLeaf b → g.spell a ≡ g.spell b → a ≡ b
 
+-- no other leaf of the grammar is spelled as the word of this token
+abbrev IsSole : {L : Type 0} → Grammar L → List ℕ → Token (Opener (List ℕ)) L → Type 0
+IsSole g w (Leaf a) = (b : _) → g.IsLeaf b → w ≡ g.spell b → a ≡ b
+IsSole g w (Begins o) = Unit {0}
+IsSole g w Opens = Unit {0}
+IsSole g w Closes = Unit {0}
+IsSole g w Glued = Unit {0}
+IsSole g w Unknown = Unit {0}
+
+only_is : {L : Type 0} (g : Grammar L) (w : List ℕ) (t : Token (Opener (List ℕ)) L) → IsOnlyToken g w t → IsToken g w t
+only_is g w (Leaf a) h = h.0
+only_is g w (Begins o) h = h
+only_is g w Opens h = h
+only_is g w Closes h = h
+only_is g w Glued h = h
+only_is g w Unknown h = h
+
+only_sole : {L : Type 0} (g : Grammar L) (w : List ℕ) (t : Token (Opener (List ℕ)) L) → IsOnlyToken g w t → IsSole g w t
+only_sole g w (Leaf a) h = h.1
+only_sole g w (Begins o) h = tt
+only_sole g w Opens h = tt
+only_sole g w Closes h = tt
+only_sole g w Glued h = tt
+only_sole g w Unknown h = tt
+
+one_only : {L : Type 0} (g : Grammar L) → OneSpelling g → (w : List ℕ) (t : Token (Opener (List ℕ)) L) → IsToken g w t → IsOnlyToken g w t
+one_only g one w (Leaf a) h = (h, λ b is e. one a b h.1 is (sym h.0 ∙ e))
+one_only g one w (Begins o) h = h
+one_only g one w Opens h = h
+one_only g one w Closes h = h
+one_only g one w Glued h = h
+one_only g one w Unknown h = h
+
+pub only_tokens : {L : Type 0} (g : Grammar L) (ws : List (List ℕ)) (ts : List (Token (Opener (List ℕ)) L)) → AreOnlyTokens g ws ts → AreTokens g ws ts
+only_tokens g [] [] h = tt
+only_tokens g [] (t ∷ ts) h = absurd h
+only_tokens g (w ∷ ws) [] h = absurd h
+only_tokens g (w ∷ ws) (t ∷ ts) h = (only_is g w t h.0, only_tokens g ws ts h.1)
+
+-- where no two leaves have one text, what words are read as are their only tokens
+pub all_only : {L : Type 0} (g : Grammar L) → OneSpelling g → (ws : List (List ℕ)) (ts : List (Token (Opener (List ℕ)) L)) → AreTokens g ws ts → AreOnlyTokens g ws ts
+all_only g one [] [] h = tt
+all_only g one [] (t ∷ ts) h = absurd h
+all_only g one (w ∷ ws) [] h = absurd h
+all_only g one (w ∷ ws) (t ∷ ts) h = (one_only g one w t h.0, all_only g one ws ts h.1)
+
 spelled_rank : {L : Type 0} (g : Grammar L) (w : List ℕ) (t : Token (Opener (List ℕ)) L) → Spells g w t → shape w ≡ shapes.Glued → ⊥
 spelled_rank g w (Leaf a) s e = absurd (omega (arith, apart (shape w) shapes.Item shapes.Glued s.2 e))
 spelled_rank g w (Begins o) s e = absurd (omega (arith, apart (shape w) (opener_shape o) shapes.Glued s.2 e, opener_rank o))
@@ -89,33 +135,33 @@ spelled_rank g w Closes s e = absurd (omega (arith, apart (shape w) shapes.Close
 spelled_rank g w Glued s e = s
 spelled_rank g w Unknown s e = s
 
-spelled_same : {L : Type 0} (g : Grammar L) → OneSpelling g → (w : List ℕ) (t u : Token (Opener (List ℕ)) L) → Spells g w t → Spells g w u → t ≡ u
-spelled_same g one w (Leaf a) (Leaf b) s r = ap Leaf (one a b s.1 r.1 (sym s.0 ∙ r.0))
-spelled_same g one w (Leaf a) (Begins o) s r = absurd (omega (arith, apart (shape w) shapes.Item (opener_shape o) s.2 r.2, opener_rank o))
-spelled_same g one w (Leaf a) Opens s r = absurd (omega (arith, apart (shape w) shapes.Item shapes.Opens s.2 r))
-spelled_same g one w (Leaf a) Closes s r = absurd (omega (arith, apart (shape w) shapes.Item shapes.Closes s.2 r))
-spelled_same g one w (Leaf a) Glued s r = absurd r
-spelled_same g one w (Leaf a) Unknown s r = absurd r
-spelled_same g one w (Begins o) (Leaf b) s r = absurd (omega (arith, apart (shape w) (opener_shape o) shapes.Item s.2 r.2, opener_rank o))
-spelled_same g one w (Begins o) (Begins p) s r = ap Begins (openers_same o p (sym s.0 ∙ r.0) (sym s.2 ∙ r.2))
-spelled_same g one w (Begins o) Opens s r = absurd (omega (arith, apart (shape w) (opener_shape o) shapes.Opens s.2 r, opener_rank o))
-spelled_same g one w (Begins o) Closes s r = absurd (omega (arith, apart (shape w) (opener_shape o) shapes.Closes s.2 r, opener_rank o))
-spelled_same g one w (Begins o) Glued s r = absurd r
-spelled_same g one w (Begins o) Unknown s r = absurd r
-spelled_same g one w Opens (Leaf b) s r = absurd (omega (arith, apart (shape w) shapes.Opens shapes.Item s r.2))
-spelled_same g one w Opens (Begins o) s r = absurd (omega (arith, apart (shape w) shapes.Opens (opener_shape o) s r.2, opener_rank o))
-spelled_same g one w Opens Opens s r = refl
-spelled_same g one w Opens Closes s r = absurd (omega (arith, apart (shape w) shapes.Opens shapes.Closes s r))
-spelled_same g one w Opens Glued s r = absurd r
-spelled_same g one w Opens Unknown s r = absurd r
-spelled_same g one w Closes (Leaf b) s r = absurd (omega (arith, apart (shape w) shapes.Closes shapes.Item s r.2))
-spelled_same g one w Closes (Begins o) s r = absurd (omega (arith, apart (shape w) shapes.Closes (opener_shape o) s r.2, opener_rank o))
-spelled_same g one w Closes Opens s r = absurd (omega (arith, apart (shape w) shapes.Closes shapes.Opens s r))
-spelled_same g one w Closes Closes s r = refl
-spelled_same g one w Closes Glued s r = absurd r
-spelled_same g one w Closes Unknown s r = absurd r
-spelled_same g one w Glued u s r = absurd s
-spelled_same g one w Unknown u s r = absurd s
+spelled_same : {L : Type 0} (g : Grammar L) (w : List ℕ) (t u : Token (Opener (List ℕ)) L) → IsSole g w t → Spells g w t → Spells g w u → t ≡ u
+spelled_same g w (Leaf a) (Leaf b) sole s r = ap Leaf (sole b r.1 r.0)
+spelled_same g w (Leaf a) (Begins o) sole s r = absurd (omega (arith, apart (shape w) shapes.Item (opener_shape o) s.2 r.2, opener_rank o))
+spelled_same g w (Leaf a) Opens sole s r = absurd (omega (arith, apart (shape w) shapes.Item shapes.Opens s.2 r))
+spelled_same g w (Leaf a) Closes sole s r = absurd (omega (arith, apart (shape w) shapes.Item shapes.Closes s.2 r))
+spelled_same g w (Leaf a) Glued sole s r = absurd r
+spelled_same g w (Leaf a) Unknown sole s r = absurd r
+spelled_same g w (Begins o) (Leaf b) sole s r = absurd (omega (arith, apart (shape w) (opener_shape o) shapes.Item s.2 r.2, opener_rank o))
+spelled_same g w (Begins o) (Begins p) sole s r = ap Begins (openers_same o p (sym s.0 ∙ r.0) (sym s.2 ∙ r.2))
+spelled_same g w (Begins o) Opens sole s r = absurd (omega (arith, apart (shape w) (opener_shape o) shapes.Opens s.2 r, opener_rank o))
+spelled_same g w (Begins o) Closes sole s r = absurd (omega (arith, apart (shape w) (opener_shape o) shapes.Closes s.2 r, opener_rank o))
+spelled_same g w (Begins o) Glued sole s r = absurd r
+spelled_same g w (Begins o) Unknown sole s r = absurd r
+spelled_same g w Opens (Leaf b) sole s r = absurd (omega (arith, apart (shape w) shapes.Opens shapes.Item s r.2))
+spelled_same g w Opens (Begins o) sole s r = absurd (omega (arith, apart (shape w) shapes.Opens (opener_shape o) s r.2, opener_rank o))
+spelled_same g w Opens Opens sole s r = refl
+spelled_same g w Opens Closes sole s r = absurd (omega (arith, apart (shape w) shapes.Opens shapes.Closes s r))
+spelled_same g w Opens Glued sole s r = absurd r
+spelled_same g w Opens Unknown sole s r = absurd r
+spelled_same g w Closes (Leaf b) sole s r = absurd (omega (arith, apart (shape w) shapes.Closes shapes.Item s r.2))
+spelled_same g w Closes (Begins o) sole s r = absurd (omega (arith, apart (shape w) shapes.Closes (opener_shape o) s r.2, opener_rank o))
+spelled_same g w Closes Opens sole s r = absurd (omega (arith, apart (shape w) shapes.Closes shapes.Opens s r))
+spelled_same g w Closes Closes sole s r = refl
+spelled_same g w Closes Glued sole s r = absurd r
+spelled_same g w Closes Unknown sole s r = absurd r
+spelled_same g w Glued u sole s r = absurd s
+spelled_same g w Unknown u sole s r = absurd s
 
 -- what is known of a token that a word is read as
 data Read {L : Type 0} (g : Grammar L) (w : List ℕ) (t : Token (Opener (List ℕ)) L) : Type 0 where
@@ -131,26 +177,26 @@ read_as g w Closes h = good h
 read_as g w Glued h = glued refl h
 read_as g w Unknown h = unknown refl h.0 h.1
 
-reads_same : {L : Type 0} (g : Grammar L) → OneSpelling g → (w : List ℕ) (t u : Token (Opener (List ℕ)) L) → Read g w t → Read g w u → t ≡ u
-reads_same g one w t u (good s) (good r) = spelled_same g one w t u s r
-reads_same g one w t u (good s) (glued e k) = absurd (spelled_rank g w t s k)
-reads_same g one w t u (good s) (unknown e k n) = absurd (n t s)
-reads_same g one w t u (glued e k) (good r) = absurd (spelled_rank g w u r k)
-reads_same g one w t u (glued e k) (glued f l) = e ∙ sym f
-reads_same g one w t u (glued e k) (unknown f l n) = absurd (l k)
-reads_same g one w t u (unknown e k n) (good r) = absurd (n u r)
-reads_same g one w t u (unknown e k n) (glued f l) = absurd (k l)
-reads_same g one w t u (unknown e k n) (unknown f l m) = e ∙ sym f
+reads_same : {L : Type 0} (g : Grammar L) (w : List ℕ) (t u : Token (Opener (List ℕ)) L) → IsSole g w t → Read g w t → Read g w u → t ≡ u
+reads_same g w t u sole (good s) (good r) = spelled_same g w t u sole s r
+reads_same g w t u sole (good s) (glued e k) = absurd (spelled_rank g w t s k)
+reads_same g w t u sole (good s) (unknown e k n) = absurd (n t s)
+reads_same g w t u sole (glued e k) (good r) = absurd (spelled_rank g w u r k)
+reads_same g w t u sole (glued e k) (glued f l) = e ∙ sym f
+reads_same g w t u sole (glued e k) (unknown f l n) = absurd (l k)
+reads_same g w t u sole (unknown e k n) (good r) = absurd (n u r)
+reads_same g w t u sole (unknown e k n) (glued f l) = absurd (k l)
+reads_same g w t u sole (unknown e k n) (unknown f l m) = e ∙ sym f
 
 -- words are read as one list of tokens
-pub tokens_same : {L : Type 0} (g : Grammar L) → OneSpelling g → (ws : List (List ℕ)) (ts us : List (Token (Opener (List ℕ)) L)) → AreTokens g ws ts → AreTokens g ws us → ts ≡ us
-tokens_same g one [] [] [] h k = refl
-tokens_same g one [] [] (u ∷ us) h k = absurd k
-tokens_same g one [] (t ∷ ts) us h k = absurd h
-tokens_same g one (w ∷ ws) [] us h k = absurd h
-tokens_same g one (w ∷ ws) (t ∷ ts) [] h k = absurd k
-tokens_same g one (w ∷ ws) (t ∷ ts) (u ∷ us) h k =
-    ap (λ x. x ∷ ts) (reads_same g one w t u (read_as g w t h.0) (read_as g w u k.0)) ∙ ap (λ xs. u ∷ xs) (tokens_same g one ws ts us h.1 k.1)
+pub tokens_same : {L : Type 0} (g : Grammar L) (ws : List (List ℕ)) (ts us : List (Token (Opener (List ℕ)) L)) → AreOnlyTokens g ws ts → AreTokens g ws us → ts ≡ us
+tokens_same g [] [] [] h k = refl
+tokens_same g [] [] (u ∷ us) h k = absurd k
+tokens_same g [] (t ∷ ts) us h k = absurd h
+tokens_same g (w ∷ ws) [] us h k = absurd h
+tokens_same g (w ∷ ws) (t ∷ ts) [] h k = absurd k
+tokens_same g (w ∷ ws) (t ∷ ts) (u ∷ us) h k =
+    ap (λ x. x ∷ ts) (reads_same g w t u (only_sole g w t h.0) (read_as g w t (only_is g w t h.0)) (read_as g w u k.0)) ∙ ap (λ xs. u ∷ xs) (tokens_same g ws ts us h.1 k.1)
 
 -- the token is no fault
 abbrev is_good : {L : Type 0} → Token (Opener (List ℕ)) L → Bool
@@ -241,10 +287,10 @@ read-in_form g barred ws ts out proper h e =
     )
 
 -- the words of trees in form are read as these trees, and as nothing else
-pub in_form-read : {L : Type 0} (g : Grammar L) → OneSpelling g → (barred : L → Bool) (ws : List (List ℕ)) (ts : List (Token (Opener (List ℕ)) L)) (x : Trees (Opener (List ℕ)) L) → AreTokens g ws ts → IsInForm g barred x → ws ≡ tree_words g x → read is_any_of barred ts 0 None [] [] ≡ Ok (list_of x)
-in_form-read g one barred ws ts x h form e =
-    let k = let P : List _ → Type 0 = λ vs. AreTokens g vs ts in subst P e h in
-    let same = tokens_same g one (tree_words g x) ts (all_tokens x []) k form.spelled in
+pub in_form-read : {L : Type 0} (g : Grammar L) (barred : L → Bool) (ws : List (List ℕ)) (ts : List (Token (Opener (List ℕ)) L)) (x : Trees (Opener (List ℕ)) L) → AreOnlyTokens g ws ts → IsInForm g barred x → ws ≡ tree_words g x → read is_any_of barred ts 0 None [] [] ≡ Ok (list_of x)
+in_form-read g barred ws ts x h form e =
+    let k = let P : List _ → Type 0 = λ vs. AreOnlyTokens g vs ts in subst P e h in
+    let same = tokens_same g (tree_words g x) ts (all_tokens x []) k form.spelled in
     ap (λ us. read is_any_of barred us 0 None [] []) same ∙ read-printed is_any_of barred x form.low form.free
 
 any_of_chosen : (a b c d e f g n : Bool) → (if a then shapes.Opens else if b then shapes.Closes else if c then shapes.Glued else if d then shapes.AnyOf else if e then shapes.ExactlyOne else if f then shapes.AtMostOne else if g then shapes.When n else shapes.Item) ≡ shapes.AnyOf → d ≡ true
@@ -330,11 +376,11 @@ unknown-counts g w o e text no_opener = unknown-opener g w o e none
     none p t s k = no_opener (same_opener p (openers_same o p (sym text ∙ t) (sym e ∙ s)) k)
 
 -- one more word with its token
-pub AreTokens-push : {L : Type 0} (g : Grammar L) (ws : List (List ℕ)) (ts : List (Token (Opener (List ℕ)) L)) (w : List ℕ) (t : Token (Opener (List ℕ)) L) → AreTokens g ws ts → IsToken g w t → AreTokens g (ws ++ w ∷ []) (ts ++ t ∷ [])
-AreTokens-push g [] [] w t h k = (k, tt)
-AreTokens-push g [] (u ∷ ts) w t h k = absurd h
-AreTokens-push g (v ∷ ws) [] w t h k = absurd h
-AreTokens-push g (v ∷ ws) (u ∷ ts) w t h k = (h.0, AreTokens-push g ws ts w t h.1 k)
+EachWord-push : {L : Type 0} (R : List ℕ → Token (Opener (List ℕ)) L → Type 0) (ws : List (List ℕ)) (ts : List (Token (Opener (List ℕ)) L)) (w : List ℕ) (t : Token (Opener (List ℕ)) L) → EachWord R ws ts → R w t → EachWord R (ws ++ w ∷ []) (ts ++ t ∷ [])
+EachWord-push R [] [] w t h k = (k, tt)
+EachWord-push R [] (u ∷ ts) w t h k = absurd h
+EachWord-push R (v ∷ ws) [] w t h k = absurd h
+EachWord-push R (v ∷ ws) (u ∷ ts) w t h k = (h.0, EachWord-push R ws ts w t h.1 k)
 
 -- the words up to one more
 pub texts-more : (ws : List Word) (i : ℕ) (w : Word) → i < length ws → texts (map spot (take (i + 1) ws)) ≡ texts (map spot (take i ws)) ++ (get_or ws i w).text.now ∷ []
@@ -344,7 +390,7 @@ texts-more (v ∷ ws) (suc i) w within =
     ap (λ n. texts (map spot (take n (v ∷ ws)))) (let same : suc i + 1 ≡ suc (i + 1) = omega arith in same)
     ∙ ap (λ us. v.text.now ∷ us) (texts-more ws i w (omega arith))
 
-pub AreTokens-more : {L : Type 0} (g : Grammar L) (ws : List Word) (i : ℕ) (w : Word) (ts : List (Token (Opener (List ℕ)) L)) (t : Token (Opener (List ℕ)) L) → i < length ws → AreTokens g (texts (map spot (take i ws))) ts → IsToken g (get_or ws i w).text.now t → AreTokens g (texts (map spot (take (i + 1) ws))) (ts ++ t ∷ [])
-AreTokens-more g ws i w ts t within h k =
-    let P : List (List ℕ) → Type 0 = λ us. AreTokens g us (ts ++ t ∷ []) in
-    subst P (sym (texts-more ws i w within)) (AreTokens-push g (texts (map spot (take i ws))) ts (get_or ws i w).text.now t h k)
+pub EachWord-more : {L : Type 0} (R : List ℕ → Token (Opener (List ℕ)) L → Type 0) (ws : List Word) (i : ℕ) (w : Word) (ts : List (Token (Opener (List ℕ)) L)) (t : Token (Opener (List ℕ)) L) → i < length ws → EachWord R (texts (map spot (take i ws))) ts → R (get_or ws i w).text.now t → EachWord R (texts (map spot (take (i + 1) ws))) (ts ++ t ∷ [])
+EachWord-more R ws i w ts t within h k =
+    let P : List (List ℕ) → Type 0 = λ us. EachWord R us (ts ++ t ∷ []) in
+    subst P (sym (texts-more ws i w within)) (EachWord-push R (texts (map spot (take i ws))) ts (get_or ws i w).text.now t h k)

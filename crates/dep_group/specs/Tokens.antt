@@ -1,5 +1,5 @@
 -- Which token a word is, for leaves and flags of any grammar, and the words of a tree.
-use Rattle.std.specs.Prelude.{◌≡◌, ℕ, ◌≤◌, Bool, true, false, List, [], ◌∷◌, map}
+use Rattle.std.specs.Prelude.{◌≡◌, ℕ, ◌≤◌, Bool, true, false, List, [], ◌∷◌, map, Option, Some, None}
 use Rattle.std.specs.List.{list_all}
 use Rattle.dep_group.specs.declared.shape.Shape.{Shape}
 use Rattle.dep_group.specs.declared.shape.Shape.TheVariants as shapes
@@ -9,7 +9,7 @@ use Rattle.dep_group.specs.declared.token.Token.{Token}
 use Rattle.dep_group.specs.declared.token.Token.TheVariants.{Leaf, Begins, Opens, Closes, Glued, Unknown}
 use Rattle.dep_group.specs.Words.{is_word}
 use Rattle.dep_group.specs.Shapes.{shape, condition, open_parenthesis, close_parenthesis}
-use Rattle.dep_group.specs.Trees.{Trees, all_depth, all_free, is_any_of}
+use Rattle.dep_group.specs.Trees.{Tree, Trees, leaf, group, no_trees, tree, all_depth, all_free, is_any_of}
 use Rattle.dep_group.specs.Reading.{all_tokens}
 
 -- the word that begins a group
@@ -66,12 +66,44 @@ IsToken g word Closes = Spells g word Closes
 IsToken g word Glued = shape word ≡ shapes.Glued
 IsToken g word Unknown = (shape word ≡ shapes.Glued → ⊥) × ((token : Token (Opener (List ℕ)) _) → Spells g word token → ⊥)
 
--- each word with its token
+-- the token is what the word is read as, and no other leaf is spelled so
+abbrev pub IsOnlyToken : {L : Type 0} → Grammar L → List ℕ → Token (Opener (List ℕ)) L → Type 0
+IsOnlyToken g word (Leaf a) = IsToken g word (Leaf a) × ((b : _) → g.IsLeaf b → word ≡ g.spell b → a ≡ b)
+IsOnlyToken g word (Begins opener) = IsToken g word (Begins opener)
+IsOnlyToken g word Opens = IsToken g word Opens
+IsOnlyToken g word Closes = IsToken g word Closes
+IsOnlyToken g word Glued = IsToken g word Glued
+IsOnlyToken g word Unknown = IsToken g word Unknown
+
+-- the relation is between each word and its token
+abbrev pub EachWord : {L : Type 0} → (List ℕ → Token (Opener (List ℕ)) L → Type 0) → List (List ℕ) → List (Token (Opener (List ℕ)) L) → Type 0
+EachWord R [] [] = Unit {0}
+EachWord R (w ∷ ws) (t ∷ ts) = R w t × EachWord R ws ts
+EachWord R [] (t ∷ ts) = ⊥
+EachWord R (w ∷ ws) [] = ⊥
+
+-- each word with what it is read as
 abbrev pub AreTokens : {L : Type 0} → Grammar L → List (List ℕ) → List (Token (Opener (List ℕ)) L) → Type 0
-AreTokens g [] [] = Unit {0}
-AreTokens g (w ∷ ws) (t ∷ ts) = IsToken g w t × AreTokens g ws ts
-AreTokens g [] (t ∷ ts) = ⊥
-AreTokens g (w ∷ ws) [] = ⊥
+AreTokens g ws ts = EachWord (IsToken g) ws ts
+
+-- the same, where no other leaf is spelled as one of the words
+abbrev pub AreOnlyTokens : {L : Type 0} → Grammar L → List (List ℕ) → List (Token (Opener (List ℕ)) L) → Type 0
+AreOnlyTokens g ws ts = EachWord (IsOnlyToken g) ws ts
+
+-- a group has no opener, or one of the grammar's
+abbrev pub IsOpening : {L : Type 0} → Grammar L → Option (Opener (List ℕ)) → Type 0
+IsOpening g None = Unit {0}
+IsOpening g (Some opener) = IsOpener g opener
+
+-- the leaves and the openers of the tree are those of the grammar
+abbrev mutual
+  pub IsMadeOf : {L : Type 0} → Grammar L → Tree (Opener (List ℕ)) L → Type 0
+  IsMadeOf g (leaf a) = g.IsLeaf a
+  IsMadeOf g (group opener ts) = IsOpening g opener × AreMadeOf g ts
+
+  pub AreMadeOf : {L : Type 0} → Grammar L → Trees (Opener (List ℕ)) L → Type 0
+  AreMadeOf g no_trees = Unit {0}
+  AreMadeOf g (tree t ts) = IsMadeOf g t × AreMadeOf g ts
 
 -- the words of trees
 abbrev pub tree_words : {L : Type 0} → Grammar L → Trees (Opener (List ℕ)) L → List (List ℕ)

@@ -12,7 +12,7 @@ use Rattle.dep_group.specs.Reading.{read, list_of}
 use Rattle.dep_group.specs.Tokens.{AreTokens, IsInForm, tree_words}
 use Rattle.dep_group.proofs.WordLemmas.{words-are_words}
 use Rattle.dep_group.proofs.ReadingLemmas.{trees_of-list_of}
-use Rattle.dep_group.proofs.TokenLemmas.{OneSpelling, read-in_form, in_form-read}
+use Rattle.dep_group.proofs.TokenLemmas.{OneSpelling, all_only, read-in_form, in_form-read}
 use Rattle.dep_group.specs.Trees.{Tree, Trees, trees_of, is_any_of}
 use Rattle.required_use.specs.declared.required.Item.{Item}
 use Rattle.required_use.specs.Faults.{IsMemory, placed}
@@ -52,7 +52,7 @@ read_found text ws ts out e h r =
 pub read_only : (text : List ℕ) (ws : List Spot) (ts : List (Token (Opener (List ℕ)) Item)) (x : Trees (Opener (List ℕ)) Item) → ws ≡ words 0 text → AreTokens grammar (texts ws) ts → IsInForm grammar never x → words_of text ≡ tree_words grammar x → read is_any_of never ts 0 None [] [] ≡ Ok (list_of x)
 read_only text ws ts x e h form same =
     let P : List Spot → Type 0 = λ us. AreTokens grammar (texts us) ts in
-    in_form-read grammar one_spelling never (words_of text) ts x (subst P e h) form same
+    in_form-read grammar never (words_of text) ts x (all_only grammar one_spelling (words_of text) ts (subst P e h)) form same
 
 oks_same : {A : Type 0} (r : Result A GroupFault) (a b : A) → r ≡ Ok a → r ≡ Ok b → a ≡ b
 oks_same r a b h k = cc

@@ -1,4 +1,4 @@
-use crate::RequiredUse;
+use crate::{RequiredFault, RequiredUse};
 use pms_names::{Flag, Flags};
 use std::alloc::Global;
 use std::test::Fail;
@@ -25,6 +25,10 @@ fn truth_over_flags(rt: HostRuntime) -> Result<(), Fail> {
         ("|| ( b? ( a ) )", Some(0), None),
         ("a b? ( !a )", None, Some(1)),
         ("( a !b )", None, Some(0)),
+        ("^^ ( ( a b ) c )", Some(0), None),
+        ("?? ( ( a b ) a )", None, Some(0)),
+        ("|| ( ?? ( a b ) c )", None, Some(0)),
+        ("b? ( ^^ ( a b ) )", None, Some(0)),
         ("", None, None),
     ] {
         let required = RequiredUse::parse(rt.alloc(), text)?;
@@ -64,5 +68,28 @@ fn first_faults(rt: HostRuntime) -> Result<(), Fail> {
             Err(fault) => assert_eq!(rt; fault.to_string(rt.alloc())?.as_str(), want),
         }
     }
+    Ok(())
+}
+
+/// A letter for what the text is read as.
+fn letter(alloc: Global, text: &str) -> &'static str {
+    match RequiredUse::parse(alloc, text) {
+        Ok(_) => ".",
+        Err(RequiredFault::Item { .. }) => "I",
+        Err(RequiredFault::Open { .. }) => "O",
+        Err(_) => "?",
+    }
+}
+
+#[test]
+fn cut_at_every_byte(rt: HostRuntime) -> Result<(), Fail> {
+    let text = "a || ( b? ( !a ) )";
+    let mut found = String::new(rt.alloc());
+    for end in 0..=text.len() {
+        if let Some(cut) = text.get(..end) {
+            found.push_str(letter(rt.alloc(), cut))?;
+        }
+    }
+    assert_eq!(rt; found.as_str(), "...IIIOOOIIOOIOOOO.");
     Ok(())
 }

@@ -1,5 +1,5 @@
 use Rattle.std.proofs.Common.{◌≡◌, ℕ, ◌+◌, ◌<◌, true, length, slice_index}
-use Rattle.version_text.specs.Grammar.{is_digit}
+use Rattle.basics.specs.Bytes.{is_digit}
 use Rattle.dep_atom.proofs.reading.has_number.Given as goal
 
 abbrev pub invariant-loop-at : goal.invariant-loop-at

@@ -1,6 +1,7 @@
 use Rattle.std.proofs.Common.{[]}
 use Rattle.dep_group.specs.declared.word.Word.{Word}
-use Rattle.dep_group.proofs.TokenLemmas.{AreTokens-more}
+use Rattle.dep_group.specs.Tokens.{IsToken}
+use Rattle.dep_group.proofs.TokenLemmas.{EachWord-more}
 use Rattle.required_use.specs.Grammar.{grammar}
 use Rattle.required_use.proofs.parse.tokens.Goals as goal
 
@@ -8,4 +9,4 @@ pub loop-word-preserved : goal.loop-word-preserved
 loop-word-preserved c =
     let none : Word = record { at = 0; text = record { ref_ptr = (0, 0); now = [] } } in
     rw c.in_ok-push.ensures.items
-    (AreTokens-more grammar c.args.words.now c.loop-word.word-index none c.loop-word.tokens.items c.in_ok-token.field-0 c.loop-word-test.true c.loop-word.invariant c.in_ok-token.ensures)
+    (EachWord-more (IsToken grammar) c.args.words.now c.loop-word.word-index none c.loop-word.tokens.items c.in_ok-token.field-0 c.loop-word-test.true c.loop-word.invariant c.in_ok-token.ensures)

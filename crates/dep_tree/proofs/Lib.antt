@@ -1,0 +1,3 @@
+pub mod AtomWords
+pub mod CopyLemmas
+pub mod FaultLemmas

@@ -1,0 +1,93 @@
+ghost use Rattle.std.specs.Prelude.{◌≡◌, ◌∷◌, ◌++◌, IfOk, List, OnOk, string_bytes, ℕ};
+ghost use Rattle.dep_atom.specs.Text.{value_text};
+ghost use Rattle.dep_atom.specs.Values.{AtomValue, atom_value};
+ghost use Rattle.dep_group.specs.declared.token.Opener.{Opener};
+ghost use Rattle.dep_group.specs.declared.token.Token.{Token};
+ghost use Rattle.dep_group.specs.declared.token.Token.TheVariants.{Closes, Opens};
+ghost use Rattle.dep_group.specs.Reading.{all_tokens, tokens};
+ghost use Rattle.dep_group.specs.Shapes.{condition};
+ghost use Rattle.dep_group.specs.Tokens.{tree_words};
+ghost use Rattle.dep_group.specs.Words.{and_space, spaced};
+ghost use Rattle.dep_tree.specs.Grammar.{grammar};
+ghost use Rattle.dep_tree.specs.Printing.{written};
+ghost use Rattle.dep_tree.specs.View.{trees_view, view};
+
+use crate::tree::Node;
+use dep_atom::Atom;
+use dep_group::push_word;
+use pms_names::Flag;
+use std::alloc::{AllocError, Global};
+
+/// The text of the dependencies, with one space between each two words.
+pub fn print(alloc: Global, nodes: &[Node]) -> Result<String, AllocError>
+    ensures { IfOk result (λ text. string_bytes text ≡ spaced (tree_words grammar (trees_view nodes.now))) }
+{
+    let mut out = String::new(alloc);
+    push_all(alloc, nodes, &mut out)?;
+    Ok(out)
+}
+
+#[cycle(print)]
+fn push_all(alloc: Global, nodes: &[Node], out: &mut String) -> Result<(), AllocError>
+    ensures { OnOk result ((rest : List (Token (Opener (List ℕ)) AtomValue)) → written (string_bytes out.new) rest ≡ written (string_bytes out.old) (all_tokens (trees_view nodes.now) rest)) }
+{
+    for node in nodes {
+        push(alloc, node, out)?;
+    }
+    Ok(())
+}
+
+#[cycle(print)]
+fn push_group(alloc: Global, nodes: &[Node], out: &mut String) -> Result<(), AllocError>
+    ensures { OnOk result ((rest : List (Token (Opener (List ℕ)) AtomValue)) → written (string_bytes out.new) rest ≡ written (string_bytes out.old) (Opens ∷ all_tokens (trees_view nodes.now) (Closes ∷ rest))) }
+{
+    push_word(out, "", "(", "")?;
+    push_all(alloc, nodes, out)?;
+    push_word(out, "", ")", "")?;
+    Ok(())
+}
+
+#[cycle(print)]
+fn push(alloc: Global, node: &Node, out: &mut String) -> Result<(), AllocError>
+    ensures { OnOk result ((rest : List (Token (Opener (List ℕ)) AtomValue)) → written (string_bytes out.new) rest ≡ written (string_bytes out.old) (tokens (view node.now) rest)) }
+{
+    match node {
+        Node::Leaf(atom) => {
+            push_atom(alloc, atom, out)?;
+            Ok(())
+        }
+        Node::All(nodes) => {
+            push_group(alloc, nodes, out)?;
+            Ok(())
+        }
+        Node::AnyOf(nodes) => {
+            push_word(out, "", "||", "")?;
+            push_group(alloc, nodes, out)?;
+            Ok(())
+        }
+        Node::When { flag, on, nodes } => {
+            push_condition(flag, *on, out)?;
+            push_group(alloc, nodes, out)?;
+            Ok(())
+        }
+    }
+}
+
+fn push_atom(alloc: Global, atom: &Atom, out: &mut String) -> Result<(), AllocError>
+    ensures { OnOk result (string_bytes out.new ≡ and_space (string_bytes out.old) ++ value_text (atom_value atom.now)) }
+{
+    let text = atom.print(alloc)?;
+    push_word(out, "", text.as_str(), "")?;
+    Ok(())
+}
+
+fn push_condition(flag: &Flag, on: bool, out: &mut String) -> Result<(), AllocError>
+    ensures { OnOk result (string_bytes out.new ≡ and_space (string_bytes out.old) ++ condition flag.now on) }
+{
+    if on {
+        push_word(out, "", flag.text(), "?")?;
+    } else {
+        push_word(out, "!", flag.text(), "?")?;
+    }
+    Ok(())
+}

@@ -1,0 +1,248 @@
+ghost use Rattle.std.specs.Prelude.{◌≡◌, ◌++◌, ◌↔◌, IfErr, IfOk, List, MatchResult, OnOk, map, nat_lt, string_bytes, ℕ};
+ghost use Rattle.dep_atom.specs.Values.{AtomValue, atom_value};
+ghost use Rattle.dep_group.specs.declared.token.Opener.{Opener};
+ghost use Rattle.dep_group.specs.Trees.{Trees, all_hold, all_leaves, group, holds, is_member, is_met, leaves, true_members, trees_of};
+ghost use Rattle.dep_group.specs.Tokens.{IsInForm, tree_words};
+ghost use Rattle.dep_group.specs.Words.{spaced, words_of};
+ghost use Rattle.pms_names.specs.Flags.{has};
+ghost use Rattle.dep_tree.specs.Faults.{FirstFault, IsMemory};
+ghost use Rattle.dep_tree.specs.Grammar.{AreAtomsInGroups, grammar, is_block};
+ghost use Rattle.dep_tree.specs.Truth.{is_fact, kind};
+ghost use Rattle.dep_tree.specs.View.{atoms_view, trees, trees_view, view};
+
+use crate::fault::TreeTextFault;
+use crate::present::Present;
+use crate::{copy, parse, print};
+use dep_atom::{Atom, Block};
+use dep_group::Node as GroupNode;
+use pms_names::{Flag, Flags};
+use std::alloc::{AllocError, Global};
+
+/// One dependency: an atom, or a group of dependencies.
+#[derive(Debug, Drop)]
+pub enum Node {
+    Leaf(Atom),
+    All(Vec<Node>),
+    AnyOf(Vec<Node>),
+    /// The members count where the flag is on, or where it is not on.
+    When {
+        flag: Flag,
+        on: bool,
+        nodes: Vec<Node>,
+    },
+}
+
+/// What stands before the parenthesis of a group. One with nothing before it wants all its members.
+#[derive(Debug, Drop)]
+pub(crate) enum DepOpener {
+    AnyOf,
+    When { flag: Flag, on: bool },
+}
+
+/// What a package depends on: all of these.
+#[derive(Debug, Drop)]
+pub struct DepTree {
+    pub nodes: Vec<Node>,
+}
+
+impl DepTree {
+    /// Reads the whole text. Its first fault from the left is given; a group that is never closed is
+    /// a fault at the end.
+    pub fn parse(alloc: Global, text: &str) -> Result<DepTree, TreeTextFault>
+        ensures found { IfOk result (λ t. words_of text.now ≡ tree_words grammar (trees t)) }
+        ensures form { IfOk result (λ t. IsInForm grammar is_block (trees t)) }
+        ensures only { (x : Trees (Opener (List ℕ)) AtomValue) → IsInForm grammar is_block x → words_of text.now ≡ tree_words grammar x → MatchResult result (λ t. trees t ≡ x) IsMemory }
+        ensures fault { IfErr result (FirstFault text.now) }
+    {
+        match parse::read(alloc, text) {
+            Ok(nodes) => Ok(DepTree { nodes }),
+            Err(fault) => Err(fault),
+        }
+    }
+
+    /// The text, with one space between each two words.
+    pub fn print(&self, alloc: Global) -> Result<String, AllocError>
+        ensures { IfOk result (λ text. string_bytes text ≡ spaced (tree_words grammar (trees self.now))) }
+    {
+        print::print(alloc, &self.nodes)
+    }
+
+    /// Whether all hold with these packages, of an asker with these flags. A block holds here.
+    pub fn holds<P: Present>(&self, present: &P, asker: &Flags) -> bool
+        ensures { result ≡ all_hold kind (is_fact (P.facts present.now) asker.now) (has asker.now) (trees self.now) }
+    {
+        all_hold(&self.nodes, present, asker)
+    }
+
+    /// The atoms that no unmet condition excludes, in the order in which they are written.
+    pub fn leaves(&self, alloc: Global, asker: &Flags) -> Result<Vec<&Atom>, AllocError>
+        ensures { IfOk result (λ v. map (λ atom. atom_value atom.now) v.items ≡ all_leaves kind (has asker.now) (trees self.now)) }
+    {
+        let mut out = Vec::new(alloc);
+        push_all_leaves(&self.nodes, asker, &mut out)?;
+        Ok(out)
+    }
+
+    pub fn try_clone(&self) -> Result<DepTree, AllocError>
+        ensures { IfOk result (λ t. trees t ≡ trees self.now) }
+    {
+        let nodes = copy::copy_all(*self.nodes.allocator(), &self.nodes)?;
+        Ok(DepTree { nodes })
+    }
+}
+
+/// The text of a tree in form reads as its words: with the clauses of `parse` and `print`, what is
+/// printed is read back.
+pub fn printed_text_has_the_words()
+    ensures { (x : Trees (Opener (List ℕ)) AtomValue) → IsInForm grammar is_block x → words_of (spaced (tree_words grammar x)) ≡ tree_words grammar x }
+{}
+
+/// Trees in form are atoms in groups, at most 64 in one another, with no block in an any-of group: each
+/// such tree has a text, which is read as it.
+pub fn trees_in_form_are_atoms_in_groups()
+    ensures { (x : Trees (Opener (List ℕ)) AtomValue) → IsInForm grammar is_block x ↔ AreAtomsInGroups x }
+{}
+
+impl Node {
+    /// Whether it holds with these packages, of an asker with these flags. A block holds here.
+    #[cycle(holds)]
+    pub fn holds<P: Present>(&self, present: &P, asker: &Flags) -> bool
+        ensures { result ≡ holds kind (is_fact (P.facts present.now) asker.now) (has asker.now) (view self.now) }
+    {
+        match self {
+            Node::Leaf(atom) => is_fact(atom, present, asker),
+            Node::All(nodes) => all_hold(nodes, present, asker),
+            Node::AnyOf(nodes) => some_member_holds(nodes, present, asker),
+            Node::When { flag, on, nodes } => {
+                !is_met(asker, flag, *on) || all_hold(nodes, present, asker)
+            }
+        }
+    }
+}
+
+#[cycle(holds)]
+fn all_hold<P: Present>(nodes: &[Node], present: &P, asker: &Flags) -> bool
+    ensures { result ≡ all_hold kind (is_fact (P.facts present.now) asker.now) (has asker.now) (trees_view nodes.now) }
+{
+    for node in nodes {
+        if !node.holds(present, asker) {
+            return false;
+        }
+    }
+    true
+}
+
+#[cycle(holds)]
+fn some_member_holds<P: Present>(nodes: &[Node], present: &P, asker: &Flags) -> bool
+    ensures { result ≡ nat_lt 0 (true_members kind (is_fact (P.facts present.now) asker.now) (has asker.now) (trees_view nodes.now)) }
+{
+    for node in nodes {
+        if is_member(node, asker) && node.holds(present, asker) {
+            return true;
+        }
+    }
+    false
+}
+
+fn is_fact<P: Present>(atom: &Atom, present: &P, asker: &Flags) -> bool
+    ensures { result ≡ is_fact (P.facts present.now) asker.now (atom_value atom.now) }
+{
+    is_block(atom) || present.some_match(atom, asker)
+}
+
+fn is_block(atom: &Atom) -> bool
+    ensures { result ≡ is_block (atom_value atom.now) }
+{
+    match atom.block {
+        Block::No => false,
+        Block::Weak | Block::Strong => true,
+    }
+}
+
+fn is_member(node: &Node, asker: &Flags) -> bool
+    ensures { result ≡ is_member kind (has asker.now) (view node.now) }
+{
+    match node {
+        Node::When { flag, on, .. } => is_met(asker, flag, *on),
+        _ => true,
+    }
+}
+
+fn is_met(asker: &Flags, flag: &Flag, on: bool) -> bool
+    ensures { result ≡ is_met (has asker.now) flag.now on }
+{
+    asker.has(flag) == on
+}
+
+#[cycle(leaves)]
+fn push_leaves<'a>(node: &'a Node, asker: &Flags, out: &mut Vec<&'a Atom>) -> Result<(), AllocError>
+    ensures { OnOk result (map (λ atom. atom_value atom.now) out.new.items ≡ map (λ atom. atom_value atom.now) out.old.items ++ leaves kind (has asker.now) (view node.now)) }
+{
+    match node {
+        Node::Leaf(atom) => {
+            out.push(atom)?;
+            Ok(())
+        }
+        Node::All(nodes) => {
+            push_all_leaves(nodes, asker, out)?;
+            Ok(())
+        }
+        Node::AnyOf(nodes) => {
+            push_all_leaves(nodes, asker, out)?;
+            Ok(())
+        }
+        Node::When { flag, on, nodes } => {
+            if is_met(asker, flag, *on) {
+                push_all_leaves(nodes, asker, out)?;
+            }
+            Ok(())
+        }
+    }
+}
+
+#[cycle(leaves)]
+fn push_all_leaves<'a>(
+    nodes: &'a [Node],
+    asker: &Flags,
+    out: &mut Vec<&'a Atom>,
+) -> Result<(), AllocError>
+    ensures { OnOk result (map (λ atom. atom_value atom.now) out.new.items ≡ map (λ atom. atom_value atom.now) out.old.items ++ all_leaves kind (has asker.now) (trees_view nodes.now)) }
+{
+    for node in nodes {
+        push_leaves(node, asker, out)?;
+    }
+    Ok(())
+}
+
+impl GroupNode<DepOpener, Atom> for Node {
+    ghost use Rattle.dep_tree.specs.View.{atoms_view};
+    ghost use Rattle.dep_tree.specs.Grammar.{begins_any_of, blocks_as_atom};
+
+    ghost view = { atoms_view };
+
+    ghost any_of = { begins_any_of };
+
+    ghost barred = { blocks_as_atom };
+
+    fn of_leaf(leaf: Atom) -> Node {
+        Node::Leaf(leaf)
+    }
+
+    fn of_group(opener: Option<DepOpener>, nodes: Vec<Node>) -> Node
+        ensures { atoms_view result ≡ group opener (trees_of (map atoms_view nodes.items)) }
+    {
+        match opener {
+            None => Node::All(nodes),
+            Some(DepOpener::AnyOf) => Node::AnyOf(nodes),
+            Some(DepOpener::When { flag, on }) => Node::When { flag, on, nodes },
+        }
+    }
+
+    fn is_any_of(opener: &DepOpener) -> bool {
+        matches!(opener, DepOpener::AnyOf)
+    }
+
+    fn is_barred(leaf: &Atom) -> bool {
+        is_block(leaf)
+    }
+}
