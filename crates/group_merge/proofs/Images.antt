@@ -44,11 +44,11 @@ cleared_alike m d c quiet image q = go (is_below jobs q) refl where
   go false e = ap (λ (x : Option Thing). cond (is_below jobs q) None x) (fixed_in d c q (m q) image (quiet q e))
 
 -- with no gate open, no group is
-none_open : (c : Map) → ((h : ℕ) → h < 2 ^ 32 → is_open (c (gate_path h)) ≡ false) → open_groups c ≡ []
+pub none_open : (c : Map) → ((h : ℕ) → h < 2 ^ 32 → is_open (c (gate_path h)) ≡ false) → open_groups c ≡ []
 none_open c shut = sym (open_groups_only c [] tt (λ g. (λ has. absurd has, λ (o : Opens c (2 ^ 32) g). absurd (cc (shut g o.0, o.1)))))
 
 -- with just one gate open, just one group is
-one_open : (c : Map) (g : ℕ) → g < 2 ^ 32 → is_open (c (gate_path g)) ≡ true → ((h : ℕ) → h < 2 ^ 32 → (h ≡ g → ⊥) → is_open (c (gate_path h)) ≡ false) → open_groups c ≡ g ∷ []
+pub one_open : (c : Map) (g : ℕ) → g < 2 ^ 32 → is_open (c (gate_path g)) ≡ true → ((h : ℕ) → h < 2 ^ 32 → (h ≡ g → ⊥) → is_open (c (gate_path h)) ≡ false) → open_groups c ≡ g ∷ []
 one_open c g small open' shut =
     sym (open_groups_only c (g ∷ []) ((λ h has. absurd has), tt) (λ h. (
       λ has. elim has [ inl e ↦ (subst (λ (n : ℕ). Opens c (2 ^ 32) n) e (small, open')) | inr none ↦ absurd none ],
@@ -57,7 +57,7 @@ one_open c g small open' shut =
       same_or_not : (a b : ℕ) → (a ≡ b) ⊎ (a ≡ b → ⊥)
       same_or_not a b = cases_eq a b
 
-recovered_none : (c : Map) → open_groups c ≡ [] → IsRecovered c (cleared c)
+pub recovered_none : (c : Map) → open_groups c ≡ [] → IsRecovered c (cleared c)
 unfolding judged_open judged_all
 recovered_none c none = recovered_is c [] (ap (λ (gs : List ℕ). judged_all c [] gs) none)
 
@@ -98,7 +98,7 @@ placed_is_given c g i (p ∷ ps) (o ∷ os) q x all h =
     ∙ placed_is_given c g (suc i) ps os q (cond (bytes_eq q p.path) (Some o) x) all.1
     (λ j y e. ap (λ (n : ℕ). c (stage_path g n)) (shift i j) ∙ h (suc j) y e)
 
-recovered_one : (c : Map) (r : Content) → open_groups c ≡ r.group ∷ [] → judged c [] r.group ≡ Ok r → IsRecovered c (recovered_by c (r ∷ []))
+pub recovered_one : (c : Map) (r : Content) → open_groups c ≡ r.group ∷ [] → judged c [] r.group ≡ Ok r → IsRecovered c (recovered_by c (r ∷ []))
 unfolding judged_open judged_all
 recovered_one c r one form =
     recovered_is c (r ∷ [])

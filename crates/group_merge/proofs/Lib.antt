@@ -1,3 +1,4 @@
+pub mod Asked
 pub mod Images
 pub mod Stages
 pub mod Survives

@@ -24,17 +24,17 @@ use Rattle.group_merge.proofs.Stages.{stage_stays}
 use Rattle.group_merge.proofs.Survives.{apart, journal_apart, kept_settled, kept_write, part_below, parts_apart}
 use Rattle.group_merge.proofs.Walk.{After, Before, few_stages, own_placement, own_removal, same_count}
 
-swapped : (p q : List ℕ) → bytes_eq p q ≡ bytes_eq q p
+pub swapped : (p q : List ℕ) → bytes_eq p q ≡ bytes_eq q p
 swapped p q = elim (cases_Bool (bytes_eq p q)) [
   | inl e ↦ e ∙ sym ((bytes_eq-Decides q p).1 (sym ((bytes_eq-Decides p q).0 e)))
   | inr ne ↦ ne ∙ sym (apart q p (λ h. cc ((bytes_eq-Decides p q).1 (sym h), ne)))
 ]
 
 -- a path holds what was written there, and another what it held
-held_here : (d : Disk) (p : List ℕ) (x : Option Thing) → (write d p x).holds p ≡ x
+pub held_here : (d : Disk) (p : List ℕ) (x : Option Thing) → (write d p x).holds p ≡ x
 held_here d p x = cond-true (bytes_eq p p) x (d.holds p) ((bytes_eq-Decides p p).1 refl)
 
-held_there : (d : Disk) (p q : List ℕ) (x : Option Thing) → (p ≡ q → ⊥) → (write d p x).holds q ≡ d.holds q
+pub held_there : (d : Disk) (p q : List ℕ) (x : Option Thing) → (p ≡ q → ⊥) → (write d p x).holds q ≡ d.holds q
 held_there d p q x ne = cond-false (bytes_eq p q) x (d.holds q) (apart p q ne)
 
 -- ---- staged and sealed
@@ -124,7 +124,7 @@ last_stretch r os m old mid new a b = since_then (IsBeforeOrAfter r os m) old mi
 
 -- ---- the group's own paths changed
 
-removed_holds : (rs : List (List ℕ)) (d : Disk) (q : List ℕ) → (removed rs d).holds q ≡ cond (is_in rs q) None (d.holds q)
+pub removed_holds : (rs : List (List ℕ)) (d : Disk) (q : List ℕ) → (removed rs d).holds q ≡ cond (is_in rs q) None (d.holds q)
 removed_holds [] d q = refl
 removed_holds (p ∷ ps) d q = removed_holds ps (write d p None) q ∙ go (bytes_eq q p) (is_in ps q) (swapped p q) where
   go : (b c : Bool) → bytes_eq p q ≡ b → cond c None (cond (bytes_eq p q) None (d.holds q)) ≡ cond (b || c) None (d.holds q)
@@ -138,7 +138,7 @@ pub removed_stays : (rs : List (List ℕ)) (d : Disk) (g i : ℕ) → ((q : List
 removed_stays [] d g i out some = some
 removed_stays (p ∷ ps) d g i out some = removed_stays ps (write d p None) g i (λ q has. out q (inr has)) (stage_stays d p None g i (out p (inl refl)) some)
 
-removed_other : (rs : List (List ℕ)) (d : Disk) (q : List ℕ) → ((p : List ℕ) → Has rs p → is_below jobs p ≡ false) → is_below jobs q ≡ true → (removed rs d).holds q ≡ d.holds q
+pub removed_other : (rs : List (List ℕ)) (d : Disk) (q : List ℕ) → ((p : List ℕ) → Has rs p → is_below jobs p ≡ false) → is_below jobs q ≡ true → (removed rs d).holds q ≡ d.holds q
 removed_other [] d q out below = refl
 removed_other (p ∷ ps) d q out below =
     removed_other ps (write d p None) q (λ x has. out x (inr has)) below ∙ held_there d p q None (λ e. journal_apart q p below (out p (inl refl)) (sym e))

@@ -1,5 +1,5 @@
 -- From call to call within a phase.
-use Rattle.std.proofs.Common.{◌≡◌, ◌<◌, ◌^◌, ◌||◌, ℕ, zero, suc, Bool, true, false, List, [], ◌∷◌, Some, refl, sym, ap, subst, inl, inr, arith, length, get_or, map}
+use Rattle.std.proofs.Common.{◌≡◌, ◌<◌, ◌^◌, ◌||◌, ℕ, zero, suc, true, false, List, [], ◌∷◌, Some, refl, sym, ap, subst, inl, inr, arith, length, get_or, map}
 use Rattle.std.specs.Prelude.{bytes_eq, slice_get}
 use Rattle.basics.specs.Members.{Has}
 use Rattle.basics.proofs.Membership.{has-append_left, has-append_right, has-map}

@@ -1,14 +1,15 @@
-ghost use Rattle.std.specs.Prelude.{◌≡◌, ◌≤◌, ◌<◌, ◌⊎◌, ℕ, List, false, IsErr, IsSome, IsTrue, OnOk, length};
+ghost use Rattle.std.specs.Prelude.{◌≡◌, ◌≤◌, ◌<◌, ◌⊎◌, ℕ, List, false, IsErr, IsSome, IsTrue, OnOk, length, map};
 ghost use Rattle.basics.specs.Members.{Has};
 ghost use Rattle.file_tree.specs.Disk.{Map, Rose};
 ghost use Rattle.file_tree.specs.Moments.{Since};
 ghost use Rattle.file_tree.specs.Paths.{is_below};
 ghost use Rattle.file_tree.specs.Thing.{Thing};
 ghost use Rattle.merge_record.specs.Content.{Content};
+ghost use Rattle.merge_record.specs.Judging.{path_of};
 ghost use Rattle.merge_record.specs.Names.{jobs, stage_path};
 ghost use Rattle.merge_record.specs.Recovered.{IsRecovered};
 ghost use Rattle.merge_record.specs.declared.record.Placement.{Placement};
-ghost use Rattle.group_merge.specs.Calls.{placed, removed};
+ghost use Rattle.group_merge.specs.Calls.{Asked, placed, removed};
 ghost use Rattle.group_merge.specs.Group.{IsGroup, applied};
 ghost use Rattle.group_merge.specs.Phases.{IsOpened};
 
@@ -20,6 +21,7 @@ use merge_record::Placement;
 pub fn remove_all<T: Tree>(tree: &mut T, removals: &[Path]) -> Result<(), Failed>
     ensures moments { IsTrue T.tells → (r : Content) (os : List Thing) (m : Map) → removals.now ≡ r.removals → IsGroup r os → IsOpened r os m (T.story tree.old).now
         → Since (λ c. IsRecovered c (applied r os m)) (T.story tree.old) (T.story tree.new) × IsOpened r os m (T.story tree.new).now }
+    ensures asked { IsTrue T.tells → Asked removals.now (T.story tree.old) (T.story tree.new) }
     ensures ok { IsTrue T.tells → OnOk result ((T.story tree.new).now ≡ removed removals.now (T.story tree.old).now) }
     ensures count { T.faults tree.old ≤ T.faults tree.new }
     ensures cause { IsErr result → Rose (T.faults tree.old) (T.faults tree.new) }
@@ -41,6 +43,7 @@ pub fn place_all<T: Tree>(
     requires there { IsTrue T.tells → (i : ℕ) → i < length placements.now → IsSome ((T.story tree.old).now.holds (stage_path paths.now.group i)) }
     ensures moments { IsTrue T.tells → (r : Content) (os : List Thing) (m : Map) → placements.now ≡ r.placements → IsGroup r os → IsOpened r os m (T.story tree.old).now
         → Since (λ c. IsRecovered c (applied r os m)) (T.story tree.old) (T.story tree.new) × IsOpened r os m (T.story tree.new).now }
+    ensures asked { IsTrue T.tells → Asked (map path_of placements.now) (T.story tree.old) (T.story tree.new) }
     ensures ok { IsTrue T.tells → OnOk result ((T.story tree.new).now ≡ placed paths.now.group 0 placements.now (T.story tree.old).now) }
     ensures count { T.faults tree.old ≤ T.faults tree.new }
     ensures cause { IsErr result → Rose (T.faults tree.old) (T.faults tree.new) }

@@ -192,6 +192,13 @@ judged_words c taken g r h =
       stages = λ i p at. subst (λ (k : ℕ). IsStaged (c (stage_path g k)) p) (zero_plus i) (stages_words c g 0 a.0.placements (unit_ok _ d.0 d.1) i p at);
     })
 
+-- a footprint that passed is free
+pub free_if_passed : (taken : List (List ℕ)) (g : ℕ) (r : Content) → paths_judged taken g r ≡ fine → are_free taken (footprint r) ≡ true
+unfolding paths_judged
+free_if_passed taken g r h =
+    let p = chosen_ok (eqb r.group g && are_free taken (footprint r)) fine (faults.BadRecord g) tt h in
+    (and_true (eqb r.group g) (are_free taken (footprint r)) p.0).1
+
 pub judged_if : (c : Map) (taken : List (List ℕ)) (g : ℕ) (r : Content) → IsInForm c taken g r → judged c taken g ≡ Ok r
 unfolding record_read
 judged_if c taken g r h =

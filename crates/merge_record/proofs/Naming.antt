@@ -3,9 +3,9 @@ use Rattle.std.proofs.Common.{◌≡◌, ◌<◌, ◌^◌, ℕ, true, List, [], 
 use Rattle.std.proofs.lemmas.List.{append-nil, take_at, drop_at, length-append}
 use Rattle.byteorder.specs.Endian.{big_number, big_bytes}
 use Rattle.byteorder.specs.Numbers.{big_number-reads_back}
-use Rattle.hex.specs.Hex.{decode_of, lower_digits}
+use Rattle.hex.specs.Hex.{decode_of, decode_sized, lower_digits}
 use Rattle.hex.specs.declared.error.FromHexError.{FromHexError}
-use Rattle.hex.proofs.HexLemmas.{decode_of-encode_lower, length-encode_with}
+use Rattle.hex.proofs.HexLemmas.{decode_of-encode_lower, decode_sized-encode_lower, length-encode_with}
 use Rattle.file_tree.specs.Paths.{is_below}
 use Rattle.merge_record.specs.Names.{Part, Gate, Changes, Token, Stage, IsPart, digits, folder, jobs, named, part_name, part_path}
 use Rattle.merge_record.specs.Spelling.{number_text}
@@ -85,3 +85,21 @@ part_path-injective g h p q lg lh hp hq e =
 pub named-below : (g : ℕ) (name : List ℕ) → is_below jobs (named g name) ≡ true
 unfolding named folder
 named-below g name = refl
+
+-- the digits of a number are read as that number
+pub digits_decoded : (n : ℕ) (text : List ℕ) → text ≡ digits n → decode_sized text 4 ≡ Ok (number_text 4 n)
+unfolding digits
+digits_decoded n text e = ap (λ (t : List ℕ). decode_sized t 4) e ∙ decode_sized-encode_lower (number_text 4 n) 4 (length-number_text 4 n) (IsBytes-number_text 4 n)
+
+pub number_read : (n : ℕ) → n < 2 ^ 32 → big_number 4 (number_text 4 n) ≡ n
+unfolding number_text
+number_read n lt = ap (big_number 4) (sym (append-nil (big_bytes 4 n))) ∙ big_number-reads_back 4 n [] lt
+
+-- where the digits of a group stand in its paths
+pub digits_at : (g : ℕ) (name : List ℕ) → take 8 (drop 21 (named g name)) ≡ digits g
+unfolding named folder
+digits_at g name = take_at (digits g) (47 ∷ name) 8 (length-digits g)
+
+pub named_long : (g : ℕ) (name : List ℕ) → 29 < length (named g name)
+unfolding named
+named_long g name = omega (arith, length-append (folder g) (47 ∷ name), length-folder g)

@@ -1,4 +1,4 @@
-ghost use Rattle.std.specs.Prelude.{◌≡◌, ◌≤◌, ◌<◌, ◌^◌, ◌∷◌, ◌++◌, [], false, length, map, not, IfOk, IsErrOf, IsTrue, OnOk};
+ghost use Rattle.std.specs.Prelude.{◌≡◌, ◌≤◌, ◌<◌, ◌^◌, ◌∷◌, ◌++◌, [], false, length, map, not, true, IfOk, IsErrOf, IsTrue, OnOk};
 ghost use Rattle.std.specs.Bool.{OnTrue};
 ghost use Rattle.file_tree.specs.Disk.{Rose};
 ghost use Rattle.merge_record.specs.Judging.{Agrees, HasSame, are_free, footprint, is_free, is_in, is_staged, judged, judged_all, meets_jobs, path_of, paths_judged, record_in, record_read, stages_judged};
@@ -177,6 +177,8 @@ pub fn judge<T: Tree>(
 ) -> Result<Record, JudgeFault>
     ensures answer { IsTrue T.tells → Agrees (λ r. r) result (judged (T.story tree.old).now.holds taken.old group) }
     ensures taken { IfOk result (λ r. HasSame taken.new (footprint r ++ taken.old)) }
+    ensures free { IfOk result (λ r. are_free taken.old (footprint r) ≡ true) }
+    ensures few { IfOk result (λ r. length r.placements < 2 ^ 32) }
     ensures same { IsTrue T.tells → T.story tree.new ≡ T.story tree.old }
     ensures count { T.faults tree.old ≤ T.faults tree.new }
     ensures cause { IsErrOf result JudgeFault.Failed → Rose (T.faults tree.old) (T.faults tree.new) }

@@ -24,9 +24,11 @@ pub use fault::{JudgeFault, RecordFault};
 pub use judging::{judge, judge_all};
 pub use laws::{judged_in_form, one_spelling, open_groups_rise, recovered_once};
 pub use limits::{MOST_FILE_BYTES, MOST_GROUP_PATHS, MOST_RECORD_BYTES};
-pub use names::{JOBS, gate_path, jobs_folder, names_differ, record_path, stage_path, token_path};
+pub use names::{
+    JOBS, gate_path, group_of_gate, jobs_folder, names_differ, record_path, stage_path, token_path,
+};
 pub use open::is_open_gate;
-pub use reading::decode;
+pub use reading::{decode, path_from};
 pub use record::{OwnerKey, Placement, Record};
 pub use taken::TakenPaths;
 pub use writing::{decode_encode, encode};

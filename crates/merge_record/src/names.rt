@@ -1,4 +1,4 @@
-ghost use Rattle.std.specs.Prelude.{◌≡◌, ◌<◌, ◌^◌, ◌++◌, ◌∷◌, ℕ, List, true, codes, string_bytes, IfOk};
+ghost use Rattle.std.specs.Prelude.{◌≡◌, ◌<◌, ◌^◌, ◌++◌, ◌∷◌, ℕ, List, Some, true, codes, string_bytes, IfOk, MatchOption};
 ghost use Rattle.file_tree.specs.Paths.{is_below, is_path};
 ghost use Rattle.merge_record.specs.Names.{IsPart, Part, digits, gate_path, jobs, named, part_path, record_path, stage_path, token_path};
 
@@ -63,6 +63,36 @@ pub fn gate_path(alloc: Global, group: u32) -> Result<Path, AllocError>
     ensures { IfOk result (λ p. p ≡ gate_path group) }
 {
     named(alloc, group, "gate")
+}
+
+/// The number that eight hex digits in lower case tell.
+#[tactic(auto, unfolding(crate::specs::Names::digits, crate::specs::Spelling::number_text))]
+fn number_in(text: &[u8]) -> Option<u32>
+    ensures { (n : ℕ) → n < 2 ^ 32 → text.now ≡ digits n → result ≡ Some n }
+{
+    let mut bytes = [0u8; 4];
+    match hex::decode_to_slice(text, &mut bytes) {
+        Ok(()) => Some(BigEndian::read_u32(&bytes)),
+        Err(_) => None,
+    }
+}
+
+/// The group whose gate the path is, if it is one.
+pub fn group_of_gate(alloc: Global, path: &Path) -> Result<Option<u32>, AllocError>
+    ensures { IfOk result (λ found. MatchOption found ((g : ℕ) → g < 2 ^ 32 → path.now ≡ gate_path g → ⊥) (λ g. (g < 2 ^ 32) × (path.now ≡ gate_path g))) }
+{
+    let text = path.text().as_bytes();
+    if text.len() < 29 {
+        return Ok(None);
+    }
+    let Some(group) = number_in(&text[21..29]) else {
+        return Ok(None);
+    };
+    let gate = gate_path(alloc, group)?;
+    if gate == *path {
+        return Ok(Some(group));
+    }
+    Ok(None)
 }
 
 /// Where the record of a group stands.

@@ -127,8 +127,8 @@ fn kind_of(size: usize, bytes: &[u8]) -> Result<(Kind, &[u8]), RecordFault>
     }
 }
 
-/// The path that the text is, if it is one.
-fn path_from(alloc: Global, text: &[u8]) -> Result<Option<Path>, AllocError>
+/// The path that the bytes spell, if they spell one.
+pub fn path_from(alloc: Global, text: &[u8]) -> Result<Option<Path>, AllocError>
     ensures { IfOk result (λ found. MatchOption found (is_utf8 text.now && is_path text.now ≡ false)
         (λ p. (p ≡ text.now) × (is_utf8 text.now && is_path text.now ≡ true))) }
 {

@@ -1,19 +1,21 @@
-use Rattle.std.proofs.Common.{◌≡◌, ◌<◌, ◌∙◌, ℕ, List, ap, arith, get_or, length, add-one, refl, subst, sym, true, false}
+use Rattle.std.proofs.Common.{◌≡◌, ◌<◌, ◌∙◌, ℕ, List, ap, arith, get_or, length, add-one, map, refl, subst, suc, sym, true, false}
 use Rattle.std.specs.Prelude.{IsSome}
 use Rattle.file_tree.specs.Disk.{Moves, Story, write}
 use Rattle.file_tree.specs.Paths.{is_below}
+use Rattle.merge_record.specs.Judging.{path_of}
 use Rattle.merge_record.specs.Names.{jobs, stage_path}
 use Rattle.merge_record.specs.Names.Part.{Stage}
 use Rattle.merge_record.specs.declared.record.Placement.{Placement}
 use Rattle.group_merge.specs.Files.{Files}
 use Rattle.group_merge.specs.Phases.{IsOpened}
+use Rattle.group_merge.proofs.Asked.{asked_whole, placed_asked}
 use Rattle.group_merge.proofs.Stages.{placed_step, stage_at, stage_stays}
 use Rattle.group_merge.proofs.Survives.{journal_apart, part_below}
 use Rattle.group_merge.proofs.Walk.{After, has_at, opened_moves, opened_start, own_placement, packed}
 use Rattle.group_merge.proofs.changes.place_all.Goals as goal
 
 pub loop-index-init : goal.loop-index-init
-loop-index-init g c = ((λ t r os m same is opened. opened_start r os m (g.T.Tree.story c.args.tree.now) is opened), (λ t. refl), (λ t. c.requires.there t), omega arith)
+loop-index-init g c = ((λ t r os m same is opened. opened_start r os m (g.T.Tree.story c.args.tree.now) is opened), (λ t. refl), (λ t. c.requires.there t), omega arith, λ t new asked. asked)
 
 pub place-requires-clause-differ : goal.place-requires-clause-differ
 place-requires-clause-differ g c e =
@@ -68,8 +70,21 @@ loop-index-preserved g c =
           let held = ap (λ (s : Story). s.now.holds (stage_path c.args.paths.now.group i)) (c.in_ok-place.ensures.ok t) in
           subst IsSome (sym held) (stage_stays (g.T.Tree.story c.loop-index.tree).now _ _ c.args.paths.now.group i (subst (λ (q : List ℕ). is_below jobs q ≡ false) to clear) (c.loop-index.invariant.2 t i lt')),
       omega (arith, c.loop-index.invariant.3, c.place.ensures.count),
+      λ t.
+          let moved = subst (λ (q : List ℕ). Moves (g.T.Tree.story c.loop-index.tree) q (g.T.Tree.story c.place.new.self)) (sym to) (c.place.ensures.moved t) in
+          placed_asked c.loop-index.index c.args.placements.now c.index-placements-index.result (g.T.Tree.story c.args.tree.now) (g.T.Tree.story c.loop-index.tree) (g.T.Tree.story c.place.new.self) c.loop-index-test.true c.index-placements-index.is (c.loop-index.invariant.4 t) moved,
     )
 
 pub returns-clause-moments : goal.returns-clause-moments
 returns-clause-moments g c t r os m same is opened =
     packed (IsOpened r os m) (After r os m) (g.T.Tree.story c.args.tree.now) (g.T.Tree.story c.loop-index.tree) (c.loop-index.invariant.0 t r os m same is opened)
+
+pub returns-in_err-place-clause-asked : goal.returns-in_err-place-clause-asked
+returns-in_err-place-clause-asked g c t =
+    let to = ap (λ (p : Placement). p.path) c.index-placements-index.is in
+    let moved = subst (λ (q : List ℕ). Moves (g.T.Tree.story c.loop-index.tree) q (g.T.Tree.story c.place.new.self)) (sym to) (c.place.ensures.moved t) in
+    asked_whole (suc c.loop-index.index) (map path_of c.args.placements.now) (g.T.Tree.story c.args.tree.now) (g.T.Tree.story c.place.new.self)
+    (placed_asked c.loop-index.index c.args.placements.now c.index-placements-index.result (g.T.Tree.story c.args.tree.now) (g.T.Tree.story c.loop-index.tree) (g.T.Tree.story c.place.new.self) c.loop-index-test.true c.index-placements-index.is (c.loop-index.invariant.4 t) moved)
+
+pub returns-clause-asked : goal.returns-clause-asked
+returns-clause-asked g c t = asked_whole c.loop-index.index (map path_of c.args.placements.now) (g.T.Tree.story c.args.tree.now) (g.T.Tree.story c.loop-index.tree) (c.loop-index.invariant.4 t)

@@ -1,0 +1,10 @@
+pub mod Accepted
+pub mod Carried
+pub mod Images
+pub mod Lists
+pub mod Places
+pub mod Records
+pub mod Steps
+pub mod Stretches
+pub mod Survives
+pub mod Turns

@@ -1,0 +1,198 @@
+-- Membership told in two ways, and lists without repetition.
+use Rattle.std.proofs.Common.{◌≡◌, ◌⊎◌, ◌<◌, ◌≤◌, ◌+◌, ◌^◌, ℕ, zero, suc, Bool, true, false, cond, List, [], ◌∷◌, ◌++◌, Option, None, Some, inl, inr, refl, sym, ap, subst, ◌∙◌, arith, add-one, append_assoc, append-nil, drop, drop-cons, get_or, length, map, take}
+use Rattle.std.specs.Prelude.{◌↔◌, Contains, MatchOption, filter}
+use Rattle.std.specs.Cmp.Lexicographic.{slice_cmp}
+use Rattle.std.specs.List.{AllByRecursion}
+use Rattle.std.specs.List.Sorted.{IsStrictlySortedBy}
+use Rattle.std.specs.Ordering.{is_eq, nat_cmp}
+use Rattle.std.specs.declared.cmp.Ordering.TheVariants.{Less}
+use Rattle.std.proofs.lemmas.Bool.{cond-false, cond-true}
+use Rattle.std.proofs.lemmas.List.{drop_all}
+use Rattle.std.proofs.lemmas.Map.Text.{is_eq-slice_cmp}
+use Rattle.std.proofs.lemmas.Slice.Eq.{bytes_eq-Decides}
+use Rattle.basics.specs.Members.{AreDistinct, Has}
+use Rattle.basics.proofs.Membership.{has-append_cases, has-append_left, has-append_right}
+use Rattle.merge_record.specs.Names.{gate_path}
+use Rattle.group_merge.proofs.Walk.{has_at}
+use Rattle.recovery.proofs.Places.{gates_same}
+
+pub has_if_contains : {A : Type 0} (xs : List A) (x : A) → Contains xs x → Has xs x
+has_if_contains {A = A} xs x c = go xs c.0 c.1 c.2
+  where
+    go : (ys : List A) (k : ℕ) → k < length ys → get_or ys k x ≡ x → Has ys x
+    go [] k lt e = absurd (omega arith)
+    go (y ∷ ys) zero lt e = inl e
+    go (y ∷ ys) (suc k) lt e = inr (go ys k (omega arith) e)
+
+pub contains_if_has : {A : Type 0} (xs : List A) (x : A) → Has xs x → Contains xs x
+contains_if_has [] x has = absurd has
+contains_if_has (y ∷ ys) x (inl e) = (0, omega arith, e)
+contains_if_has (y ∷ ys) x (inr h) = let c = contains_if_has ys x h in (suc c.0, omega (arith, c.1), c.2)
+
+-- ---- a loop over a list that makes another
+
+drop_next : (gs : List ℕ) (i : ℕ) → i < length gs → drop i gs ≡ get_or gs i 0 ∷ drop (i + 1) gs
+drop_next gs i lt = rw add-one (drop-cons gs i 0 lt)
+
+pub mapped_more : {A : Type 0} (f : ℕ → A) (front : List A) (gs : List ℕ) (i : ℕ) (x : A) (total : List A) → i < length gs → x ≡ f (get_or gs i 0)
+    → front ++ map f (drop i gs) ≡ total → (front ++ x ∷ []) ++ map f (drop (i + 1) gs) ≡ total
+mapped_more {A = A} f front gs i x total lt is so_far =
+    append_assoc front (x ∷ []) (map f (drop (i + 1) gs))
+    ∙ (ap (λ (y : A). front ++ y ∷ map f (drop (i + 1) gs)) is
+    ∙ (ap (λ (l : List ℕ). front ++ map f l) (sym (drop_next gs i lt)) ∙ so_far))
+
+pub mapped_end : {A : Type 0} (f : ℕ → A) (front : List A) (gs : List ℕ) (i : ℕ) (total : List A) → length gs ≤ i → front ++ map f (drop i gs) ≡ total → front ≡ total
+mapped_end f front gs i total le so_far = sym (append-nil front) ∙ (ap (λ (l : List ℕ). front ++ map f l) (sym (drop_all i gs le)) ∙ so_far)
+
+pub kept_more : (p : ℕ → Bool) (front gs : List ℕ) (i x : ℕ) (total : List ℕ) → i < length gs → x ≡ get_or gs i 0 → p x ≡ true
+    → front ++ filter p (drop i gs) ≡ total → (front ++ x ∷ []) ++ filter p (drop (i + 1) gs) ≡ total
+kept_more p front gs i x total lt is passes so_far =
+    append_assoc front (x ∷ []) (filter p (drop (i + 1) gs))
+    ∙ (ap (λ (l : List ℕ). front ++ l) (sym (cond-true (p x) (x ∷ filter p (drop (i + 1) gs)) (filter p (drop (i + 1) gs)) passes))
+    ∙ (ap (λ (y : ℕ). front ++ filter p (y ∷ drop (i + 1) gs)) is
+    ∙ (ap (λ (l : List ℕ). front ++ filter p l) (sym (drop_next gs i lt)) ∙ so_far)))
+
+pub kept_pass : (p : ℕ → Bool) (front gs : List ℕ) (i x : ℕ) (total : List ℕ) → i < length gs → x ≡ get_or gs i 0 → p x ≡ false
+    → front ++ filter p (drop i gs) ≡ total → front ++ filter p (drop (i + 1) gs) ≡ total
+kept_pass p front gs i x total lt is fails so_far =
+    ap (λ (l : List ℕ). front ++ l) (sym (cond-false (p x) (x ∷ filter p (drop (i + 1) gs)) (filter p (drop (i + 1) gs)) fails))
+    ∙ (ap (λ (y : ℕ). front ++ filter p (y ∷ drop (i + 1) gs)) is
+    ∙ (ap (λ (l : List ℕ). front ++ filter p l) (sym (drop_next gs i lt)) ∙ so_far))
+
+pub kept_end : (p : ℕ → Bool) (front gs : List ℕ) (i : ℕ) (total : List ℕ) → length gs ≤ i → front ++ filter p (drop i gs) ≡ total → front ≡ total
+kept_end p front gs i total le so_far = sym (append-nil front) ∙ (ap (λ (l : List ℕ). front ++ filter p l) (sym (drop_all i gs le)) ∙ so_far)
+
+-- ---- what a filter keeps
+
+pub filter_has : (p : ℕ → Bool) (gs : List ℕ) (h : ℕ) → Has (filter p gs) h → Has gs h × (p h ≡ true)
+filter_has p [] h has = absurd has
+filter_has p (g ∷ gs) h has = go (p g) refl (λ k. filter_has p gs h k) has
+  where
+    go : (b : Bool) → p g ≡ b → (Has (filter p gs) h → Has gs h × (p h ≡ true)) → Has (cond b (g ∷ filter p gs) (filter p gs)) h → Has (g ∷ gs) h × (p h ≡ true)
+    go true e further (inl same) = (inl same, ap p (sym same) ∙ e)
+    go true e further (inr k) = let rest = further k in (inr rest.0, rest.1)
+    go false e further k = let rest = further k in (inr rest.0, rest.1)
+
+pub has_filter : (p : ℕ → Bool) (gs : List ℕ) (h : ℕ) → Has gs h → p h ≡ true → Has (filter p gs) h
+has_filter p [] h has passes = absurd has
+has_filter p (g ∷ gs) h (inl same) passes =
+    subst (λ (l : List ℕ). Has l h) (sym (cond-true (p g) (g ∷ filter p gs) (filter p gs) (ap p same ∙ passes))) (inl same)
+has_filter p (g ∷ gs) h (inr k) passes = go (p g) refl (has_filter p gs h k passes)
+  where
+    go : (b : Bool) → p g ≡ b → Has (filter p gs) h → Has (filter p (g ∷ gs)) h
+    go true e rest = subst (λ (l : List ℕ). Has l h) (sym (cond-true (p g) (g ∷ filter p gs) (filter p gs) e)) (inr rest)
+    go false e rest = subst (λ (l : List ℕ). Has l h) (sym (cond-false (p g) (g ∷ filter p gs) (filter p gs) e)) rest
+
+pub distinct_filter : (p : ℕ → Bool) (gs : List ℕ) → AreDistinct gs → AreDistinct (filter p gs)
+distinct_filter p [] d = tt
+distinct_filter p (g ∷ gs) d = go (p g) refl (distinct_filter p gs d.1)
+  where
+    go : (b : Bool) → p g ≡ b → AreDistinct (filter p gs) → AreDistinct (filter p (g ∷ gs))
+    go true e rest = subst (λ (l : List ℕ). AreDistinct l) (sym (cond-true (p g) (g ∷ filter p gs) (filter p gs) e)) ((λ has. d.0 (filter_has p gs g has).0), rest)
+    go false e rest = subst (λ (l : List ℕ). AreDistinct l) (sym (cond-false (p g) (g ∷ filter p gs) (filter p gs) e)) rest
+
+-- ---- the front of a list, one element at a time
+
+pub take_cases : {A : Type 0} (xs : List A) (i : ℕ) (p q : A) → i < length xs → p ≡ get_or xs i p → Has (take (suc i) xs) q → Has (take i xs) q ⊎ (p ≡ q)
+take_cases [] i p q lt is has = absurd (omega arith)
+take_cases (x ∷ xs) zero p q lt is (inl e) = inr (is ∙ e)
+take_cases (x ∷ xs) zero p q lt is (inr none) = absurd none
+take_cases (x ∷ xs) (suc i) p q lt is (inl e) = inl (inl e)
+take_cases (x ∷ xs) (suc i) p q lt is (inr k) = elim (take_cases xs i p q (omega arith) is k) [ inl had ↦ inl (inr had) | inr e ↦ inr e ]
+
+take_keeps : {A : Type 0} (xs : List A) (i : ℕ) (q : A) → Has (take i xs) q → Has (take (suc i) xs) q
+take_keeps [] zero q has = absurd has
+take_keeps [] (suc i) q has = absurd has
+take_keeps (x ∷ xs) zero q has = absurd has
+take_keeps (x ∷ xs) (suc i) q (inl e) = inl e
+take_keeps (x ∷ xs) (suc i) q (inr k) = inr (take_keeps xs i q k)
+
+take_here : {A : Type 0} (xs : List A) (i : ℕ) (p : A) → i < length xs → p ≡ get_or xs i p → Has (take (suc i) xs) p
+take_here [] i p lt is = absurd (omega arith)
+take_here (x ∷ xs) zero p lt is = inl (sym is)
+take_here (x ∷ xs) (suc i) p lt is = inr (take_here xs i p (omega arith) is)
+
+not_before : {A : Type 0} (xs : List A) (i : ℕ) (p : A) → AreDistinct xs → i < length xs → p ≡ get_or xs i p → Has (take i xs) p → ⊥
+not_before [] i p d lt is has = absurd (omega arith)
+not_before (x ∷ xs) zero p d lt is has = has
+not_before {A = A} (x ∷ xs) (suc i) p d lt is (inl e) = d.0 (subst (λ (y : A). Has xs y) (sym e) (has_at xs i p (omega arith) is))
+not_before (x ∷ xs) (suc i) p d lt is (inr k) = not_before xs i p d.1 (omega arith) is k
+
+distinct_push : (gs : List ℕ) (g : ℕ) → AreDistinct gs → (Has gs g → ⊥) → AreDistinct (gs ++ g ∷ [])
+distinct_push [] g d none = ((λ has. has), tt)
+distinct_push (x ∷ gs) g d none = (
+  λ has. elim (has-append_cases gs (g ∷ []) x has) [ inl k ↦ d.0 k | inr k ↦ elim k [ inl e ↦ none (inl (sym e)) | inr nothing ↦ nothing ] ],
+  distinct_push gs g d.1 (λ has. none (inr has)),
+)
+
+take_all : {A : Type 0} (xs : List A) (i : ℕ) → length xs ≤ i → take i xs ≡ xs
+take_all [] zero le = refl
+take_all [] (suc i) le = refl
+take_all (x ∷ xs) zero le = absurd (omega arith)
+take_all {A = A} (x ∷ xs) (suc i) le = ap (λ (l : List A). x ∷ l) (take_all xs i (omega arith))
+
+-- the groups whose gate is among the first i paths
+pub record AreGathered (paths : List (List ℕ)) (i : ℕ) (gs : List ℕ) : Type 0 where
+  pub among : (h : ℕ) → Has gs h → (h < 2 ^ 32) × Has (take i paths) (gate_path h)
+  pub all : (h : ℕ) → h < 2 ^ 32 → Has (take i paths) (gate_path h) → Has gs h
+  pub once : AreDistinct gs
+
+pub gathered_start : (paths : List (List ℕ)) → AreGathered paths 0 []
+gathered_start paths = record { among = λ h has. absurd has; all = λ h small has. absurd (none paths h has); once = tt }
+  where
+    none : (ps : List (List ℕ)) (h : ℕ) → Has (take 0 ps) (gate_path h) → ⊥
+    none [] h has = has
+    none (p ∷ ps) h has = has
+
+pub gathered_more : (paths : List (List ℕ)) (i g : ℕ) (p : List ℕ) (gs : List ℕ) → AreDistinct paths → i < length paths → p ≡ get_or paths i p → g < 2 ^ 32 → p ≡ gate_path g
+    → AreGathered paths i gs → AreGathered paths (i + 1) (gs ++ g ∷ [])
+gathered_more paths i g p gs d lt is small gate k = rw add-one (record {
+  among = λ h has. elim (has-append_cases gs (g ∷ []) h has) [
+    | inl had ↦ (let b = k.among h had in (b.0, take_keeps paths i (gate_path h) b.1))
+    | inr last ↦ elim last [
+      | inl e ↦ (subst (λ (n : ℕ). n < 2 ^ 32) e small, subst (λ (q : List ℕ). Has (take (suc i) paths) q) (gate ∙ ap gate_path e) (take_here paths i p lt is))
+      | inr none ↦ absurd none
+    ]
+  ];
+  all = λ h hs has. elim (take_cases paths i p (gate_path h) lt is has) [
+    | inl had ↦ has-append_left gs (g ∷ []) h (k.all h hs had)
+    | inr e ↦ has-append_right gs (g ∷ []) h (inl (gates_same g h small hs (sym gate ∙ e)))
+  ];
+  once = distinct_push gs g k.once (λ had. not_before paths i p d lt is (subst (λ (q : List ℕ). Has (take i paths) q) (sym gate) (k.among g had).1));
+})
+
+pub gathered_pass : (paths : List (List ℕ)) (i : ℕ) (p : List ℕ) (gs : List ℕ) → i < length paths → p ≡ get_or paths i p → ((h : ℕ) → h < 2 ^ 32 → p ≡ gate_path h → ⊥)
+    → AreGathered paths i gs → AreGathered paths (i + 1) gs
+gathered_pass paths i p gs lt is none k = rw add-one (record {
+  among = λ h had. let b = k.among h had in (b.0, take_keeps paths i (gate_path h) b.1);
+  all = λ h hs has. elim (take_cases paths i p (gate_path h) lt is has) [ inl had ↦ k.all h hs had | inr e ↦ absurd (none h hs e) ];
+  once = k.once;
+})
+
+pub gathered_end : (paths : List (List ℕ)) (i : ℕ) (gs : List ℕ) → length paths ≤ i → AreGathered paths i gs → (h : ℕ) → Has gs h ↔ ((h < 2 ^ 32) × Has paths (gate_path h))
+gathered_end paths i gs le k h = (
+  λ has. let b = k.among h has in (b.0, subst (λ (l : List (List ℕ)). Has l (gate_path h)) (take_all paths i le) b.1),
+  λ b. k.all h b.0 (subst (λ (l : List (List ℕ)). Has l (gate_path h)) (sym (take_all paths i le)) b.1),
+)
+
+-- ---- a sorted list has no element twice
+
+all_has : {A : Type 0} (P : A → Type 0) (xs : List A) (x : A) → AllByRecursion P xs → Has xs x → P x
+all_has P [] x all has = absurd has
+all_has P (y ∷ ys) x all (inl e) = subst P e all.0
+all_has P (y ∷ ys) x all (inr k) = all_has P ys x all.1 k
+
+pub distinct_if_sorted : (ps : List (List ℕ)) → IsStrictlySortedBy (slice_cmp nat_cmp) ps → AreDistinct ps
+unfolding IsStrictlySortedBy
+distinct_if_sorted [] h = tt
+distinct_if_sorted (p ∷ ps) h = (
+  λ has.
+      let less : slice_cmp nat_cmp p p ≡ Less = all_has (λ (q : List ℕ). slice_cmp nat_cmp p q ≡ Less) ps p h.0 has in
+      absurd (cc (ap is_eq less, is_eq-slice_cmp p p, (bytes_eq-Decides p p).1 refl)),
+  distinct_if_sorted ps h.1,
+)
+
+-- what is known where nothing was found
+pub not_found : (found : Option ℕ) (P : Type 0) (Q : ℕ → Type 0) → ((g : ℕ) → found ≡ Some g → ⊥) → MatchOption found P Q → P
+not_found None P Q none h = h
+not_found (Some g) P Q none h = absurd (none g refl)

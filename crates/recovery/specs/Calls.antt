@@ -1,0 +1,21 @@
+-- The records that change nothing, and the disk once they are put.
+use Rattle.std.specs.Prelude.{ℕ, List, [], ◌∷◌, Some}
+use Rattle.file_tree.specs.Disk.{Disk, write}
+use Rattle.file_tree.specs.Thing.{Thing}
+use Rattle.merge_record.specs.Content.{Content}
+use Rattle.merge_record.specs.Names.{record_path}
+use Rattle.merge_record.specs.Spelling.{spelling}
+use Rattle.group_merge.specs.Group.{plain}
+
+-- what a group without paths does
+abbrev pub nothing : ℕ → Content
+nothing g = record { group = g; removals = []; placements = [] }
+
+-- the record of a group without paths
+abbrev pub empty_record : ℕ → Thing
+empty_record g = plain (spelling (nothing g))
+
+-- each of these groups has a record without paths
+abbrev pub emptied : List ℕ → Disk → Disk
+emptied [] d = d
+emptied (g ∷ gs) d = emptied gs (write d (record_path g) (Some (empty_record g)))

@@ -1,0 +1,5 @@
+pub mod Calls
+pub mod Faults
+pub mod Found
+pub mod Phases
+pub mod Promise

@@ -1,0 +1,60 @@
+ghost use Rattle.std.specs.Prelude.{◌≡◌, ◌≤◌, ℕ, List, map, IfOk, IsErrOf, IsTrue, OnOk};
+ghost use Rattle.file_tree.specs.Disk.{IsUntouched, Map, Rose};
+ghost use Rattle.file_tree.specs.Moments.{Since};
+ghost use Rattle.merge_record.specs.Content.{Content};
+ghost use Rattle.merge_record.specs.Names.{gate_path};
+ghost use Rattle.merge_record.specs.Recovered.{IsRecovered};
+ghost use Rattle.group_merge.specs.Group.{cleared};
+ghost use Rattle.group_merge.specs.Phases.{IsShut};
+ghost use Rattle.recovery.specs.Found.{AreGates, IsWork};
+ghost use Rattle.recovery.specs.Phases.{IsMended, mended};
+
+use file_tree::{Path, Tree, TreeFault};
+use group_merge::remove_all;
+use merge_record::{gate_path, jobs_folder};
+use std::alloc::{AllocError, Global};
+
+/// The gates of the groups.
+fn gate_paths(alloc: Global, groups: &[u32]) -> Result<Vec<Path>, AllocError>
+    ensures { IfOk result (λ v. v.items ≡ map gate_path groups.now) }
+{
+    let mut paths = Vec::new(alloc);
+    for group in groups {
+        paths.push(gate_path(alloc, *group)?)?;
+    }
+    Ok(paths)
+}
+
+/// Removes the gates, and syncs.
+pub(crate) fn remove_gates<T: Tree>(
+    alloc: Global,
+    tree: &mut T,
+    groups: &[u32],
+) -> Result<(), TreeFault>
+    ensures moments { IsTrue T.tells → (a : Map) (r : Content) → IsWork a r → AreGates a groups.now → IsMended a r (T.story tree.old).now
+        → Since (λ c. IsRecovered c (mended a r)) (T.story tree.old) (T.story tree.new) }
+    ensures ok { IsTrue T.tells → (a : Map) (r : Content) → IsWork a r → AreGates a groups.now → IsMended a r (T.story tree.old).now
+        → OnOk result (IsShut (mended a r) (T.story tree.new).now) }
+    ensures count { T.faults tree.old ≤ T.faults tree.new }
+    ensures cause { IsErrOf result TreeFault.Failed → Rose (T.faults tree.old) (T.faults tree.new) }
+{
+    let paths = gate_paths(alloc, groups)?;
+    remove_all(tree, &paths)?;
+    tree.sync()?;
+    Ok(())
+}
+
+/// Removes all that is below the journal's folder, and syncs.
+pub fn clear_journal<T: Tree>(alloc: Global, tree: &mut T) -> Result<(), TreeFault>
+    ensures moments { IsTrue T.tells → (m : Map) → IsShut m (T.story tree.old).now → Since (λ c. IsRecovered c (cleared m)) (T.story tree.old) (T.story tree.new) }
+    ensures cleared { IsTrue T.tells → (m : Map) → IsShut m (T.story tree.old).now → OnOk result ((q : List ℕ) → (T.story tree.new).now.holds q ≡ cleared m q) }
+    ensures settled { IsTrue T.tells → OnOk result (IsUntouched (T.story tree.new).now) }
+    ensures count { T.faults tree.old ≤ T.faults tree.new }
+    ensures cause { IsErrOf result TreeFault.Failed → Rose (T.faults tree.old) (T.faults tree.new) }
+{
+    let jobs = jobs_folder(alloc)?;
+    let paths = tree.list(&jobs)?;
+    remove_all(tree, &paths)?;
+    tree.sync()?;
+    Ok(())
+}
