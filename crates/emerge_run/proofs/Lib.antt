@@ -1,8 +1,12 @@
+pub mod Alone
 pub mod Asked
 pub mod Built
 pub mod Endings
-pub mod Files
+pub mod Free
+pub mod Grouped
+pub mod Lines
 pub mod Listed
+pub mod Nested
 pub mod OrderTexts
 pub mod Parts
 pub mod WordParts

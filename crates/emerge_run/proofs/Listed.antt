@@ -1,14 +1,10 @@
 -- What the list of the paths below a path says of the tree.
-use Rattle.std.proofs.Common.{◌≡◌, ◌↔◌, ◌==◌, ℕ, Bool, true, false, List, [], length, get_or, arith, sym}
-use Rattle.std.specs.Prelude.{Contains, IsSome, MatchBool}
+use Rattle.std.proofs.Common.{◌≡◌, ◌==◌, ℕ, Bool, true, false, List, [], length, get_or, arith, sym}
+use Rattle.std.specs.Prelude.{MatchBool}
 use Rattle.std.proofs.lemmas.Bool.{eqb-true, eqb-false}
 use Rattle.std.proofs.lemmas.List.Elements.{Contains-get_or}
 use Rattle.file_tree.specs.Disk.{HasBelow, Map}
-use Rattle.file_tree.specs.Paths.{is_below}
-
--- the list has just the paths below p that hold something
-abbrev pub Lists : Map → List ℕ → List (List ℕ) → Type 0
-Lists m p items = (q : List ℕ) → Contains items q ↔ ((is_below p q ≡ true) × IsSome (m q))
+use Rattle.emerge_run.specs.Installed.{Lists}
 
 pub bare_by_list : (m : Map) (p : List ℕ) (items : List (List ℕ)) (b : Bool) → Lists m p items → b ≡ (length items == 0) → MatchBool b (HasBelow m p → ⊥) (HasBelow m p)
 bare_by_list m p items true h e =

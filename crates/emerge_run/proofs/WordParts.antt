@@ -3,7 +3,8 @@ use Rattle.std.proofs.Common.{◌≡◌, ◌≢◌, ◌<◌, ◌&&◌, Bool, tru
 use Rattle.std.specs.List.{list_all}
 use Rattle.std.proofs.lemmas.Bool.{and_parts, leb-true}
 use Rattle.build_pool.specs.declared.orders.Order.{Order}
-use Rattle.emerge_run.specs.Words.{is_good, is_lower, is_run, most_digits, most_name_bytes, is_digit}
+use Rattle.basics.specs.Bytes.{is_lower, is_digit}
+use Rattle.emerge_run.specs.Words.{is_good, is_run, most_digits, most_name_bytes}
 
 pub passes_at : (test : ℕ → Bool) (xs : List ℕ) (k : ℕ) → list_all test xs ≡ true → k < length xs → test (get_or xs k 0) ≡ true
 passes_at test [] k h lt = absurd (omega arith)

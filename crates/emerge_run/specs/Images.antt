@@ -4,11 +4,8 @@ use Rattle.file_tree.specs.Disk.{HasBelow, Map}
 use Rattle.file_tree.specs.Paths.{is_below}
 use Rattle.file_tree.specs.declared.objects.Entry.{Entry}
 use Rattle.file_tree.specs.declared.objects.Kind.TheVariants.{Plain}
+use Rattle.merge_record.specs.declared.limits.TheConstants.{MOST_FILE_BYTES}
 use Rattle.emerge_run.specs.Package.{database_path, state_path}
-
--- the greatest size of a file of an image, in bytes
-abbrev pub most_file_bytes : ℕ
-most_file_bytes = 268435456
 
 -- one path is the other, or above or below it
 abbrev pub meets : List ℕ → List ℕ → Bool
@@ -31,7 +28,7 @@ HoldsPart m path at = (slice_index path at ≡ 47) × IsSome (m (take at path))
 -- a plain file that is not too large, at a free path that is not reserved
 pub record Fits (m : Map) (e : Entry) : Type 0 where
   pub kind : e.object.kind ≡ Plain
-  pub small : length e.object.bytes ≤ most_file_bytes
+  pub small : length e.object.bytes ≤ MOST_FILE_BYTES
   pub unreserved : is_reserved e.path ≡ false
   pub free : IsFree m e.path
 

@@ -1,35 +1,105 @@
 -- What a run leaves: its tree, its groups, and what it wrote.
-use Rattle.std.specs.Prelude.{◌≡◌, ◌⊎◌, ℕ, Bool, List, [], ◌∷◌, ◌++◌, Contains, IsTrue}
+use Rattle.std.specs.Prelude.{◌≡◌, ◌⊎◌, ℕ, zero, suc, Bool, List, [], ◌∷◌, ◌++◌, Contains, IsTrue}
 use Rattle.std.specs.List.{flat_map}
-use Rattle.file_tree.specs.Disk.{Disk, IsUntouched, Map}
+use Rattle.file_tree.specs.Disk.{Disk, HasBelow, IsImage, IsUntouched, Map, Story}
+use Rattle.file_tree.specs.Moments.{Leaves, Since}
 use Rattle.file_tree.specs.declared.objects.Entry.{Entry}
 use Rattle.build_pool.specs.declared.orders.Order.{Order}
-use Rattle.emerge_run.specs.Answers.{Asks}
+use Rattle.group_merge.specs.Phases.{IsShut}
+use Rattle.recovery.specs.Promise.{RecoversAlike}
+use Rattle.emerge_run.specs.Answers.{Asks, AsksFor}
 use Rattle.emerge_run.specs.Images.{FitsImage}
-use Rattle.emerge_run.specs.Package.{SameOutside, files, with_files}
+use Rattle.merge_record.specs.Names.{jobs}
+use Rattle.merge_record.specs.Recovered.{IsRecovered}
+use Rattle.emerge_run.specs.Package.{files, with_files}
 use Rattle.emerge_run.specs.Texts.{done_line, last_line}
 use Rattle.emerge_run.specs.Words.{IsOrder}
 use Rattle.emerge_run.specs.declared.status.Part.TheVariants.{Image}
 use Rattle.emerge_run.specs.declared.status.Status.{Status}
 use Rattle.emerge_run.specs.declared.status.Status.TheVariants as status
 
--- the disk reads as the map with the package of the words merged, its image being the one told, and a crash now leaves just that
-abbrev pub IsMerged : List (List ℕ) → Map → (Order → List Entry) → Disk → Type 0
-IsMerged words m image d = (o : Order) × IsOrder words o × ((e : Entry) × (image o ≡ e ∷ []) × (d.holds ≡ with_files (files o e) m) × IsUntouched d)
+-- a crash leaves just what is read, and nothing stands below the journal's folder
+pub record IsAtRest (d : Disk) : Type 0 where
+  pub untouched : IsUntouched d
+  pub bare : HasBelow d.holds jobs → ⊥
 
--- every path but those of the package of the words holds what the map holds there
-abbrev pub IsElsewhere : List (List ℕ) → Map → (Order → List Entry) → Disk → Type 0
-IsElsewhere words m image d = (o : Order) × IsOrder words o × ((e : Entry) × (image o ≡ e ∷ []) × SameOutside (files o e) m d.holds)
+-- no gate is open over a map that has nothing below the journal's folder: a crash recovers to that map
+pub record IsClosed (m : Map) (d : Disk) : Type 0 where
+  pub shut : IsShut m d
+  pub bare : HasBelow m jobs → ⊥
 
--- the disk reads as the map with the groups applied; where there are none, a device that failed may have left a part of the package
-abbrev pub IsApplied : List (List ℕ) → Map → (Order → List Entry) → List ℕ → Disk → Type 0 → Type 0
-IsApplied words m image [] d failed = (d.holds ≡ m) ⊎ (failed × IsElsewhere words m image d)
-IsApplied words m image (g ∷ gs) d failed = IsMerged words m image d
+-- an image recovers to the map, or to the map with the files
+abbrev pub RecoversToEither : List Entry → Map → Map → Type 0
+RecoversToEither es m c = IsRecovered c m ⊎ IsRecovered c (with_files es m)
 
--- how a run over this tree ended: with the answer that it asks for, and a tree with the groups applied, unless the device failed before any was, which leaves no more than a part of the package
-pub record Outcome (words : List (List ℕ)) (m : Map) (image : Order → List Entry) (history : List ℕ) (s : Status) (d : Disk) (failed : Type 0) : Type 0 where
-  pub answer : Asks words m image s
-  pub tree : IsApplied words m image history d failed
+-- from some moment on each crash recovers to the map with the files; until then, to that map or to the one without them
+abbrev pub GetsFiles : List Entry → Map → Story → Story → Type 0
+GetsFiles es m old new = (mid : Story) × Since (RecoversToEither es m) old mid × Since (λ c. IsRecovered c (with_files es m)) mid new
+
+-- what a group of these files leaves, by whether it stands in the history
+abbrev pub CarriedOut : List Entry → Map → List ℕ → Story → Story → Type 0 → Type 0
+CarriedOut es m [] old new failed = Leaves (λ c. IsRecovered c m) new.now ⊎ failed
+CarriedOut es m (g ∷ gs) old new failed = GetsFiles es m old new
+
+-- the disk reads as the map with the files, and a crash leaves just that
+pub record HasFiles (es : List Entry) (m : Map) (d : Disk) : Type 0 where
+  pub reads : (q : List ℕ) → d.holds q ≡ with_files es m q
+  pub untouched : IsUntouched d
+
+-- an image recovers to the map, or to the map with the package of the order, its image being the one told
+abbrev pub RecoversTo : Order → (Order → List Entry) → Map → Map → Type 0
+RecoversTo o image m c = IsRecovered c m ⊎ ((e : Entry) × (image o ≡ e ∷ []) × IsRecovered c (with_files (files o e) m))
+
+-- what a run for an order leaves, by the groups of its history
+abbrev pub RanTo : Order → (Order → List Entry) → List ℕ → Story → Story → Type 0 → Type 0
+RanTo o image [] old new failed = Leaves (λ c. IsRecovered c old.now.holds) new.now ⊎ failed
+RanTo o image (g ∷ gs) old new failed = (e : Entry) × (image o ≡ e ∷ []) × GetsFiles (files o e) old.now.holds old new
+
+-- the disk reads as the map, with the package of the order where a group was merged, and a crash leaves just that
+abbrev pub EndsWith : Order → (Order → List Entry) → ℕ → Map → Disk → Type 0
+EndsWith o image zero m d = HasFiles [] m d
+EndsWith o image (suc n) m d = (e : Entry) × (image o ≡ e ∷ []) × HasFiles (files o e) m d
+
+-- how a run for an order ended, over a tree at rest
+pub record Ran (o : Order) (image : Order → List Entry) (old new : Story) (history : List ℕ) (s : Status) (failed : Type 0) : Type 0 where
+  pub answer : AsksFor o old.now.holds image s
+  pub moments : Since (RecoversTo o image old.now.holds) old new
+  pub tree : RanTo o image history old new failed
+  pub done : (n : ℕ) → s ≡ status.Ok n → EndsWith o image n old.now.holds new.now
+
+-- an image is one of the disk, or recovers to what the disk recovers to
+abbrev pub IsKept : Disk → Map → Type 0
+IsKept d c = IsImage d c ⊎ RecoversAlike d.holds c
+
+-- an image recovers to what the disk recovers to, with the files
+abbrev pub RecoversWith : List Entry → Disk → Map → Type 0
+RecoversWith es d c = (m : Map) → IsRecovered d.holds m → IsRecovered c (with_files es m)
+
+-- an image is one of the disk, or recovers to what the disk recovers to, without or with the package of the words, its image being the one told
+abbrev pub IsBeforeOrAfter : List (List ℕ) → (Order → List Entry) → Disk → Map → Type 0
+IsBeforeOrAfter words image d c = IsKept d c ⊎ ((o : Order) × IsOrder words o × ((e : Entry) × (image o ≡ e ∷ []) × RecoversWith (files o e) d c))
+
+-- from some moment on each crash recovers to the tree with the package of the words
+abbrev pub GetsPackage : List (List ℕ) → (Order → List Entry) → Story → Story → Type 0
+GetsPackage words image old new = (o : Order) × IsOrder words o × ((e : Entry) × (image o ≡ e ∷ [])
+    × ((mid : Story) × Since (IsBeforeOrAfter words image old.now) old mid × Since (RecoversWith (files o e) old.now) mid new))
+
+-- what a run leaves, by the groups of its history; where there are none a crash recovers to what the tree recovered to, unless a device failed
+abbrev pub IsApplied : List (List ℕ) → (Order → List Entry) → List ℕ → Story → Story → Type 0 → Type 0
+IsApplied words image [] old new failed = Leaves (IsKept old.now) new.now ⊎ failed
+IsApplied words image (g ∷ gs) old new failed = GetsPackage words image old new
+
+-- the disk reads as the recovered tree, with the package of the words where a group was merged, and a crash leaves just that
+abbrev pub HasPackage : List (List ℕ) → (Order → List Entry) → ℕ → Disk → Disk → Type 0
+HasPackage words image n old new = (o : Order) × IsOrder words o × ((m : Map) × IsRecovered old.holds m × EndsWith o image n m new)
+
+-- How a run over this tree ended: with the answer that it asks for, and a tree that has the groups of its history. A crash at any moment
+-- since it began leaves an image of that beginning, or one that recovers to the tree before or to the tree with the package.
+pub record Outcome (words : List (List ℕ)) (image : Order → List Entry) (old new : Story) (history : List ℕ) (s : Status) (failed : Type 0) : Type 0 where
+  pub answer : Asks words old.now.holds image s
+  pub moments : Since (IsBeforeOrAfter words image old.now) old new
+  pub tree : IsApplied words image history old new failed
+  pub done : (n : ℕ) → s ≡ status.Ok n → HasPackage words image n old.now new.now
 
 -- some builder of those at rest tells this image, where builders tell
 abbrev pub OfSomeBuilder : {B : Type 0} → Bool → (B → Order → List Entry) → List B → ((Order → List Entry) → Type 0) → Type 0
@@ -94,8 +164,3 @@ IsLate status.Memory = Unit {0}
 IsLate status.Usage = ⊥
 IsLate (status.NotBuilt part) = ⊥
 IsLate (status.BuildFailed order) = ⊥
-
--- the disk after a group of these files, by whether the group stands in the history
-abbrev pub CarriedOut : List Entry → Map → List ℕ → Disk → Type 0 → Type 0
-CarriedOut es m [] d failed = (d.holds ≡ m) ⊎ (failed × SameOutside es m d.holds)
-CarriedOut es m (g ∷ gs) d failed = (d.holds ≡ with_files es m) × IsUntouched d

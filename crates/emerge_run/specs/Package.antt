@@ -1,5 +1,5 @@
 -- The files of a package in the tree, and the tree with a package merged.
-use Rattle.std.specs.Prelude.{◌≡◌, ℕ, List, [], ◌∷◌, ◌++◌, None, Some, bytes_eq, false, codes}
+use Rattle.std.specs.Prelude.{ℕ, List, [], ◌∷◌, ◌++◌, Some, codes, length, map}
 use Rattle.hex.specs.Hex.{encode_lower}
 use Rattle.md5.specs.Md5.{md5}
 use Rattle.file_tree.specs.Thing.{Thing}
@@ -7,6 +7,8 @@ use Rattle.file_tree.specs.Disk.{Map, with_path}
 use Rattle.file_tree.specs.declared.objects.Entry.{Entry}
 use Rattle.file_tree.specs.declared.objects.Kind.TheVariants.{Plain}
 use Rattle.build_pool.specs.declared.orders.Order.{Order}
+use Rattle.merge_record.specs.Content.{Content}
+use Rattle.merge_record.specs.declared.record.Placement.{Placement}
 use Rattle.emerge_run.specs.Words.{order_text}
 
 abbrev pub plain : List ℕ → Thing
@@ -20,45 +22,50 @@ cache_path o = codes "var/db/repos/gentoo/metadata/md5-cache/" ++ order_text o
 unfoldable pub cache_text : List ℕ
 cache_text = codes "EAPI=8" ++ 10 ∷ (codes "KEYWORDS=amd64" ++ 10 ∷ (codes "SLOT=0" ++ 10 ∷ (codes "_md5_=d41d8cd98f00b204e9800998ecf8427e" ++ 10 ∷ [])))
 
--- the folder of the installed packages, of the whole of Portage's own state, and of the journal
+-- the folder of the installed packages, and of the whole of Portage's own state
 unfoldable pub database_path : List ℕ
 database_path = codes "var/db/pkg"
 
 unfoldable pub state_path : List ℕ
 state_path = codes "var/lib/portage"
 
-unfoldable pub journal_path : List ℕ
-journal_path = codes "var/lib/portage/jobs"
-
 -- a file of the package's own folder in the database
 unfoldable pub record_path : Order → List ℕ → List ℕ
 record_path o name = codes "var/db/pkg/" ++ (order_text o ++ 47 ∷ name)
 
--- the line of CONTENTS for a plain file: its path, the MD5 of its bytes, and the time 0
+-- a line of CONTENTS for a plain file: its path, the hex digits of a digest, and the time 0
+abbrev pub obj_line : List ℕ → List ℕ → List ℕ
+obj_line path digest = codes "obj /" ++ (path ++ 32 ∷ (digest ++ (codes " 0" ++ 10 ∷ [])))
+
+-- the line for a file of the image, with the MD5 of its bytes
 unfoldable pub contents_text : Entry → List ℕ
-contents_text e = codes "obj /" ++ (e.path ++ 32 ∷ (encode_lower (md5 e.object.bytes) ++ (codes " 0" ++ 10 ∷ [])))
+contents_text e = obj_line e.path (encode_lower (md5 e.object.bytes))
+
+-- the texts of EAPI and SLOT
+abbrev pub eapi_text : List ℕ
+eapi_text = 56 ∷ 10 ∷ []
+
+abbrev pub slot_text : List ℕ
+slot_text = 48 ∷ 10 ∷ []
 
 -- the file of the image, and then the files of the package's record
 abbrev pub files : Order → Entry → List Entry
 files o e = e ∷ record { path = record_path o (codes "CONTENTS"); object = plain (contents_text e) }
-    ∷ record { path = record_path o (codes "EAPI"); object = plain (56 ∷ 10 ∷ []) }
-    ∷ record { path = record_path o (codes "SLOT"); object = plain (48 ∷ 10 ∷ []) } ∷ []
+    ∷ record { path = record_path o (codes "EAPI"); object = plain eapi_text }
+    ∷ record { path = record_path o (codes "SLOT"); object = plain slot_text } ∷ []
 
 -- the map in which each path of the entries holds its object, a later entry over an earlier one
 abbrev pub with_files : List Entry → Map → Map
 with_files [] m = m
 with_files (e ∷ es) m = with_files es (with_path m e.path (Some e.object))
 
--- the map in which no path of the entries holds anything
-abbrev pub without_files : List Entry → Map → Map
-without_files [] m = m
-without_files (e ∷ es) m = without_files es (with_path m e.path None)
+-- what a file's placement tells of it
+abbrev pub placement_of : Entry → Placement
+placement_of e = record { path = e.path; kind = e.object.kind; length = length e.object.bytes; md5 = md5 e.object.bytes }
 
--- the path is none of the entries'
-abbrev pub IsOutside : List Entry → List ℕ → Type 0
-IsOutside [] q = Unit {0}
-IsOutside (e ∷ es) q = (bytes_eq e.path q ≡ false) × IsOutside es q
+abbrev pub object_of : Entry → Thing
+object_of e = e.object
 
--- at each path that is none of the entries' both maps hold the same
-abbrev pub SameOutside : List Entry → Map → Map → Type 0
-SameOutside es old new = (q : List ℕ) → IsOutside es q → new q ≡ old q
+-- a group that removes nothing and places these files
+abbrev pub placing : ℕ → List Entry → Content
+placing g es = record { group = g; removals = []; placements = map placement_of es }

@@ -4,6 +4,9 @@ use Rattle.build_pool.specs.declared.orders.Order.{Order}
 use Rattle.emerge_run.specs.Answers.{Refuses}
 use Rattle.file_tree.specs.declared.fault.TreeFault.{TreeFault}
 use Rattle.file_tree.specs.declared.fault.TreeFault.TheVariants as tree
+use Rattle.recovery.specs.declared.fault.RecoverFault.{RecoverFault}
+use Rattle.recovery.specs.declared.fault.RecoverFault.TheVariants as recovery
+use Rattle.emerge_run.specs.declared.status.Part.TheVariants.{Journal}
 use Rattle.emerge_run.specs.declared.refusal.Refusal.{Refusal}
 use Rattle.emerge_run.specs.declared.refusal.Refusal.TheVariants as refusals
 use Rattle.emerge_run.specs.declared.words.WordFault.{WordFault}
@@ -23,6 +26,11 @@ status_of refusals.Memory = status.Memory
 abbrev pub status_of_tree : TreeFault → Status
 status_of_tree tree.Failed = status.DeviceFault
 status_of_tree tree.Memory = status.Memory
+
+abbrev pub status_of_recovery : RecoverFault → Status
+status_of_recovery recovery.Journal = status.NotBuilt Journal
+status_of_recovery recovery.Failed = status.DeviceFault
+status_of_recovery recovery.Memory = status.Memory
 
 abbrev pub status_of_word : WordFault → Status
 status_of_word word.Usage = status.Usage

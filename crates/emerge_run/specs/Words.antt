@@ -1,6 +1,7 @@
 -- The words of a run: `=`, a category, `/`, a package, `-` and a version.
 use Rattle.std.specs.Prelude.{◌≡◌, ◌&&◌, ℕ, Bool, true, List, [], ◌∷◌, ◌++◌, length, nat_lt, nat_le}
 use Rattle.std.specs.List.{list_all}
+use Rattle.basics.specs.Bytes.{is_digit, is_lower}
 use Rattle.build_pool.specs.declared.orders.Order.{Order}
 
 -- the greatest length of a name, in bytes, and of a version of this capability, in digits
@@ -9,12 +10,6 @@ most_name_bytes = 255
 
 abbrev pub most_digits : ℕ
 most_digits = 9
-
-abbrev pub is_lower : ℕ → Bool
-is_lower b = nat_le 97 b && nat_le b 122
-
-abbrev pub is_digit : ℕ → Bool
-is_digit b = nat_le 48 b && nat_le b 57
 
 -- one or more bytes of a kind, and not too many
 abbrev pub is_run : (ℕ → Bool) → ℕ → List ℕ → Bool

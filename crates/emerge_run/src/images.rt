@@ -1,8 +1,9 @@
-ghost use Rattle.std.specs.Prelude.{◌≡◌, ◌≤◌, ◌<◌, ◌≢◌, ◌⊎◌, ℕ, List, [], ◌∷◌, true, false, Contains, IfErr, IfOk, IfSome, IsErrOf, IsTrue, MatchBool, MatchOption, MatchResult, None, OnOk, Some, length, slice_index, take};
+ghost use Rattle.std.specs.Prelude.{◌↔◌, ◌≡◌, ◌≤◌, ◌<◌, ◌≢◌, ◌⊎◌, ℕ, List, [], ◌∷◌, true, false, Contains, IfErr, IfOk, IfSome, IsErrOf, IsTrue, MatchBool, MatchOption, MatchResult, None, OnOk, Some, length, slice_index, take};
 ghost use Rattle.file_tree.specs.Disk.{HasBelow, Rose};
 ghost use Rattle.file_tree.specs.Paths.{is_below};
 ghost use Rattle.build_pool.specs.Pool.{PoolRose, SameIds, faults_of};
 ghost use Rattle.emerge_run.specs.Images.{Fits, HasOne, HoldsPart, IsFree, is_reserved, meets};
+ghost use Rattle.merge_record.specs.declared.limits.TheConstants.{MOST_FILE_BYTES};
 ghost use Rattle.emerge_run.specs.Package.{database_path, state_path};
 
 use crate::package::{path_of_database, path_of_state};
@@ -10,10 +11,8 @@ use crate::refusal::Refusal;
 use crate::status::Part;
 use build_pool::{BuildPool, BuildStop, Builder, Order};
 use file_tree::{Entry, Kind, Look, Path, Tree};
+use merge_record::MOST_FILE_BYTES;
 use std::alloc::{AllocError, Global};
-
-/// The greatest size of a file of an image, in bytes.
-pub const MOST_FILE_BYTES: usize = 268_435_456;
 
 /// Has a builder of the pool build the order, and answers the entry of an image of just one.
 pub fn built_entry<B: Builder>(
@@ -52,13 +51,14 @@ fn one_entry<B: Builder>(builder: &mut B, order: &Order) -> Result<Option<Entry>
 /// Judges an entry of an image over the tree, before anything is placed.
 pub fn judge_entry<T: Tree>(alloc: Global, tree: &mut T, entry: &Entry) -> Result<(), Refusal>
     ensures fits { IsTrue T.tells → OnOk result (Fits (T.story tree.old).now.holds entry.now) }
+    ensures unreserved { OnOk result (is_reserved entry.now.path ≡ false) }
     ensures refused { IsTrue T.tells → IsErrOf result (Refusal.NotBuilt Part.Image) → Fits (T.story tree.old).now.holds entry.now → ⊥ }
     ensures image_alone { IfErr result (λ r. (r ≡ Refusal.NotBuilt Part.Image) ⊎ ((r ≡ Refusal.Failed) ⊎ (r ≡ Refusal.Memory))) }
     ensures same { IsTrue T.tells → T.story tree.new ≡ T.story tree.old }
     ensures count { T.faults tree.old ≤ T.faults tree.new }
     ensures cause { IsErrOf result Refusal.Failed → Rose (T.faults tree.old) (T.faults tree.new) }
 {
-    if entry.object.kind != Kind::Plain || entry.object.bytes.len() > MOST_FILE_BYTES {
+    if entry.object.kind != Kind::Plain || !is_small(entry.object.bytes.len()) {
         return Err(Refusal::NotBuilt(Part::Image));
     }
     if is_reserved(alloc, &entry.path)? {
@@ -68,6 +68,13 @@ pub fn judge_entry<T: Tree>(alloc: Global, tree: &mut T, entry: &Entry) -> Resul
         return Err(Refusal::NotBuilt(Part::Image));
     }
     Ok(())
+}
+
+/// Whether a file of so many bytes isn't too large for an image.
+pub(crate) fn is_small(length: usize) -> bool
+    ensures { IsTrue result ↔ (length ≤ MOST_FILE_BYTES) }
+{
+    length as u64 <= MOST_FILE_BYTES
 }
 
 /// Whether no image may have a path.

@@ -1,5 +1,5 @@
 ghost use Rattle.std.specs.Prelude.{◌≡◌, ◌++◌, ◌∷◌, [], IfOk, List, codes, string_bytes, ℕ};
-ghost use Rattle.emerge_run.specs.Package.{cache_path, cache_text, contents_text, database_path, files, journal_path, plain, record_path, state_path};
+ghost use Rattle.emerge_run.specs.Package.{cache_path, cache_text, contents_text, database_path, files, plain, record_path, state_path};
 
 use build_pool::Order;
 use file_tree::{Entry, Kind, Object, Path};
@@ -47,17 +47,9 @@ pub fn path_of_state(alloc: Global) -> Result<Path, AllocError>
     path_of(alloc, "var/lib/portage")
 }
 
-/// The folder of the journal.
-#[tactic(auto, unfolding(crate::specs::Package::journal_path))]
-pub fn path_of_journal(alloc: Global) -> Result<Path, AllocError>
-    ensures { IfOk result (λ p. p ≡ journal_path) }
-{
-    path_of(alloc, "var/lib/portage/jobs")
-}
-
 /// The path of a file of the package's record.
 #[tactic(auto, unfolding(crate::specs::Package::record_path))]
-fn path_of_record(alloc: Global, order: &Order, name: &str) -> Result<Path, AllocError>
+pub fn path_of_record(alloc: Global, order: &Order, name: &str) -> Result<Path, AllocError>
     ensures { IfOk result (λ p. p ≡ record_path order.now name.now) }
 {
     let category = order.category.as_str();

@@ -1,6 +1,7 @@
 use crate::status::{Part, Status};
 use crate::words::WordFault;
 use file_tree::{Failed, TreeFault};
+use recovery::RecoverFault;
 use std::alloc::AllocError;
 
 /// Why a look at the tree ends the run.
@@ -72,6 +73,23 @@ impl From<TreeFault> for Status {
         match fault {
             TreeFault::Failed => Status::DeviceFault,
             TreeFault::Memory => Status::Memory,
+        }
+    }
+}
+
+impl From<RecoverFault> for Status {
+    ghost use Rattle.std.specs.Prelude.{◌≡◌};
+    ghost use Rattle.emerge_run.specs.Refusals.{status_of_recovery};
+
+    ghost from_gives = { λ f s. s ≡ status_of_recovery f };
+
+    fn from(fault: RecoverFault) -> Status {
+        match fault {
+            RecoverFault::Journal => Status::NotBuilt {
+                what: Part::Journal,
+            },
+            RecoverFault::Failed => Status::DeviceFault,
+            RecoverFault::Memory => Status::Memory,
         }
     }
 }

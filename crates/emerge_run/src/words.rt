@@ -1,9 +1,10 @@
 ghost use Rattle.std.specs.Prelude.{◌≡◌, ◌≢◌, ◌<◌, ◌&&◌, ◌++◌, ℕ, List, ◌∷◌, true, IfOk, IfSome, IsErrOf, IsSomeAnd, MatchOption, length, map, slice_index, string_bytes};
 ghost use Rattle.std.specs.List.{list_all};
 ghost use Rattle.build_pool.specs.declared.orders.Order.{Order};
-ghost use Rattle.emerge_run.specs.Words.{IsCommand, IsOrder, is_digit, is_good, is_lower, is_run, most_digits, most_name_bytes, order_text};
+ghost use Rattle.basics.specs.Bytes.{is_digit, is_lower};
+ghost use Rattle.emerge_run.specs.Words.{IsCommand, IsOrder, is_good, is_run, most_digits, most_name_bytes, order_text};
 
-use basics::Text;
+use basics::{Text, is_digit, is_lower};
 use build_pool::Order;
 use std::alloc::{AllocError, Global};
 
@@ -103,11 +104,11 @@ fn is_number(text: &str) -> bool
 fn all_lower(bytes: &[u8]) -> bool
     ensures { result ≡ list_all is_lower bytes.now }
 {
-    bytes.iter().all(|b| 97 <= *b && *b <= 122)
+    bytes.iter().all(|b| is_lower(*b))
 }
 
 fn all_digits(bytes: &[u8]) -> bool
     ensures { result ≡ list_all is_digit bytes.now }
 {
-    bytes.iter().all(|b| 48 <= *b && *b <= 57)
+    bytes.iter().all(|b| is_digit(*b))
 }

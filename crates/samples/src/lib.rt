@@ -5,10 +5,14 @@
 //! `build_pool`, `file_tree` and `tree_mem`.
 #![tactic(auto)]
 
+mod crashes;
 mod image_builder;
+#[cfg(test)]
+mod stops;
 #[cfg(test)]
 mod tests;
 mod trees;
 
+pub use crashes::{as_read, listing, with_touched, without_touched};
 pub use image_builder::ImageBuilder;
 pub use trees::{CACHE_TEXT, file, sample_image, sample_tree, tree_of};

@@ -1,6 +1,6 @@
 ghost use Rattle.std.specs.Prelude.{◌<◌, IfOk, length};
 
-use crate::{CACHE_TEXT, ImageBuilder, file, sample_image, sample_tree, tree_of};
+use crate::{CACHE_TEXT, ImageBuilder, file, listing, sample_image, sample_tree, tree_of};
 use build_pool::BuildPool;
 use emerge_run::{Ended, emerge};
 use file_tree::{Entry, Kind};
@@ -8,7 +8,7 @@ use std::alloc::{AllocError, Global};
 use std::test::Fail;
 use tree_mem::{MemSink, MemTree};
 
-type Run = Ended<MemTree, MemSink, ImageBuilder>;
+pub type Run = Ended<MemTree, MemSink, ImageBuilder>;
 
 /// A pool of this one builder.
 fn pool_of(alloc: Global, builder: ImageBuilder) -> Result<BuildPool<ImageBuilder>, AllocError>
@@ -41,7 +41,12 @@ fn run_with(
 }
 
 /// A run of these words with an image and a sink that doesn't fail.
-fn run_on(alloc: Global, words: &str, tree: MemTree, image: Vec<Entry>) -> Result<Run, AllocError> {
+pub fn run_on(
+    alloc: Global,
+    words: &str,
+    tree: MemTree,
+    image: Vec<Entry>,
+) -> Result<Run, AllocError> {
     run_with(
         alloc,
         words,
@@ -52,24 +57,10 @@ fn run_on(alloc: Global, words: &str, tree: MemTree, image: Vec<Entry>) -> Resul
 }
 
 /// What a run came to: its number, and what it wrote.
-fn told(alloc: Global, run: &Run) -> Result<String, AllocError> {
+pub fn told(alloc: Global, run: &Run) -> Result<String, AllocError> {
     let mut text = format!(in alloc; "{} ", run.status.code())?;
     for byte in run.out.bytes() {
         text.push(char::from(*byte))?;
-    }
-    Ok(text)
-}
-
-/// A line for each object of the tree: its path and its text.
-fn listing(alloc: Global, tree: &MemTree) -> Result<String, AllocError> {
-    let mut text = String::new(alloc);
-    for (path, object) in tree.objects() {
-        text.push_str(path.text())?;
-        text.push(' ')?;
-        for byte in &object.bytes {
-            text.push(char::from(*byte))?;
-        }
-        text.push('\n')?;
     }
     Ok(text)
 }
@@ -87,6 +78,8 @@ fn one_file_into_an_empty_tree(rt: HostRuntime) -> Result<(), Fail> {
         "etc/portage/make.profile/make.defaults ARCH=\"amd64\"\nACCEPT_KEYWORDS=\"amd64\"\n\nusr/bin/p \nvar/db/pkg/c/p-1/CONTENTS obj /usr/bin/p d41d8cd98f00b204e9800998ecf8427e 0\n\nvar/db/pkg/c/p-1/EAPI 8\n\nvar/db/pkg/c/p-1/SLOT 0\n\nvar/db/repos/gentoo/c/p/p-1.ebuild \nvar/db/repos/gentoo/metadata/md5-cache/c/p-1 EAPI=8\nKEYWORDS=amd64\nSLOT=0\n_md5_=d41d8cd98f00b204e9800998ecf8427e\n\n";
     assert_eq!(rt; listing(alloc, &run.tree)?.as_str(), want);
     assert_eq!(rt; run.tree.refused(), 0);
+    let again = run_on(alloc, "=c/p-1", run.tree, sample_image(alloc)?)?;
+    assert_eq!(rt; told(alloc, &again)?.as_str(), "0 emerge: ok 0\n");
     Ok(())
 }
 
@@ -126,7 +119,7 @@ fn told_beside(
         CACHE_TEXT,
     )
     .map_err(|_| AllocError)?;
-    let other = file(alloc, also, Kind::Plain, "").map_err(|_| AllocError)?;
+    let other = file(alloc, also, Kind::Plain, "\u{1}").map_err(|_| AllocError)?;
     let entries = vec![in alloc; cached, other]?;
     let tree = tree_of(alloc, entries).map_err(|_| AllocError)?;
     let program = file(alloc, path, kind, "").map_err(|_| AllocError)?;
@@ -249,15 +242,15 @@ fn each_failing_call_is_told(rt: HostRuntime) -> Result<(), Fail> {
     let calls = whole.tree.calls();
     assert!(rt; 5 < calls);
     for call in 1..calls {
-        assert_eq!(rt;
-            told_of_failure(alloc, call)?.as_str(),
-            "16 emerge: DeviceFault\n",
+        let came = told_of_failure(alloc, call)?;
+        assert!(rt;
+            came.as_str().ends_with("emerge: DeviceFault\n"),
             "at call {call}"
         );
     }
     assert_eq!(rt;
         told_of_failure(alloc, calls)?.as_str(),
-        "16 emerge: DeviceFault\n"
+        "16 done 1 +c/p-1\nemerge: DeviceFault\n"
     );
     Ok(())
 }

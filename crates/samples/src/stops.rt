@@ -1,0 +1,247 @@
+use crate::tests::{Run, run_on, told};
+use crate::{
+    CACHE_TEXT, as_read, file, listing, sample_image, sample_tree, tree_of, with_touched,
+    without_touched,
+};
+use file_tree::{Kind, Path};
+use merge_record::{Placement, Record, digest_of, encode};
+use recovery::recover;
+use std::alloc::{AllocError, Global};
+use std::test::Fail;
+use tree_mem::MemTree;
+
+/// A run that merges `c/p-1` into a tree, whose device stops at a call of this number.
+fn stopped(alloc: Global, mut tree: MemTree, call: u64) -> Result<Run, AllocError> {
+    tree.stop_at(call);
+    run_on(alloc, "=c/p-1", tree, sample_image(alloc)?)
+}
+
+/// The number of the status with which a run over this tree ends, and the objects that it leaves.
+fn ending(alloc: Global, tree: MemTree) -> Result<String, AllocError> {
+    let run = run_on(alloc, "=c/p-1", tree, sample_image(alloc)?)?;
+    let code = run.status.code();
+    let objects = listing(alloc, &run.tree)?;
+    format!(in alloc; "{code} {objects}")
+}
+
+#[test]
+fn a_run_that_is_stopped_at_any_call_ends_well_when_it_is_run_again(
+    rt: HostRuntime,
+) -> Result<(), Fail> {
+    let alloc = rt.alloc();
+    let whole = ending(alloc, sample_tree(alloc)?)?;
+    let mut ended = false;
+    for call in 1..60 {
+        let run = stopped(alloc, sample_tree(alloc)?, call)?;
+        ended = run.status.code() == 0;
+        if ended {
+            break;
+        }
+        assert_eq!(rt;
+            ending(alloc, as_read(&run.tree)?)?,
+            whole,
+            "at call {call}"
+        );
+        assert_eq!(rt;
+            ending(alloc, without_touched(alloc, &run.tree)?)?,
+            whole,
+            "at call {call}"
+        );
+    }
+    assert!(rt; ended);
+    Ok(())
+}
+
+/// The objects of the tree that recovery makes of this one.
+fn recovered(alloc: Global, mut tree: MemTree) -> Result<String, AllocError> {
+    match recover(alloc, &mut tree) {
+        Ok(()) => listing(alloc, &tree),
+        Err(_) => String::from_str(alloc, "refused"),
+    }
+}
+
+/// A letter for what each of three images of the tree recovers to: the one that is read, the one
+/// without the touched paths, and the one with an odd byte at each.
+fn images(alloc: Global, tree: &MemTree, before: &str, after: &str) -> Result<String, AllocError> {
+    let read = recovered(alloc, as_read(tree)?)?;
+    let lost = recovered(alloc, with_touched(alloc, tree, None)?)?;
+    let odd = recovered(alloc, with_touched(alloc, tree, Some([2u8].as_slice()))?)?;
+    let mut letters = String::new(alloc);
+    for text in [read.as_str(), lost.as_str(), odd.as_str()] {
+        letters.push(letter(text, before, after))?;
+    }
+    Ok(letters)
+}
+
+fn letter(text: &str, before: &str, after: &str) -> char {
+    if text == before {
+        'b'
+    } else if text == after {
+        'a'
+    } else {
+        '?'
+    }
+}
+
+#[test]
+fn images_of_each_call_recover_to_before_or_after(rt: HostRuntime) -> Result<(), Fail> {
+    let alloc = rt.alloc();
+    let before = recovered(alloc, sample_tree(alloc)?)?;
+    let whole = run_on(alloc, "=c/p-1", sample_tree(alloc)?, sample_image(alloc)?)?;
+    let after = recovered(alloc, whole.tree)?;
+    let mut came = String::new(alloc);
+    for call in 1..=32 {
+        let run = stopped(alloc, sample_tree(alloc)?, call)?;
+        came.push_str(&images(alloc, &run.tree, &before, &after)?)?;
+    }
+    // Recovery is calls 1 to 6, the looks are 7 to 11, the stages, the record, the token and their sync 12 to
+    // 18, and the gate is placed at 19 and synced at 20. What is stopped there has the gate or not.
+    assert_eq!(rt;
+        came.as_str(),
+        "bbbbbbbbbbbbbbbbbbbbbbbbbbbbbbbbbbbbbbbbbbbbbbbbbbbbbbbbbabbaaaaaaaaaaaaaaaaaaaaaaaaaaaaaaaaaaaa"
+    );
+    Ok(())
+}
+
+/// What a third run comes to, when the first and the second were stopped at these calls.
+fn third(alloc: Global, first: u64, second: u64) -> Result<String, AllocError> {
+    let run = stopped(alloc, sample_tree(alloc)?, first)?;
+    let left = without_touched(alloc, &run.tree)?;
+    let run = stopped(alloc, left, second)?;
+    ending(alloc, without_touched(alloc, &run.tree)?)
+}
+
+#[test]
+fn a_recovery_that_is_stopped_at_any_call_ends_well_when_it_is_run_again(
+    rt: HostRuntime,
+) -> Result<(), Fail> {
+    let alloc = rt.alloc();
+    let whole = ending(alloc, sample_tree(alloc)?)?;
+    for first in 1..40 {
+        for second in 1..40 {
+            assert_eq!(rt;
+                third(alloc, first, second)?,
+                whole,
+                "at calls {first} and {second}"
+            );
+        }
+    }
+    Ok(())
+}
+
+#[test]
+fn seventh_call_fails(rt: HostRuntime) -> Result<(), Fail> {
+    let alloc = rt.alloc();
+    let mut tree = sample_tree(alloc)?;
+    tree.fail_at(7)?;
+    let run = run_on(alloc, "=c/p-1", tree, sample_image(alloc)?)?;
+    assert_eq!(rt; told(alloc, &run)?.as_str(), "16 emerge: DeviceFault\n");
+    let whole = ending(alloc, sample_tree(alloc)?)?;
+    assert_eq!(rt; ending(alloc, run.tree)?, whole);
+    Ok(())
+}
+
+/// What a run comes to over a journal with these gates of groups 1 and 2, and a stage of this kind and text
+/// of group 1, whose record places a plain file of the bytes `ab` at `usr/x`.
+fn told_over(
+    alloc: Global,
+    first: &str,
+    second: &str,
+    kind: Kind,
+    stage: &str,
+) -> Result<String, AllocError> {
+    let placement = Placement {
+        path: Path::parse(alloc, "usr/x").map_err(|_| AllocError)?,
+        kind: Kind::Plain,
+        length: 2,
+        md5: digest_of(b"ab"),
+    };
+    let record = Record {
+        group: 1,
+        removals: Vec::new(alloc),
+        placements: vec![in alloc; placement]?,
+    };
+    let mut filed = entry(alloc, "record", "")?;
+    filed.object.bytes = encode(alloc, &record).map_err(|_| AllocError)?;
+    let mut staged = entry(alloc, "stage/00000000", stage)?;
+    staged.object.kind = kind;
+    let gate = entry(alloc, "gate", first)?;
+    let other = file(
+        alloc,
+        "var/lib/portage/jobs/00000002/gate",
+        Kind::Plain,
+        second,
+    )
+    .map_err(|_| AllocError)?;
+    let cached = file(
+        alloc,
+        "var/db/repos/gentoo/metadata/md5-cache/c/p-1",
+        Kind::Plain,
+        CACHE_TEXT,
+    )
+    .map_err(|_| AllocError)?;
+    let entries = vec![in alloc; cached, gate, other, filed, staged]?;
+    let run = run_on(
+        alloc,
+        "=c/p-1",
+        tree_of(alloc, entries).map_err(|_| AllocError)?,
+        sample_image(alloc)?,
+    )?;
+    let text = told(alloc, &run)?;
+    let objects = run.tree.objects().len();
+    format!(in alloc; "{text}{objects}")
+}
+
+#[test]
+fn damaged_record(rt: HostRuntime) -> Result<(), Fail> {
+    let alloc = rt.alloc();
+    let gate = entry(alloc, "gate", "\u{1}")?;
+    let filed = entry(alloc, "record", "EMJR")?;
+    let tree = tree_of(alloc, vec![in alloc; gate, filed]?).map_err(|_| AllocError)?;
+    let run = run_on(alloc, "=c/p-1", tree, sample_image(alloc)?)?;
+    assert_eq!(rt;
+        told(alloc, &run)?.as_str(),
+        "20 emerge: NotBuilt: Journal\n"
+    );
+    assert_eq!(rt; run.tree.objects().len(), 2);
+    Ok(())
+}
+
+/// A file of the journal of group 1.
+fn entry(alloc: Global, name: &str, text: &str) -> Result<file_tree::Entry, AllocError> {
+    let path = format!(in alloc; "var/lib/portage/jobs/00000001/{name}")?;
+    file(alloc, path.as_str(), Kind::Plain, text).map_err(|_| AllocError)
+}
+
+#[test]
+fn journals_that_are_refused_and_that_are_cleared(rt: HostRuntime) -> Result<(), Fail> {
+    let alloc = rt.alloc();
+    let refused = "20 emerge: NotBuilt: Journal\n5";
+    let merged = "0 done 1 +c/p-1\nemerge: ok 1\n";
+    let plain = Kind::Plain;
+    assert_eq!(rt;
+        told_over(alloc, "\u{1}", "\u{1}", plain, "ab")?.as_str(),
+        refused
+    );
+    assert_eq!(rt;
+        told_over(alloc, "\u{1}", "", plain, "abc")?.as_str(),
+        refused
+    );
+    assert_eq!(rt;
+        told_over(alloc, "\u{1}", "", plain, "ac")?.as_str(),
+        refused
+    );
+    assert_eq!(rt;
+        told_over(alloc, "\u{1}", "", Kind::Exec, "ab")?.as_str(),
+        refused
+    );
+    assert_eq!(rt;
+        told_over(alloc, "", "\u{1}", plain, "ab")?.as_str(),
+        refused
+    );
+    let cleared = told_over(alloc, "\u{0}", "\u{1}\u{1}", plain, "ab")?;
+    assert_eq!(rt; cleared.as_str(), format!(in alloc; "{merged}5")?.as_str());
+    let applied = told_over(alloc, "\u{1}", "\u{1}\u{1}", plain, "ab")?;
+    assert_eq!(rt; applied.as_str(), format!(in alloc; "{merged}6")?.as_str());
+    Ok(())
+}
