@@ -2,7 +2,10 @@ pub mod Blame
 pub mod Cuts
 pub mod Joined
 pub mod Once
+pub mod OneFault
+pub mod OneId
 pub mod Opened
 pub mod Parts
 pub mod Plain
 pub mod Whole
+pub mod Wrong

@@ -22,6 +22,10 @@ pub record IsId (id : PackageId) : Type 0 where
 abbrev pub name_and_version : PackageId → List ℕ
 name_and_version id = id.name.«package» ++ (45 ∷ spelling id.version)
 
+-- `category/package-version`, the one text of the package
+abbrev pub id_text : PackageId → List ℕ
+id_text id = id.name.category ++ (47 ∷ name_and_version id)
+
 -- a hyphen stands at `at`, and a version and nothing more behind it
 pub record PartsAt (bytes : List ℕ) (at : ℕ) : Type 0 where
   pub within : at < length bytes

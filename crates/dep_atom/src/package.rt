@@ -1,4 +1,4 @@
-ghost use Rattle.std.specs.Prelude.{◌≡◌, ℕ, IfOk, IfErr, MatchResult, MatchOption};
+ghost use Rattle.std.specs.Prelude.{◌≡◌, ℕ, IfOk, IfErr, MatchResult, MatchOption, string_bytes};
 ghost use Rattle.dep_atom.specs.Ids.{IsId, name_and_version, PartsAt, name_fault, version_fault, FirstIdFault};
 ghost use Rattle.dep_atom.specs.declared.fault.AtomFault.TheVariants.{Memory};
 
@@ -27,7 +27,7 @@ pub struct Facts {
 }
 
 impl PackageId {
-    ghost use Rattle.dep_atom.specs.Ids.{IsId, name_and_version, FirstIdFault};
+    ghost use Rattle.dep_atom.specs.Ids.{IsId, id_text, name_and_version, FirstIdFault};
     ghost use Rattle.dep_atom.specs.declared.package.PackageId.{PackageId as Id};
 
     /// Reads a category, and a package's name with a hyphen and its version.
@@ -58,6 +58,16 @@ impl PackageId {
             }),
             Err(fault) => Err(version_fault(fault)),
         }
+    }
+
+    /// The package as `category/package-version`.
+    pub fn print(&self, alloc: Global) -> Result<String, AllocError>
+        ensures { IfOk result (λ text. string_bytes text ≡ id_text self.now) }
+    {
+        let category = self.name.category.text();
+        let package = self.name.package.text();
+        let version = self.version.text();
+        format!(in alloc; "{category}/{package}-{version}")
     }
 
     pub fn try_clone(&self) -> Result<PackageId, AllocError>

@@ -1,10 +1,15 @@
-use crate::{Atom, AtomFault, Bind, Facts, PackageId};
+use crate::{Atom, AtomFault, Bind, Facts, PackageId, one_fault};
 use pms_names::{Flag, Flags, SlotName};
 use std::alloc::{AllocError, Global};
 use std::test::Fail;
 
-/// Atoms of every form of PMS 8.3, each in its one spelling.
-const ATOMS: &str = "c/p dev-libs/icu virtual/x11 c+/p+ c/p-x c/p-x1 A_1.b/p_q \
+/// Atoms of every form of PMS 8.3, each in its one spelling. Those of the first row are valid in
+/// Portage's own tests of atoms too.
+const ATOMS: &str =
+    "sys-apps/portage =sys-apps/portage-2.1 =sys-apps/portage-2.1* ~sys-apps/portage-2.1 \
+    sys-apps/portage:foo =sys-apps/portage-2.1:foo >=sys-apps/portage-2.1:foo[bar?,!baz?,!doc=,build=] \
+    sys-apps/portage[build(+)?] =app-doc/php-docs-20071125-r2 !!>sys-apps/portage-2.1 \
+    c/p dev-libs/icu virtual/x11 c+/p+ c/p-x c/p-x1 A_1.b/p_q \
     !c/p !!c/p !<c/p-1 !!>=c/p-1:0 \
     <c/p-1 <=c/p-1.2 =c/p-1-r0 ~c/p-01a >=c/p-1_p >c/p-1_rc2-r3 =c/p+-1 =c/p-q-1.2.3_alpha4_beta-r5 \
     =c/p-1* =c/p-1.2_p* =c/p-1-r1* =c/p-1*:0[x] \
@@ -49,7 +54,7 @@ fn first_faults(rt: HostRuntime) -> Result<(), Fail> {
             "no category and package name",
         ),
         (
-            "c/p-1 !c/p-1.2-r3:0 c/p-1:= c/p-1[x]",
+            "c/p-1 !c/p-1.2-r3:0 c/p-1:= c/p-1[x] sys-apps/portage-2.1:foo virtual/ffmpeg-0.10.3",
             "a version without an operator",
         ),
         (
@@ -94,8 +99,11 @@ fn fault_of(alloc: Global, text: &str) -> Result<String, AllocError> {
     }
 }
 
-/// Pairs of an atom and a package that it matches, of which PMS 8.3.1 and 8.3.3 tell.
-const MATCHES: [&str; 3] = [
+/// Pairs of an atom and a package that it matches, of which PMS 8.3.1 and 8.3.3 tell. Those of
+/// portage, pkg and udev have the same answers in Portage's own tests.
+const MATCHES: [&str; 4] = [
+    "=c/portage-45*|portage-045 !!=c/portage-45*|portage-045 ~c/portage-045|portage-045-r1 \
+     <=c/portage-045|portage-045 <c/portage-046|portage-045 >c/portage-044|portage-045 =c/udev-123*|udev-123",
     "c/p|p-1 <c/p-2|p-1.9 <c/p-1|p-1_rc1 <=c/p-2|p-2 <=c/p-2|p-2-r0 =c/p-1.0|p-1.00 =c/p-1|p-1-r0 ~c/p-1|p-1-r3 \
      ~c/p-1-r2|p-1 >=c/p-1|p-1 >=c/p-1|p-1_p >c/p-1|p-1-r1 >c/p-1.9|p-1.10 !<c/p-2|p-1",
     "=c/p-1.2*|p-1.2 =c/p-1.2*|p-1.2.3 =c/p-1.2*|p-1.2a =c/p-1.2*|p-1.2-r4 =c/p-1_alpha*|p-1_alpha3",
@@ -103,7 +111,9 @@ const MATCHES: [&str; 3] = [
 ];
 
 /// Pairs of an atom and a package that it doesn't match.
-const MISSES: [&str; 3] = [
+const MISSES: [&str; 4] = [
+    "=c/portage-045|portage-046 ~c/portage-045|portage-046-r1 >=c/portage-047|portage-046-r1 \
+     <c/portage-046|portage-046 =c/pkg-1-r1*|pkg-1_alpha1 =c/udev-1*|udev-123",
     "c/p|q-1 d/p|p-1 <c/p-2|p-2 <c/p-2|p-2-r1 <=c/p-2|p-2-r1 =c/p-1|p-1-r1 =c/p-1|p-1.0 ~c/p-1|p-1.0-r3 \
      ~c/p-1|p-1a >=c/p-1|p-1_rc9 >c/p-1|p-1-r0 >c/p-1|p-0.9 !c/p|q-1",
     "=c/p-1.2*|p-1.20 =c/p-1.2*|p-1.02 =c/p-1.2*|p-1 =c/p-1.2*|q-1.2",
@@ -284,9 +294,15 @@ fn text_of(alloc: Global, atom: &Atom) -> Result<String, AtomFault> {
 }
 
 #[test]
-fn first_faults_of_packages(rt: HostRuntime) -> Result<(), Fail> {
+fn packages_and_their_first_faults(rt: HostRuntime) -> Result<(), Fail> {
+    one_fault();
     let rows = [
-        ("c", "p-x-1.2_p3-r4", ""),
+        ("c", "p-x-1.2_p3-r4", "c/p-x-1.2_p3-r4"),
+        (
+            "app-doc",
+            "php-docs-20071125-r2",
+            "app-doc/php-docs-20071125-r2",
+        ),
         ("c", "p", "no version behind the package name"),
         ("c", "p-1.", "no version behind the package name"),
         ("c", "-1", "no category and package name"),
@@ -295,14 +311,15 @@ fn first_faults_of_packages(rt: HostRuntime) -> Result<(), Fail> {
         ("-c", "p-1", "no category and package name"),
     ];
     for (category, pf, words) in rows {
-        assert_eq!(rt; fault_of_package(rt.alloc(), category, pf)?.as_str(), words);
+        assert_eq!(rt; text_of_package(rt.alloc(), category, pf)?.as_str(), words);
     }
     Ok(())
 }
 
-fn fault_of_package(alloc: Global, category: &str, pf: &str) -> Result<String, AllocError> {
+/// The package as it is printed, or the words of the fault.
+fn text_of_package(alloc: Global, category: &str, pf: &str) -> Result<String, AllocError> {
     match PackageId::parse(alloc, category, pf) {
-        Ok(_) => Ok(String::new(alloc)),
+        Ok(id) => id.print(alloc),
         Err(fault) => fault.to_string(alloc),
     }
 }

@@ -1,4 +1,4 @@
-use crate::{Category, Flag, Flags, NameFault, PackageName, SlotName, is_version_text};
+use crate::{Category, Flag, Flags, NameFault, PackageName, SlotName, is_version_text, one_fault};
 use std::test::Fail;
 
 #[test]
@@ -34,6 +34,7 @@ fn names_that_gentoo_uses(rt: HostRuntime) {
 
 #[test]
 fn first_faults(rt: HostRuntime) {
+    one_fault();
     let alloc = rt.alloc();
     assert!(rt; matches!(Flag::parse(alloc, "-x"), Err(NameFault::BadStart)));
     assert!(rt; matches!(Flag::parse(alloc, "!a"), Err(NameFault::BadStart)));

@@ -1,11 +1,15 @@
 ghost use Rattle.pms_version.specs.Begins.{version_begins};
 ghost use Rattle.pms_version.specs.Keys.{key_cmp};
+ghost use Rattle.pms_version.specs.Limits.{IsReadable};
 ghost use Rattle.pms_version.specs.Order.{version_cmp};
+ghost use Rattle.pms_version.specs.Reading.{FirstFault};
+ghost use Rattle.pms_version.specs.declared.fault.VersionFault.{VersionFault};
+ghost use Rattle.pms_version.specs.declared.fault.VersionFault.TheVariants.{Memory};
 ghost use Rattle.std.specs.Cmp.{IsTotalOrder};
 ghost use Rattle.std.specs.Ordering.{ordering_reverse};
-ghost use Rattle.std.specs.Prelude.{◌≡◌, true};
+ghost use Rattle.std.specs.Prelude.{◌≡◌, List, true, ℕ};
 ghost use Rattle.std.specs.declared.cmp.Ordering.TheVariants.{Equal, Less};
-ghost use Rattle.version_text.specs.Grammar.{IsVersion, Parts};
+ghost use Rattle.version_text.specs.Grammar.{IsVersion, Parts, spelling};
 
 /// A law: the order of versions is total, up to versions that are equal in it.
 pub fn order_is_total()
@@ -24,4 +28,10 @@ pub fn order_is_that_of_keys()
 /// A law: a version begins itself.
 pub fn each_begins_itself()
     ensures { (a : Parts) → IsVersion a → version_begins a a ≡ true }
+{}
+
+/// A law: but for want of memory a text has one fault at most, and that of a readable version none.
+pub fn one_fault()
+    ensures once { (bytes : List ℕ) (a b : VersionFault) → FirstFault bytes a → FirstFault bytes b → (a ≡ Memory → ⊥) → (b ≡ Memory → ⊥) → a ≡ b }
+    ensures none { (bytes : List ℕ) (a : VersionFault) (p : Parts) → IsReadable p → bytes ≡ spelling p → FirstFault bytes a → a ≡ Memory }
 {}

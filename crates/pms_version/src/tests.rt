@@ -1,4 +1,6 @@
-use crate::{Version, VersionFault, each_begins_itself, order_is_that_of_keys, order_is_total};
+use crate::{
+    Version, VersionFault, each_begins_itself, one_fault, order_is_that_of_keys, order_is_total,
+};
 use std::alloc::{AllocError, Global};
 use std::cmp::Ordering;
 use std::test::Fail;
@@ -146,6 +148,7 @@ fn a_version_and_its_copy(rt: HostRuntime) -> Result<(), Fail> {
     order_is_total();
     order_is_that_of_keys();
     each_begins_itself();
+    one_fault();
     let version = Version::parse(rt.alloc(), "1.02a_rc1-r3")?;
     let other = Version::parse(rt.alloc(), "1.020a_rc1-r4")?;
     let copy = version.try_clone()?;

@@ -1,7 +1,9 @@
 -- Where the recogniser is nowhere, and which texts begin versions.
-use Rattle.std.specs.Prelude.{Bool, true, false}
-use Rattle.std.proofs.Common.{◌≡◌, ◌∙◌, ℕ, ◌+◌, ◌<◌, ◌≤◌, List, [], ◌∷◌, ◌++◌, length, take, get_or, refl, sym, ap, IsTrue, ◌↔◌, take_all, arith}
-use Rattle.std.proofs.lemmas.List.{take_more}
+use Rattle.std.specs.Prelude.{Bool, true, false, not, Option, Some, None, IfNone, IfSome, IsTrue, ◌↔◌}
+use Rattle.std.specs.Option.{is_some}
+use Rattle.std.proofs.Common.{◌≡◌, ◌∙◌, ℕ, ◌+◌, ◌<◌, ◌≤◌, inl, inr, List, [], ◌∷◌, ◌++◌, length, take, drop, get_or, refl, sym, ap, subst, take_all, arith}
+use Rattle.std.proofs.lemmas.Bool.{cases_lt}
+use Rattle.std.proofs.lemmas.List.{take_more, take-append-drop}
 use Rattle.std.proofs.Math.Seq.{take-length}
 use Rattle.version_text.specs.Grammar.{IsVersionText, BeginsVersion, StopsAt}
 use Rattle.version_text.specs.declared.place.Place.{Place}
@@ -115,6 +117,14 @@ stops_at_end bs before h = record {
 pub run-whole : (bs : List ℕ) (i : ℕ) → length bs ≤ i → run Number (take i bs) ≡ run Number bs
 run-whole bs i h = ap (λ xs. run Number xs) (take_all i bs h)
 
-pub tells : (bs : List ℕ) (answer : Bool) → answer ≡ may_end (run Number bs) → IsTrue answer ↔ IsVersionText bs
-tells bs true e = (λ _. text_completed bs (sym e), λ _. refl)
-tells bs false e = (λ t. absurd (cc), λ text. let yes : may_end (run Number bs) ≡ true = text_accepted bs text in absurd (cc))
+pub stops_no_version : (bs : List ℕ) (at : ℕ) → StopsAt bs at → IsVersionText bs → ⊥
+stops_no_version bs at stop text = elim (cases_lt at (length bs)) [
+  | inl inside ↦ stop.stops inside (drop (at + 1) bs, subst IsVersionText (sym (take-append-drop (at + 1) bs)) text)
+  | inr end ↦ let in_range : at ≤ length bs = stop.in_range in let at_end : at ≡ length bs = omega arith in stop.short at_end text
+]
+
+pub tells : (bs : List ℕ) (stop : Option ℕ) (answer : Bool) → IfNone stop (IsVersionText bs) → IfSome stop (StopsAt bs) → is_some stop ≡ not answer → IsTrue answer ↔ IsVersionText bs
+tells bs None true none some e = (λ _. none, λ _. refl)
+tells bs None false none some e = absurd (cc)
+tells bs (Some at) true none some e = absurd (cc)
+tells bs (Some at) false none some e = (λ t. absurd (cc), λ text. absurd (stops_no_version bs at some text))

@@ -3,15 +3,12 @@ ghost use Rattle.version_text.specs.Grammar.{IsVersion, IsVersionText, Parts, St
 
 use crate::place::Place;
 
-/// Is the text a version's? Without limits on its length or on its numbers.
+/// Is the text a version's? Without limits on its length or on its numbers. It stops at the first
+/// byte that none goes on with.
 pub fn is_version(bytes: &[u8]) -> bool
     ensures { IsTrue result ↔ IsVersionText bytes.now }
 {
-    let mut place = Place::Number;
-    for byte in bytes {
-        place = place.next(*byte);
-    }
-    place.may_end()
+    version_stop(bytes).is_none()
 }
 
 /// The place of the first byte with which the text stops beginning any version, or its length where
