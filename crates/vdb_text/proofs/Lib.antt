@@ -1,0 +1,5 @@
+pub mod Alone
+pub mod Installed
+pub mod Lines
+pub mod Packages
+pub mod Slots

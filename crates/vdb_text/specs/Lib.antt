@@ -1,0 +1,3 @@
+pub mod Database
+pub mod Files
+pub mod Record

@@ -1,0 +1,84 @@
+ghost use Rattle.std.specs.Prelude.{◌≡◌, ◌++◌, ◌∷◌, [], IfOk, string_bytes};
+ghost use Rattle.file_tree.specs.Thing.{plain};
+ghost use Rattle.slot_value.specs.Slots.{slot_text};
+ghost use Rattle.vdb_text.specs.Files.{contents_text, database_path, record_file, record_files, record_path};
+
+use dep_atom::{Facts, PackageId};
+use file_tree::{Entry, Kind, Object, Path};
+use md5::{Digest, Md5};
+use slot_value::print_slots;
+use std::alloc::{AllocError, Global};
+
+/// The text of EAPI.
+pub(crate) const EAPI_TEXT: &str = "8\n";
+
+/// The folder of the installed packages.
+#[tactic(auto, unfolding(crate::specs::Files::database_path))]
+pub fn path_of_database(alloc: Global) -> Result<Path, AllocError>
+    ensures { IfOk result (λ p. p ≡ database_path) }
+{
+    path_of(alloc, "var/db/pkg")
+}
+
+/// The path that a text spells.
+fn path_of(alloc: Global, text: &str) -> Result<Path, AllocError>
+    ensures { IfOk result (λ p. p ≡ text.now) }
+{
+    Path::parse(alloc, text).map_err(|_| AllocError)
+}
+
+/// The path of a file of the package's record.
+#[tactic(auto, unfolding(crate::specs::Files::record_path))]
+pub(crate) fn path_of_record(alloc: Global, id: &PackageId, name: &str) -> Result<Path, AllocError>
+    ensures { IfOk result (λ p. p ≡ record_path id.now name.now) }
+{
+    let id = id.print(alloc)?;
+    let text = format!(in alloc; "var/db/pkg/{id}/{name}")?;
+    path_of(alloc, text.as_str())
+}
+
+fn record_file(alloc: Global, id: &PackageId, name: &str, text: &str) -> Result<Entry, AllocError>
+    ensures { IfOk result (λ e. e ≡ record_file id.now name.now text.now) }
+{
+    let path = path_of_record(alloc, id, name)?;
+    let bytes = Vec::from_slice(alloc, text.as_bytes())?;
+    Ok(Entry {
+        path,
+        object: Object {
+            kind: Kind::Plain,
+            bytes,
+        },
+    })
+}
+
+/// The text of CONTENTS for a package of this one file.
+#[tactic(auto, unfolding(crate::specs::Files::contents_text))]
+fn text_of_contents(alloc: Global, entry: &Entry) -> Result<String, AllocError>
+    ensures { IfOk result (λ t. string_bytes t ≡ contents_text entry.now) }
+{
+    let digest = Md5::digest(entry.object.bytes.as_slice());
+    let hex = hex::encode(alloc, digest.as_slice())?;
+    let path = entry.path.text();
+    format!(in alloc; "obj /{path} {hex} 0\n")
+}
+
+/// The text of SLOT.
+fn text_of_slots(alloc: Global, facts: &Facts) -> Result<String, AllocError>
+    ensures { IfOk result (λ t. string_bytes t ≡ slot_text facts.now.slot facts.now.subslot ++ (10 ∷ [])) }
+{
+    let slots = print_slots(alloc, &facts.slot, &facts.subslot)?;
+    format!(in alloc; "{slots}\n")
+}
+
+/// The files of the record of a package whose image is this one file, in the order in which they
+/// are put.
+pub fn record_files(alloc: Global, facts: &Facts, entry: &Entry) -> Result<Vec<Entry>, AllocError>
+    ensures { IfOk result (λ v. v.items ≡ record_files facts.now entry.now) }
+{
+    let contents = text_of_contents(alloc, entry)?;
+    let contents = record_file(alloc, &facts.id, "CONTENTS", contents.as_str())?;
+    let eapi = record_file(alloc, &facts.id, "EAPI", EAPI_TEXT)?;
+    let slots = text_of_slots(alloc, facts)?;
+    let slot = record_file(alloc, &facts.id, "SLOT", slots.as_str())?;
+    Ok(vec![in alloc; contents, eapi, slot]?)
+}
