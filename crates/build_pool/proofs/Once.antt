@@ -1,9 +1,8 @@
 -- In a pool whose ids are distinct, no lent builder has the id of one at rest.
-use Rattle.std.proofs.Common.{◌≡◌, ◌<◌, ◌≤◌, ◌+◌, ◌∷◌, [], ◌++◌, ℕ, List, length, get_or, ap, sym, ◌∙◌, arith, cond, subst, refl}
-use Rattle.std.specs.Prelude.{sum_by}
+use Rattle.std.proofs.Common.{◌≡◌, ◌<◌, ◌≤◌, ◌∷◌, [], ◌++◌, ℕ, List, length, get_or, ap, arith, cond, refl}
 use Rattle.std.proofs.lemmas.List.Sums.{get_or-le-sum_by, sum_by-append}
 use Rattle.std.proofs.lemmas.Bool.{eq-eqb}
-use Rattle.build_pool.specs.Pool.{Kept, id_times, is_number}
+use Rattle.build_pool.specs.Pool.{id_times, is_number}
 use Rattle.build_pool.specs.declared.pools.Away.{Away}
 
 pub is_number-same : (n m : ℕ) → m ≡ n → is_number n m ≡ 1

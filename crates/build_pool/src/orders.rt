@@ -1,24 +1,19 @@
 ghost use Rattle.std.specs.Prelude.{◌≡◌, IfOk};
 
-use basics::Text;
+use dep_atom::PackageId;
 use std::alloc::AllocError;
 
-/// What a builder is asked to build, and what a run merges: a package of a category at a version.
+/// What a builder is asked to build, and what a run merges.
 #[derive(Debug, Drop)]
 pub struct Order {
-    pub category: Text,
-    pub package: Text,
-    pub version: Text,
+    pub id: PackageId,
 }
 
 impl Order {
     pub fn try_clone(&self) -> Result<Order, AllocError>
         ensures { IfOk result (λ o. o ≡ self.now) }
     {
-        Ok(Order {
-            category: self.category.try_clone()?,
-            package: self.package.try_clone()?,
-            version: self.version.try_clone()?,
-        })
+        let id = self.id.try_clone()?;
+        Ok(Order { id })
     }
 }

@@ -1,7 +1,7 @@
 ghost use Rattle.std.specs.Prelude.{◌≡◌, [], true, IfOk};
 
 use crate::{BuildPool, BuildStop, Builder, Order};
-use basics::Text;
+use dep_atom::PackageId;
 use file_tree::Entry;
 use std::test::Fail;
 
@@ -71,11 +71,8 @@ fn pair(rt: &HostRuntime) -> Result<BuildPool<Scripted>, Fail>
 }
 
 fn order(rt: &HostRuntime) -> Result<Order, Fail> {
-    Ok(Order {
-        category: Text::new(rt.alloc(), "app")?,
-        package: Text::new(rt.alloc(), "tool")?,
-        version: Text::new(rt.alloc(), "1")?,
-    })
+    let id = PackageId::parse(rt.alloc(), "app", "tool-1")?;
+    Ok(Order { id })
 }
 
 #[test]
@@ -104,11 +101,8 @@ fn faults_of_a_lent_builder_count_when_it_is_back(rt: HostRuntime) -> Result<(),
 }
 
 #[test]
-fn a_copy_of_an_order_has_its_parts(rt: HostRuntime) -> Result<(), Fail> {
-    let order = order(&rt)?;
-    let copy = order.try_clone()?;
-    assert_eq!(rt; copy.category, order.category);
-    assert_eq!(rt; copy.package, order.package);
-    assert_eq!(rt; copy.version, order.version);
+fn a_copy_of_an_order_is_of_its_package(rt: HostRuntime) -> Result<(), Fail> {
+    let copy = order(&rt)?.try_clone()?;
+    assert_eq!(rt; copy.id.print(rt.alloc())?.as_str(), "app/tool-1");
     Ok(())
 }

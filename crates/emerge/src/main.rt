@@ -3,7 +3,7 @@
 #![tactic(auto)]
 
 use build_pool::BuildPool;
-use emerge_run::emerge;
+use emerge_run::{Ended, Status, emerge};
 use samples::{ImageBuilder, sample_image, sample_tree};
 use std::alloc::{AllocError, Global};
 use std::io::Write;
@@ -30,18 +30,22 @@ fn run<R: Env + Print + AllocGlobal>(rt: &R, alloc: Global) -> Result<u8, AllocE
     let words = words(rt, alloc)?;
     let builder = ImageBuilder::new(1, sample_image(alloc)?);
     let pool = BuildPool::new(alloc, vec![in alloc; builder]?)?;
-    let ended = emerge(
+    let Ended { status, out, .. } = emerge(
         alloc,
         &words,
         sample_tree(alloc)?,
         MemSink::new(alloc),
         pool,
     );
-    let code = ended.status.code();
-    match io::writer(rt).write_all(ended.out.bytes()) {
+    let code = number_of(status);
+    match io::writer(rt).write_all(out.bytes()) {
         Ok(()) => Ok(code),
         Err(_) => Ok(NO_OUTPUT),
     }
+}
+
+fn number_of(status: Status) -> u8 {
+    status.code()
 }
 
 /// The words after the program's name; none where they are no text.

@@ -1,13 +1,17 @@
 -- The answers that come of an image.
-use Rattle.std.proofs.Common.{◌≡◌, ◌⊎◌, ◌<◌, ℕ, zero, Bool, true, false, List, [], ◌∷◌, length, Some, None, inl, inr, refl, sym, arith, subst}
-use Rattle.std.specs.Prelude.{Contains}
+use Rattle.std.proofs.Common.{◌≡◌, ◌⊎◌, ◌<◌, ℕ, zero, Bool, true, false, List, [], ◌∷◌, get_or, length, map, String, Global, Err, Some, None, inl, inr, refl, ap, sym, ◌∙◌, arith, subst}
+use Rattle.std.specs.Prelude.{Contains, IsErrOf, string_bytes}
 use Rattle.file_tree.specs.Disk.{Map}
 use Rattle.file_tree.specs.declared.objects.Entry.{Entry}
 use Rattle.build_pool.specs.declared.orders.Order.{Order}
+use Rattle.dep_atom.specs.declared.package.PackageId.{PackageId}
 use Rattle.emerge_run.specs.Images.{Fits, FitsImage, HasOne}
 use Rattle.emerge_run.specs.Outcomes.{ImageAsks}
 use Rattle.emerge_run.specs.Answers.{Asks}
-use Rattle.emerge_run.specs.Refusals.{status_of, status_of_word}
+use Rattle.dep_atom.specs.declared.atom.Atom.{Atom}
+use Rattle.dep_atom.specs.declared.fault.AtomFault.{AtomFault}
+use Rattle.dep_atom.specs.declared.fault.AtomFault.TheVariants as atoms
+use Rattle.emerge_run.specs.Refusals.{status_of, status_of_word, word_fault}
 use Rattle.emerge_run.specs.Words.{IsCommand}
 use Rattle.emerge_run.specs.declared.words.WordFault.{WordFault}
 use Rattle.emerge_run.specs.declared.words.WordFault.TheVariants as word
@@ -20,6 +24,17 @@ pub some_builder : {B : Type 0} (bs : List B) → 0 < length bs → (b : B) × C
 some_builder [] lt = absurd (omega arith)
 some_builder (b ∷ bs) lt = (b, (zero, omega arith, refl))
 
+-- where the words are just one text, the first of them is it
+pub first_word : (words : List (String Global)) (w : String Global) (text : List ℕ) → w ≡ get_or words 0 w → map string_bytes words ≡ text ∷ [] → string_bytes w ≡ text
+first_word [] w text is e = absurd (cc e)
+first_word (x ∷ xs) w text is e = ap string_bytes is ∙ ap (λ (l : List (List ℕ)). get_or l 0 text) e
+
+-- want of memory is no refusal of the words
+pub memory_alone : (f : AtomFault) (w : WordFault) → w ≡ word_fault f → f ≡ atoms.Memory → IsErrOf {T = Atom} (Err w) word.Usage → ⊥
+memory_alone f w is memory e =
+    let told : word_fault f ≡ word.Memory = ap word_fault memory in
+    cc (is, told, e)
+
 -- an image of one entry fits only where that entry does
 pub not_fitting : (m : Map) (image : List Entry) (e : Entry) → image ≡ e ∷ [] → (Fits m e → ⊥) → FitsImage m image → ⊥
 not_fitting m image e is no_fit fits =
@@ -27,17 +42,17 @@ not_fitting m image e is no_fit fits =
     no_fit (subst (λ (x : Entry). Fits m x) same fits.2)
 
 -- an image that isn't just one entry doesn't fit, told or not
-pub none_fits : (tells : Bool) (told : List Entry) (m : Map) (o : Order) → HasOne tells told None → ImageAsks tells told m o (status.NotBuilt Image)
-none_fits true told m o h = (told, (λ t. refl), (λ fits. h refl fits.0 fits.1))
-none_fits false told m o h = ([], (λ t. absurd (cc t)), (λ fits. absurd (cc (fits.1))))
+pub none_fits : (tells : Bool) (told : List Entry) (m : Map) (id : PackageId) → HasOne tells told None → ImageAsks tells told m id (status.NotBuilt Image)
+none_fits true told m id h = (told, (λ t. refl), (λ fits. h refl fits.0 fits.1))
+none_fits false told m id h = ([], (λ t. absurd (cc t)), (λ fits. absurd (cc (fits.1))))
 
 -- what judging the one entry answers, of the image
-pub entry_refused : (tells : Bool) (told : List Entry) (m : Map) (o : Order) (e : Entry) (r : Refusal) → HasOne tells told (Some e)
-    → (r ≡ refusals.NotBuilt Image) ⊎ ((r ≡ refusals.Failed) ⊎ (r ≡ refusals.Memory)) → (r ≡ refusals.NotBuilt Image → Fits m e → ⊥) → ImageAsks tells told m o (status_of r)
-entry_refused tells told m o e r one (inl is) no_fit =
-    subst (λ (x : Refusal). ImageAsks tells told m o (status_of x)) (sym is) (e ∷ [], (λ t. sym (one t)), not_fitting m (e ∷ []) e refl (no_fit is))
-entry_refused tells told m o e r one (inr (inl is)) no_fit = subst (λ (x : Refusal). ImageAsks tells told m o (status_of x)) (sym is) tt
-entry_refused tells told m o e r one (inr (inr is)) no_fit = subst (λ (x : Refusal). ImageAsks tells told m o (status_of x)) (sym is) tt
+pub entry_refused : (tells : Bool) (told : List Entry) (m : Map) (id : PackageId) (e : Entry) (r : Refusal) → HasOne tells told (Some e)
+    → (r ≡ refusals.NotBuilt Image) ⊎ ((r ≡ refusals.Failed) ⊎ (r ≡ refusals.Memory)) → (r ≡ refusals.NotBuilt Image → Fits m e → ⊥) → ImageAsks tells told m id (status_of r)
+entry_refused tells told m id e r one (inl is) no_fit =
+    subst (λ (x : Refusal). ImageAsks tells told m id (status_of x)) (sym is) (e ∷ [], (λ t. sym (one t)), not_fitting m (e ∷ []) e refl (no_fit is))
+entry_refused tells told m id e r one (inr (inl is)) no_fit = subst (λ (x : Refusal). ImageAsks tells told m id (status_of x)) (sym is) tt
+entry_refused tells told m id e r one (inr (inr is)) no_fit = subst (λ (x : Refusal). ImageAsks tells told m id (status_of x)) (sym is) tt
 
 -- what reading the words answers
 pub word_refused : (words : List (List ℕ)) (m : Map) (image : Order → List Entry) (f : WordFault) → (f ≡ word.Usage → IsCommand words → ⊥) → Asks words m image (status_of_word f)

@@ -1,8 +1,7 @@
 -- A package's files as one group of the journal.
 use Rattle.std.proofs.Common.{◌≡◌, ℕ, Bool, true, false, cond, List, [], ◌∷◌, map, Option, Some, None, Result, Ok, Err, inl, inr, refl, ap, sym, ◌∙◌, subst}
-use Rattle.std.specs.Prelude.{IfOk, IsSome, OnOk, bytes_eq}
+use Rattle.std.specs.Prelude.{IfOk, IsSome, OnOk}
 use Rattle.std.proofs.lemmas.Bool.{cases_Bool, cond-true, cond-false}
-use Rattle.std.proofs.lemmas.Slice.Eq.{bytes_eq-Decides}
 use Rattle.file_tree.specs.Disk.{Disk, HasBelow, IsUntouched, Map, Story, with_path}
 use Rattle.file_tree.specs.Moments.{Leaves, Since}
 use Rattle.file_tree.proofs.Moments.{since_then, since_weaker}
@@ -21,17 +20,12 @@ use Rattle.group_merge.specs.Group.{AreStaged, IsGroup, applied, changed, cleare
 use Rattle.group_merge.specs.Phases.{IsShut}
 use Rattle.group_merge.specs.Phases as phases
 use Rattle.group_merge.proofs.Images.{changed_outside, shut_leaves}
-use Rattle.group_merge.proofs.Survives.{apart, part_below}
+use Rattle.group_merge.proofs.Survives.{part_below}
+use Rattle.group_merge.proofs.Turns.{swapped}
 use Rattle.group_merge.proofs.Walk.{own_path}
 use Rattle.emerge_run.specs.Outcomes.{HasFiles, IsAtRest, IsClosed, RecoversToEither}
 use Rattle.emerge_run.specs.Package.{object_of, placement_of, placing, with_files}
 use Rattle.emerge_run.proofs.Parts.{none_if_bare}
-
-swapped : (p q : List ℕ) → bytes_eq p q ≡ bytes_eq q p
-swapped p q = elim (cases_Bool (bytes_eq p q)) [
-  | inl e ↦ e ∙ sym ((bytes_eq-Decides q p).1 (sym ((bytes_eq-Decides p q).0 e)))
-  | inr ne ↦ ne ∙ sym (apart q p (λ h. cc ((bytes_eq-Decides p q).1 (sym h), ne)))
-]
 
 -- each file has its object
 pub all_staged : (es : List Entry) → AreStaged (map placement_of es) (map object_of es)

@@ -1,12 +1,8 @@
-pub mod Alone
 pub mod Asked
 pub mod Built
 pub mod Endings
 pub mod Free
 pub mod Grouped
-pub mod Lines
-pub mod Listed
+pub mod OnePackage
 pub mod Nested
-pub mod OrderTexts
 pub mod Parts
-pub mod WordParts

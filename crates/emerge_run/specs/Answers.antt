@@ -1,59 +1,96 @@
 -- The answer that the words, the tree and the image ask for.
-use Rattle.std.specs.Prelude.{◌≡◌, ◌⊎◌, ℕ, List, Some}
+use Rattle.std.specs.Prelude.{◌≡◌, ◌⊎◌, ℕ, true, false, List, [], map}
+use Rattle.std.specs.List.{AllByRecursion}
 use Rattle.file_tree.specs.Disk.{HasBelow, Map}
 use Rattle.file_tree.specs.declared.objects.Entry.{Entry}
+use Rattle.dep_atom.specs.Match.{value_matches}
+use Rattle.dep_atom.specs.Values.{AtomValue, atom_value}
+use Rattle.dep_atom.specs.declared.package.Facts.{Facts}
+use Rattle.dep_atom.specs.declared.package.PackageId.{PackageId}
 use Rattle.build_pool.specs.declared.orders.Order.{Order}
 use Rattle.merge_record.specs.Recovered.{IsRecovered}
 use Rattle.recovery.specs.Promise.{IsBroken}
+use Rattle.vdb_text.specs.Database.{IsInstalled}
+use Rattle.vdb_text.specs.Files.{database_path}
+use Rattle.visible_set.specs.Candidates.{AreOffers, HasOddEntry, IsChosen}
 use Rattle.emerge_run.specs.Images.{FitsImage}
-use Rattle.emerge_run.specs.Installed.{IsInstalled}
-use Rattle.emerge_run.specs.Package.{cache_path, cache_text, database_path, plain}
-use Rattle.emerge_run.specs.Words.{IsCommand, IsOrder}
+use Rattle.emerge_run.specs.Package.{order_of}
+use Rattle.emerge_run.specs.Words.{IsCommand, IsRequest}
 use Rattle.emerge_run.specs.declared.judge.Standing.{Standing}
-use Rattle.emerge_run.specs.declared.judge.Standing.TheVariants.{Bare, Installed}
+use Rattle.emerge_run.specs.declared.judge.Standing.TheVariants.{Chosen, Installed, Unmatched}
 use Rattle.emerge_run.specs.declared.status.Part.{Part}
 use Rattle.emerge_run.specs.declared.status.Part.TheVariants.{Repository, Database, Journal, Image}
+use Rattle.emerge_run.specs.declared.status.Reason.{Reason}
+use Rattle.emerge_run.specs.declared.status.Reason.TheVariants.{NotMatched}
 use Rattle.emerge_run.specs.declared.status.Status.{Status}
 use Rattle.emerge_run.specs.declared.status.Status.TheVariants as status
 
--- the repository has the order's cache entry in the one form that is read
-abbrev pub HasEntry : Map → Order → Type 0
-HasEntry m o = m (cache_path o) ≡ Some (plain cache_text)
+-- each candidate of the atom's name has its entry in the one form that is read, and no package is installed
+pub record IsBare (m : Map) (a : AtomValue) : Type 0 where
+  pub read : HasOddEntry m a.name → ⊥
+  pub empty : HasBelow m database_path → ⊥
 
--- the entry is there, and nothing stands below the database's folder
-pub record IsReady (m : Map) (o : Order) : Type 0 where
-  pub entry : HasEntry m o
-  pub database : HasBelow m database_path → ⊥
+-- the same, and the atom chooses this candidate
+pub record IsReady (m : Map) (a : AtomValue) (f : Facts) : Type 0 where
+  pub bare : IsBare m a
+  pub chosen : IsChosen m a f
 
--- how the database stands to an order whose entry is there
-abbrev pub Stands : Map → Order → Standing → Type 0
-Stands m o Bare = IsReady m o
-Stands m o Installed = HasEntry m o × IsInstalled m o
+-- one package is installed, and the atom matches it
+pub record IsMet (m : Map) (a : AtomValue) : Type 0 where
+  pub facts : Facts
+  pub installed : IsInstalled m facts
+  pub matched : value_matches a facts [] ≡ true
+
+-- why the atom doesn't choose a candidate that could be read
+abbrev pub not_matched : Facts → PackageId × Reason
+not_matched f = (f.id, NotMatched)
+
+-- no package is installed, and the atom matches no candidate: these are all of them, the greatest version first, each with its reason
+pub record HasNone (m : Map) (a : AtomValue) (reasons : List (PackageId × Reason)) : Type 0 where
+  pub bare : IsBare m a
+  pub offers : List Facts
+  pub are : AreOffers m a.name offers
+  pub none : AllByRecursion (λ f. value_matches a f [] ≡ false) offers
+  pub told : reasons ≡ map not_matched offers
+
+-- how a recovered tree stands to an atom
+abbrev pub Stands : Map → AtomValue → Standing → Type 0
+Stands m a Installed = (HasOddEntry m a.name → ⊥) × IsMet m a
+Stands m a (Chosen f) = IsReady m a f
+Stands m a (Unmatched reasons) = HasNone m a reasons.items
+
+-- a candidate that was chosen is one that the atom matches, whatever the tree tells
+abbrev pub HasMatched : AtomValue → Standing → Type 0
+HasMatched a Installed = Unit {0}
+HasMatched a (Chosen f) = value_matches a f [] ≡ true
+HasMatched a (Unmatched reasons) = Unit {0}
 
 -- what a recovered tree is refused for, the first in this order
-abbrev pub Refuses : Map → Order → Part → Type 0
-Refuses m o Repository = HasEntry m o → ⊥
-Refuses m o Database = HasEntry m o × (HasBelow m database_path × (IsInstalled m o → ⊥))
-Refuses m o Journal = ⊥
-Refuses m o Image = ⊥
+abbrev pub Refuses : Map → AtomValue → Part → Type 0
+Refuses m a Repository = HasOddEntry m a.name
+Refuses m a Database = (HasOddEntry m a.name → ⊥) × (HasBelow m database_path × (IsMet m a → ⊥))
+Refuses m a Journal = ⊥
+Refuses m a Image = ⊥
 
--- the answer of a run for this order over a recovered tree and this image: each part that is not built comes exactly where it is the
--- first that is refused; Ok means that nothing is, and that the package is merged or was there. A failure or want of memory may come in place of any of them.
-abbrev pub AsksFor : Order → Map → (Order → List Entry) → Status → Type 0
-AsksFor o m image (status.Ok groups) = (IsReady m o × (FitsImage m (image o) × (groups ≡ 1))) ⊎ ((HasEntry m o × IsInstalled m o) × (groups ≡ 0))
-AsksFor o m image status.Usage = ⊥
-AsksFor o m image (status.NotBuilt Journal) = ⊥
-AsksFor o m image (status.NotBuilt Repository) = Refuses m o Repository
-AsksFor o m image (status.NotBuilt Database) = Refuses m o Database
-AsksFor o m image (status.NotBuilt Image) = IsReady m o × (FitsImage m (image o) → ⊥)
-AsksFor o m image (status.BuildFailed order) = (order ≡ o) × IsReady m o
-AsksFor o m image status.DeviceFault = Unit {0}
-AsksFor o m image status.OutputFault = Unit {0}
-AsksFor o m image status.Memory = Unit {0}
+-- the answer of a run for this atom over a recovered tree and this image: each part that is not built comes exactly where it is the
+-- first that is refused; Ok means that nothing is, and that the chosen package is merged or one that the atom matches was there. A
+-- failure or want of memory may come in place of any of them.
+abbrev pub AsksFor : AtomValue → Map → (Order → List Entry) → Status → Type 0
+AsksFor a m image (status.Ok groups) = ((f : Facts) × IsReady m a f × (FitsImage m (image (order_of f)) × (groups ≡ 1))) ⊎ (((HasOddEntry m a.name → ⊥) × IsMet m a) × (groups ≡ 0))
+AsksFor a m image status.Usage = ⊥
+AsksFor a m image (status.NotBuilt Journal) = ⊥
+AsksFor a m image (status.NotBuilt Repository) = Refuses m a Repository
+AsksFor a m image (status.NotBuilt Database) = Refuses m a Database
+AsksFor a m image (status.NotBuilt Image) = (f : Facts) × IsReady m a f × (FitsImage m (image (order_of f)) → ⊥)
+AsksFor a m image (status.NoCandidate atom reasons) = (atom_value atom ≡ a) × HasNone m a reasons.items
+AsksFor a m image (status.BuildFailed id) = (f : Facts) × IsReady m a f × (id ≡ f.id)
+AsksFor a m image status.DeviceFault = Unit {0}
+AsksFor a m image status.OutputFault = Unit {0}
+AsksFor a m image status.Memory = Unit {0}
 
--- the same, for the order of the words and what recovery makes of a tree
+-- the same, for the atom of the words and what recovery makes of a tree
 abbrev pub AsksAfter : List (List ℕ) → Map → (Order → List Entry) → Status → Type 0
-AsksAfter words opening image s = (o : Order) × IsOrder words o × ((m : Map) × IsRecovered opening m × AsksFor o m image s)
+AsksAfter words opening image s = (a : AtomValue) × IsRequest words a × ((m : Map) × IsRecovered opening m × AsksFor a m image s)
 
 -- The answer of a run over this tree and this image. Usage comes exactly where the words are no command, and the journal is refused
 -- exactly where it is broken.
@@ -64,7 +101,8 @@ Asks words opening image (status.NotBuilt Journal) = IsCommand words × IsBroken
 Asks words opening image (status.NotBuilt Repository) = AsksAfter words opening image (status.NotBuilt Repository)
 Asks words opening image (status.NotBuilt Database) = AsksAfter words opening image (status.NotBuilt Database)
 Asks words opening image (status.NotBuilt Image) = AsksAfter words opening image (status.NotBuilt Image)
-Asks words opening image (status.BuildFailed order) = AsksAfter words opening image (status.BuildFailed order)
+Asks words opening image (status.NoCandidate atom reasons) = AsksAfter words opening image (status.NoCandidate atom reasons)
+Asks words opening image (status.BuildFailed id) = AsksAfter words opening image (status.BuildFailed id)
 Asks words opening image status.DeviceFault = Unit {0}
 Asks words opening image status.OutputFault = Unit {0}
 Asks words opening image status.Memory = Unit {0}

@@ -5,7 +5,8 @@ use Rattle.file_tree.specs.Paths.{is_below}
 use Rattle.file_tree.specs.declared.objects.Entry.{Entry}
 use Rattle.file_tree.specs.declared.objects.Kind.TheVariants.{Plain}
 use Rattle.merge_record.specs.declared.limits.TheConstants.{MOST_FILE_BYTES}
-use Rattle.emerge_run.specs.Package.{database_path, state_path}
+use Rattle.vdb_text.specs.Files.{database_path}
+use Rattle.emerge_run.specs.Package.{state_path}
 
 -- one path is the other, or above or below it
 abbrev pub meets : List ℕ → List ℕ → Bool

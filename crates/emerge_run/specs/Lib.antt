@@ -1,6 +1,5 @@
 pub mod Answers
 pub mod Images
-pub mod Installed
 pub mod Outcomes
 pub mod Package
 pub mod Ready

@@ -1,19 +1,24 @@
 -- What a run leaves: its tree, its groups, and what it wrote.
-use Rattle.std.specs.Prelude.{◌≡◌, ◌⊎◌, ℕ, zero, suc, Bool, List, [], ◌∷◌, ◌++◌, Contains, IsTrue}
+use Rattle.std.specs.Prelude.{◌≡◌, ◌⊎◌, true, ℕ, zero, suc, Bool, List, [], ◌∷◌, ◌++◌, Contains, IsTrue}
 use Rattle.std.specs.List.{flat_map}
 use Rattle.file_tree.specs.Disk.{Disk, HasBelow, IsImage, IsUntouched, Map, Story}
 use Rattle.file_tree.specs.Moments.{Leaves, Since}
 use Rattle.file_tree.specs.declared.objects.Entry.{Entry}
 use Rattle.build_pool.specs.declared.orders.Order.{Order}
+use Rattle.dep_atom.specs.Match.{value_matches}
+use Rattle.dep_atom.specs.Values.{AtomValue}
+use Rattle.dep_atom.specs.declared.package.Facts.{Facts}
+use Rattle.dep_atom.specs.declared.package.PackageId.{PackageId}
+use Rattle.visible_set.specs.Candidates.{IsChosen}
 use Rattle.group_merge.specs.Phases.{IsShut}
 use Rattle.recovery.specs.Promise.{RecoversAlike}
 use Rattle.emerge_run.specs.Answers.{Asks, AsksFor}
 use Rattle.emerge_run.specs.Images.{FitsImage}
 use Rattle.merge_record.specs.Names.{jobs}
 use Rattle.merge_record.specs.Recovered.{IsRecovered}
-use Rattle.emerge_run.specs.Package.{files, with_files}
+use Rattle.emerge_run.specs.Package.{files, order_of, with_files}
 use Rattle.emerge_run.specs.Texts.{done_line, last_line}
-use Rattle.emerge_run.specs.Words.{IsOrder}
+use Rattle.emerge_run.specs.Words.{IsRequest}
 use Rattle.emerge_run.specs.declared.status.Part.TheVariants.{Image}
 use Rattle.emerge_run.specs.declared.status.Status.{Status}
 use Rattle.emerge_run.specs.declared.status.Status.TheVariants as status
@@ -46,43 +51,47 @@ pub record HasFiles (es : List Entry) (m : Map) (d : Disk) : Type 0 where
   pub reads : (q : List ℕ) → d.holds q ≡ with_files es m q
   pub untouched : IsUntouched d
 
--- an image recovers to the map, or to the map with the package of the order, its image being the one told
-abbrev pub RecoversTo : Order → (Order → List Entry) → Map → Map → Type 0
-RecoversTo o image m c = IsRecovered c m ⊎ ((e : Entry) × (image o ≡ e ∷ []) × IsRecovered c (with_files (files o e) m))
+-- the files of the package that the atom chooses in this map, its image being the one told
+abbrev pub IsAdded : AtomValue → (Order → List Entry) → Map → List Entry → Type 0
+IsAdded a image m es = (f : Facts) × IsChosen m a f × ((e : Entry) × (image (order_of f) ≡ e ∷ []) × (es ≡ files f e))
 
--- what a run for an order leaves, by the groups of its history
-abbrev pub RanTo : Order → (Order → List Entry) → List ℕ → Story → Story → Type 0 → Type 0
-RanTo o image [] old new failed = Leaves (λ c. IsRecovered c old.now.holds) new.now ⊎ failed
-RanTo o image (g ∷ gs) old new failed = (e : Entry) × (image o ≡ e ∷ []) × GetsFiles (files o e) old.now.holds old new
+-- an image recovers to the map, or to the map with the package
+abbrev pub RecoversTo : AtomValue → (Order → List Entry) → Map → Map → Type 0
+RecoversTo a image m c = IsRecovered c m ⊎ ((es : List Entry) × IsAdded a image m es × IsRecovered c (with_files es m))
 
--- the disk reads as the map, with the package of the order where a group was merged, and a crash leaves just that
-abbrev pub EndsWith : Order → (Order → List Entry) → ℕ → Map → Disk → Type 0
-EndsWith o image zero m d = HasFiles [] m d
-EndsWith o image (suc n) m d = (e : Entry) × (image o ≡ e ∷ []) × HasFiles (files o e) m d
+-- what a run for an atom leaves, by the groups of its history
+abbrev pub RanTo : AtomValue → (Order → List Entry) → List ℕ → Story → Story → Type 0 → Type 0
+RanTo a image [] old new failed = Leaves (λ c. IsRecovered c old.now.holds) new.now ⊎ failed
+RanTo a image (g ∷ gs) old new failed = (es : List Entry) × IsAdded a image old.now.holds es × GetsFiles es old.now.holds old new
 
--- how a run for an order ended, over a tree at rest
-pub record Ran (o : Order) (image : Order → List Entry) (old new : Story) (history : List ℕ) (s : Status) (failed : Type 0) : Type 0 where
-  pub answer : AsksFor o old.now.holds image s
-  pub moments : Since (RecoversTo o image old.now.holds) old new
-  pub tree : RanTo o image history old new failed
-  pub done : (n : ℕ) → s ≡ status.Ok n → EndsWith o image n old.now.holds new.now
+-- the disk reads as the map, with the package where a group was merged, and a crash leaves just that
+abbrev pub EndsWith : AtomValue → (Order → List Entry) → ℕ → Map → Disk → Type 0
+EndsWith a image zero m d = HasFiles [] m d
+EndsWith a image (suc n) m d = (es : List Entry) × IsAdded a image m es × HasFiles es m d
 
--- an image is one of the disk, or recovers to what the disk recovers to
+-- how a run for an atom ended, over a tree at rest
+pub record Ran (a : AtomValue) (image : Order → List Entry) (old new : Story) (history : List ℕ) (s : Status) (failed : Type 0) : Type 0 where
+  pub answer : AsksFor a old.now.holds image s
+  pub moments : Since (RecoversTo a image old.now.holds) old new
+  pub tree : RanTo a image history old new failed
+  pub done : (n : ℕ) → s ≡ status.Ok n → EndsWith a image n old.now.holds new.now
+
+-- an image is one of the disk, or it and the disk recover to the same map
 abbrev pub IsKept : Disk → Map → Type 0
 IsKept d c = IsImage d c ⊎ RecoversAlike d.holds c
 
--- an image recovers to what the disk recovers to, with the files
-abbrev pub RecoversWith : List Entry → Disk → Map → Type 0
-RecoversWith es d c = (m : Map) → IsRecovered d.holds m → IsRecovered c (with_files es m)
+-- an image recovers to what the disk recovers to, with the package that the atom chooses there
+abbrev pub RecoversWith : AtomValue → (Order → List Entry) → Disk → Map → Type 0
+RecoversWith a image d c = (m : Map) × IsRecovered d.holds m × ((es : List Entry) × IsAdded a image m es × IsRecovered c (with_files es m))
 
--- an image is one of the disk, or recovers to what the disk recovers to, without or with the package of the words, its image being the one told
+-- an image is one of the disk, or recovers to what the disk recovers to, without or with the package of the words
 abbrev pub IsBeforeOrAfter : List (List ℕ) → (Order → List Entry) → Disk → Map → Type 0
-IsBeforeOrAfter words image d c = IsKept d c ⊎ ((o : Order) × IsOrder words o × ((e : Entry) × (image o ≡ e ∷ []) × RecoversWith (files o e) d c))
+IsBeforeOrAfter words image d c = IsKept d c ⊎ ((a : AtomValue) × IsRequest words a × RecoversWith a image d c)
 
--- from some moment on each crash recovers to the tree with the package of the words
+-- from some moment on each crash recovers to the recovered tree with the package of the words
 abbrev pub GetsPackage : List (List ℕ) → (Order → List Entry) → Story → Story → Type 0
-GetsPackage words image old new = (o : Order) × IsOrder words o × ((e : Entry) × (image o ≡ e ∷ [])
-    × ((mid : Story) × Since (IsBeforeOrAfter words image old.now) old mid × Since (RecoversWith (files o e) old.now) mid new))
+GetsPackage words image old new = (a : AtomValue) × IsRequest words a × ((m : Map) × IsRecovered old.now.holds m × ((es : List Entry) × IsAdded a image m es
+    × ((mid : Story) × Since (IsBeforeOrAfter words image old.now) old mid × Since (λ c. IsRecovered c (with_files es m)) mid new)))
 
 -- what a run leaves, by the groups of its history; where there are none a crash recovers to what the tree recovered to, unless a device failed
 abbrev pub IsApplied : List (List ℕ) → (Order → List Entry) → List ℕ → Story → Story → Type 0 → Type 0
@@ -91,7 +100,7 @@ IsApplied words image (g ∷ gs) old new failed = GetsPackage words image old ne
 
 -- the disk reads as the recovered tree, with the package of the words where a group was merged, and a crash leaves just that
 abbrev pub HasPackage : List (List ℕ) → (Order → List Entry) → ℕ → Disk → Disk → Type 0
-HasPackage words image n old new = (o : Order) × IsOrder words o × ((m : Map) × IsRecovered old.holds m × EndsWith o image n m new)
+HasPackage words image n old new = (a : AtomValue) × IsRequest words a × ((m : Map) × IsRecovered old.holds m × EndsWith a image n m new)
 
 -- How a run over this tree ended: with the answer that it asks for, and a tree that has the groups of its history. A crash at any moment
 -- since it began leaves an image of that beginning, or one that recovers to the tree before or to the tree with the package.
@@ -106,51 +115,52 @@ abbrev pub OfSomeBuilder : {B : Type 0} → Bool → (B → Order → List Entry
 OfSomeBuilder {B} tells told resting P = (b : B) × Contains resting b × ((image : Order → List Entry) × (IsTrue tells → image ≡ told b) × P image)
 
 -- what asking the builder gives beside an image that fits
-abbrev pub ImageAsks : Bool → List Entry → Map → Order → Status → Type 0
-ImageAsks tells told m o (status.NotBuilt Image) = (image : List Entry) × (IsTrue tells → image ≡ told) × (FitsImage m image → ⊥)
-ImageAsks tells told m o (status.NotBuilt part) = ⊥
-ImageAsks tells told m o (status.BuildFailed order) = order ≡ o
-ImageAsks tells told m o status.DeviceFault = Unit {0}
-ImageAsks tells told m o status.Memory = Unit {0}
-ImageAsks tells told m o status.OutputFault = ⊥
-ImageAsks tells told m o status.Usage = ⊥
-ImageAsks tells told m o (status.Ok groups) = ⊥
+abbrev pub ImageAsks : Bool → List Entry → Map → PackageId → Status → Type 0
+ImageAsks tells told m id (status.NotBuilt Image) = (image : List Entry) × (IsTrue tells → image ≡ told) × (FitsImage m image → ⊥)
+ImageAsks tells told m id (status.NotBuilt part) = ⊥
+ImageAsks tells told m id (status.BuildFailed failed) = failed ≡ id
+ImageAsks tells told m id status.DeviceFault = Unit {0}
+ImageAsks tells told m id status.Memory = Unit {0}
+ImageAsks tells told m id status.OutputFault = ⊥
+ImageAsks tells told m id status.Usage = ⊥
+ImageAsks tells told m id (status.NoCandidate atom reasons) = ⊥
+ImageAsks tells told m id (status.Ok groups) = ⊥
 
--- the lines of the acknowledged groups
-abbrev pub IsLines : List (List ℕ) → List ℕ → List ℕ → Type 0
-IsLines words [] text = text ≡ []
-IsLines words (g ∷ gs) text = (o : Order) × IsOrder words o × (text ≡ flat_map (done_line o) (g ∷ gs))
+-- the package that the atom chooses; of a tree that tells nothing only that the atom matches it
+abbrev pub IsPackageOf : AtomValue → Bool → Map → PackageId → Type 0
+IsPackageOf a tells m id = (f : Facts) × (f.id ≡ id) × ((value_matches a f [] ≡ true) × (IsTrue tells → IsChosen m a f))
+
+-- the package that the words choose in what recovery makes of a tree
+abbrev pub IsNamed : List (List ℕ) → Bool → Map → PackageId → Type 0
+IsNamed words tells opening id = (a : AtomValue) × IsRequest words a × ((m : Map) × (IsTrue tells → IsRecovered opening m) × IsPackageOf a tells m id)
+
+-- the lines of the acknowledged groups, which name such a package
+abbrev pub IsLines : (PackageId → Type 0) → List ℕ → List ℕ → Type 0
+IsLines P [] text = text ≡ []
+IsLines P (g ∷ gs) text = (id : PackageId) × P id × (text ≡ flat_map (done_line id) (g ∷ gs))
 
 -- what a run wrote: the lines of the acknowledged groups and the last line
-abbrev pub IsOutput : List (List ℕ) → List ℕ → Status → List ℕ → Type 0
-IsOutput words acknowledged s text = (lines : List ℕ) × IsLines words acknowledged lines × (text ≡ lines ++ last_line s)
+abbrev pub IsOutput : (PackageId → Type 0) → List ℕ → Status → List ℕ → Type 0
+IsOutput P acknowledged s text = (lines : List ℕ) × IsLines P acknowledged lines × (text ≡ lines ++ last_line s)
 
 -- an answer that is given before anything is changed
 abbrev pub IsRefusal : Status → Type 0
 IsRefusal status.Usage = Unit {0}
 IsRefusal (status.NotBuilt part) = Unit {0}
-IsRefusal (status.BuildFailed order) = Unit {0}
+IsRefusal (status.NoCandidate atom reasons) = Unit {0}
+IsRefusal (status.BuildFailed id) = Unit {0}
 IsRefusal (status.Ok groups) = ⊥
 IsRefusal status.DeviceFault = ⊥
 IsRefusal status.OutputFault = ⊥
 IsRefusal status.Memory = ⊥
-
--- the answers that come before a builder is asked
-abbrev pub IsBeforeBuild : Status → Type 0
-IsBeforeBuild status.Usage = Unit {0}
-IsBeforeBuild (status.NotBuilt part) = Unit {0}
-IsBeforeBuild status.DeviceFault = Unit {0}
-IsBeforeBuild status.Memory = Unit {0}
-IsBeforeBuild (status.BuildFailed order) = ⊥
-IsBeforeBuild (status.Ok groups) = ⊥
-IsBeforeBuild status.OutputFault = ⊥
 
 -- the answers that come of building and judging an image
 abbrev pub IsFromBuild : Status → Type 0
 IsFromBuild (status.NotBuilt part) = Unit {0}
 IsFromBuild status.DeviceFault = Unit {0}
 IsFromBuild status.Memory = Unit {0}
-IsFromBuild (status.BuildFailed order) = Unit {0}
+IsFromBuild (status.BuildFailed id) = Unit {0}
+IsFromBuild (status.NoCandidate atom reasons) = ⊥
 IsFromBuild status.Usage = ⊥
 IsFromBuild (status.Ok groups) = ⊥
 IsFromBuild status.OutputFault = ⊥
@@ -163,4 +173,5 @@ IsLate status.OutputFault = Unit {0}
 IsLate status.Memory = Unit {0}
 IsLate status.Usage = ⊥
 IsLate (status.NotBuilt part) = ⊥
-IsLate (status.BuildFailed order) = ⊥
+IsLate (status.NoCandidate atom reasons) = ⊥
+IsLate (status.BuildFailed id) = ⊥

@@ -1,12 +1,16 @@
 -- The status that each inner fault becomes, and what the tree is refused for.
 use Rattle.file_tree.specs.Disk.{Map}
-use Rattle.build_pool.specs.declared.orders.Order.{Order}
+use Rattle.dep_atom.specs.Values.{AtomValue}
+use Rattle.dep_atom.specs.declared.fault.AtomFault.{AtomFault}
+use Rattle.dep_atom.specs.declared.fault.AtomFault.TheVariants as atoms
 use Rattle.emerge_run.specs.Answers.{Refuses}
 use Rattle.file_tree.specs.declared.fault.TreeFault.{TreeFault}
 use Rattle.file_tree.specs.declared.fault.TreeFault.TheVariants as tree
 use Rattle.recovery.specs.declared.fault.RecoverFault.{RecoverFault}
 use Rattle.recovery.specs.declared.fault.RecoverFault.TheVariants as recovery
-use Rattle.emerge_run.specs.declared.status.Part.TheVariants.{Journal}
+use Rattle.visible_set.specs.declared.fault.CandidateFault.{CandidateFault}
+use Rattle.visible_set.specs.declared.fault.CandidateFault.TheVariants as candidates
+use Rattle.emerge_run.specs.declared.status.Part.TheVariants.{Journal, Repository}
 use Rattle.emerge_run.specs.declared.refusal.Refusal.{Refusal}
 use Rattle.emerge_run.specs.declared.refusal.Refusal.TheVariants as refusals
 use Rattle.emerge_run.specs.declared.words.WordFault.{WordFault}
@@ -17,6 +21,11 @@ use Rattle.emerge_run.specs.declared.status.Status.TheVariants as status
 abbrev pub refusal_of : TreeFault → Refusal
 refusal_of tree.Failed = refusals.Failed
 refusal_of tree.Memory = refusals.Memory
+
+abbrev pub refusal_of_candidates : CandidateFault → Refusal
+refusal_of_candidates candidates.OddEntry = refusals.NotBuilt Repository
+refusal_of_candidates candidates.Failed = refusals.Failed
+refusal_of_candidates candidates.Memory = refusals.Memory
 
 abbrev pub status_of : Refusal → Status
 status_of (refusals.NotBuilt what) = status.NotBuilt what
@@ -32,12 +41,16 @@ status_of_recovery recovery.Journal = status.NotBuilt Journal
 status_of_recovery recovery.Failed = status.DeviceFault
 status_of_recovery recovery.Memory = status.Memory
 
+abbrev pub word_fault : AtomFault → WordFault
+word_fault atoms.Memory = word.Memory
+word_fault _ = word.Usage
+
 abbrev pub status_of_word : WordFault → Status
 status_of_word word.Usage = status.Usage
 status_of_word word.Memory = status.Memory
 
 -- what the tree is refused for; a failure and want of memory say nothing of it
-abbrev pub TreeRefuses : Map → Order → Refusal → Type 0
-TreeRefuses m o (refusals.NotBuilt what) = Refuses m o what
-TreeRefuses m o refusals.Failed = Unit {0}
-TreeRefuses m o refusals.Memory = Unit {0}
+abbrev pub TreeRefuses : Map → AtomValue → Refusal → Type 0
+TreeRefuses m a (refusals.NotBuilt what) = Refuses m a what
+TreeRefuses m a refusals.Failed = Unit {0}
+TreeRefuses m a refusals.Memory = Unit {0}

@@ -1,16 +1,20 @@
--- What a run writes.
+-- What a run writes, and the number that it ends with.
 use Rattle.std.specs.Prelude.{ℕ, List, [], ◌∷◌, ◌++◌, codes}
 use Rattle.std.specs.Fmt.{decimal}
-use Rattle.build_pool.specs.declared.orders.Order.{Order}
-use Rattle.emerge_run.specs.Words.{order_text}
+use Rattle.std.specs.List.{flat_map}
+use Rattle.dep_atom.specs.Ids.{id_text}
+use Rattle.dep_atom.specs.Text.{atom_text}
+use Rattle.dep_atom.specs.declared.package.PackageId.{PackageId}
 use Rattle.emerge_run.specs.declared.status.Part.{Part}
 use Rattle.emerge_run.specs.declared.status.Part.TheVariants.{Repository, Database, Journal, Image}
+use Rattle.emerge_run.specs.declared.status.Reason.{Reason}
+use Rattle.emerge_run.specs.declared.status.Reason.TheVariants.{NotMatched}
 use Rattle.emerge_run.specs.declared.status.Status.{Status}
 use Rattle.emerge_run.specs.declared.status.Status.TheVariants as status
 
 -- the line of a group that adds one package
-abbrev pub done_line : Order → ℕ → List ℕ
-done_line o group = codes "done " ++ (decimal group ++ (codes " +" ++ (order_text o ++ 10 ∷ [])))
+abbrev pub done_line : PackageId → ℕ → List ℕ
+done_line id group = codes "done " ++ (decimal group ++ (codes " +" ++ (id_text id ++ (10 ∷ []))))
 
 abbrev pub part_word : Part → List ℕ
 part_word Repository = codes "Repository"
@@ -18,14 +22,33 @@ part_word Database = codes "Database"
 part_word Journal = codes "Journal"
 part_word Image = codes "Image"
 
+abbrev pub reason_word : Reason → List ℕ
+reason_word NotMatched = codes "NotMatched"
+
+-- a candidate and its reason, in parentheses behind a space
+abbrev pub reason_text : PackageId × Reason → List ℕ
+reason_text r = codes " (" ++ (id_text r.0 ++ (32 ∷ (reason_word r.1 ++ (41 ∷ []))))
+
 abbrev pub last_word : Status → List ℕ
 last_word (status.Ok groups) = codes "ok " ++ decimal groups
 last_word status.Usage = codes "Usage"
-last_word (status.BuildFailed order) = codes "BuildFailed: " ++ order_text order
+last_word (status.NoCandidate atom reasons) = codes "NoCandidate: " ++ (atom_text atom ++ flat_map reason_text reasons.items)
+last_word (status.BuildFailed id) = codes "BuildFailed: " ++ id_text id
 last_word status.DeviceFault = codes "DeviceFault"
 last_word status.OutputFault = codes "OutputFault"
 last_word status.Memory = codes "Memory"
 last_word (status.NotBuilt what) = codes "NotBuilt: " ++ part_word what
 
 abbrev pub last_line : Status → List ℕ
-last_line s = codes "emerge: " ++ (last_word s ++ 10 ∷ [])
+last_line s = codes "emerge: " ++ (last_word s ++ (10 ∷ []))
+
+-- the number that a program ends with
+abbrev pub code_of : Status → ℕ
+code_of (status.Ok groups) = 0
+code_of status.Usage = 2
+code_of (status.NoCandidate atom reasons) = 7
+code_of (status.BuildFailed id) = 15
+code_of status.DeviceFault = 16
+code_of status.OutputFault = 17
+code_of status.Memory = 19
+code_of (status.NotBuilt what) = 20

@@ -1,5 +1,6 @@
 ghost use Rattle.std.specs.Prelude.{◌≡◌, ◌<◌, ◌^◌, [], IfOk, OnOk, length, map, true};
-ghost use Rattle.group_merge.specs.Group.{plain, token};
+ghost use Rattle.file_tree.specs.Thing.{plain};
+ghost use Rattle.group_merge.specs.Group.{token};
 ghost use Rattle.merge_record.specs.Spelling.{Fits, spelling};
 ghost use Rattle.merge_record.specs.Judging.{are_free, footprint};
 ghost use Rattle.emerge_run.specs.Package.{object_of, placement_of, placing};
@@ -23,7 +24,8 @@ pub struct Group {
 
 impl Model for Group {
     ghost use Rattle.std.specs.Prelude.{◌≡◌, length};
-    ghost use Rattle.group_merge.specs.Group.{IsGroup, plain, token};
+    ghost use Rattle.file_tree.specs.Thing.{plain};
+    ghost use Rattle.group_merge.specs.Group.{IsGroup, token};
     ghost use Rattle.merge_record.specs.Spelling.{spelling};
     ghost use Rattle.emerge_run.specs.Ready.{Ready};
 

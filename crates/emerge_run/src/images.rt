@@ -4,15 +4,17 @@ ghost use Rattle.file_tree.specs.Paths.{is_below};
 ghost use Rattle.build_pool.specs.Pool.{PoolRose, SameIds, faults_of};
 ghost use Rattle.emerge_run.specs.Images.{Fits, HasOne, HoldsPart, IsFree, is_reserved, meets};
 ghost use Rattle.merge_record.specs.declared.limits.TheConstants.{MOST_FILE_BYTES};
-ghost use Rattle.emerge_run.specs.Package.{database_path, state_path};
+ghost use Rattle.vdb_text.specs.Files.{database_path};
+ghost use Rattle.emerge_run.specs.Package.{state_path};
 
-use crate::package::{path_of_database, path_of_state};
+use crate::package::path_of_state;
 use crate::refusal::Refusal;
 use crate::status::Part;
 use build_pool::{BuildPool, BuildStop, Builder, Order};
 use file_tree::{Entry, Kind, Look, Path, Tree};
 use merge_record::MOST_FILE_BYTES;
 use std::alloc::{AllocError, Global};
+use vdb_text::path_of_database;
 
 /// Has a builder of the pool build the order, and answers the entry of an image of just one.
 pub fn built_entry<B: Builder>(

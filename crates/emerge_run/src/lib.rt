@@ -5,13 +5,12 @@ mod carry;
 mod ending;
 mod group;
 mod images;
-mod installed;
 mod judge;
 mod merge;
-mod order;
 mod package;
 mod prepare;
 mod refusal;
+mod request;
 mod run;
 mod status;
 #[cfg(test)]
@@ -20,4 +19,4 @@ mod texts;
 mod words;
 
 pub use run::{Ended, emerge};
-pub use status::{Part, Status};
+pub use status::{Part, Reason, Status};

@@ -3,6 +3,7 @@ use crate::words::WordFault;
 use file_tree::{Failed, TreeFault};
 use recovery::RecoverFault;
 use std::alloc::AllocError;
+use visible_set::CandidateFault;
 
 /// Why a look at the tree ends the run.
 #[derive(Clone, Copy, Debug, PartialEq, Eq)]
@@ -44,6 +45,21 @@ impl From<TreeFault> for Refusal {
         match fault {
             TreeFault::Failed => Refusal::Failed,
             TreeFault::Memory => Refusal::Memory,
+        }
+    }
+}
+
+impl From<CandidateFault> for Refusal {
+    ghost use Rattle.std.specs.Prelude.{◌≡◌};
+    ghost use Rattle.emerge_run.specs.Refusals.{refusal_of_candidates};
+
+    ghost from_gives = { λ f r. r ≡ refusal_of_candidates f };
+
+    fn from(fault: CandidateFault) -> Refusal {
+        match fault {
+            CandidateFault::OddEntry => Refusal::NotBuilt(Part::Repository),
+            CandidateFault::Failed => Refusal::Failed,
+            CandidateFault::Memory => Refusal::Memory,
         }
     }
 }

@@ -2,14 +2,14 @@ ghost use Rattle.std.specs.Prelude.{◌≡◌, ◌≤◌, ◌<◌, ◌⊎◌, �
 ghost use Rattle.file_tree.specs.Disk.{Rose};
 ghost use Rattle.file_tree.specs.Moments.{Leaves};
 ghost use Rattle.build_pool.specs.Pool.{PoolRose, SameIds};
-ghost use Rattle.build_pool.specs.declared.orders.Order.{Order};
-ghost use Rattle.emerge_run.specs.Outcomes.{IsKept, IsLines, IsOutput, IsRefusal, OfSomeBuilder, Outcome};
+ghost use Rattle.dep_atom.specs.declared.package.PackageId.{PackageId};
+ghost use Rattle.emerge_run.specs.Outcomes.{IsKept, IsLines, IsNamed, IsOutput, IsRefusal, OfSomeBuilder, Outcome};
 ghost use Rattle.emerge_run.specs.Words.{IsCommand};
 
 use crate::ending::finish;
-use crate::order::run_order;
+use crate::request::run_request;
 use crate::status::Status;
-use crate::words::read_order;
+use crate::words::read_request;
 use build_pool::{BuildPool, Builder};
 use file_tree::{Sink, Tree};
 use recovery::recover;
@@ -38,9 +38,11 @@ pub struct Reached {
 
 /// One command, from its words to its last line.
 ///
-/// First an interrupted merge is completed or dropped. A package that is merged has its files at
-/// their paths and its record below `var/db/pkg`; its line comes after they are synced, and last the
-/// journal is cleared. Want of memory may be answered in place of anything.
+/// First an interrupted merge is completed or dropped. The word is an atom without a block; of the
+/// candidates of its name the greatest version that it matches is merged, unless a package that it
+/// matches is installed. A package that is merged has its files at their paths and its record below
+/// `var/db/pkg`; its line comes after they are synced, and last the journal is cleared. Want of memory
+/// may be answered in place of anything.
 pub fn emerge<T: Tree + Send, S: Sink + Send, B: Builder + Send>(
     alloc: Global,
     words: &[String],
@@ -60,13 +62,13 @@ pub fn emerge<T: Tree + Send, S: Sink + Send, B: Builder + Send>(
     ensures acknowledged { (result.acknowledged.items ≡ []) ⊎ (result.acknowledged.items ≡ result.history.items) }
 
     // What was written is the lines of the acknowledged groups and the last line, unless the output failed.
-    ensures written { IsTrue S.tells → ((text : List ℕ) × IsOutput (map string_bytes words.now) result.acknowledged.items result.status text × (S.written result.out ≡ S.written out ++ text)) ⊎ Rose (S.faults out) (S.faults result.out) }
-    ensures told { IsTrue S.tells → (n : ℕ) → result.status ≡ Status.Ok n → (text : List ℕ) × IsOutput (map string_bytes words.now) result.acknowledged.items result.status text × (S.written result.out ≡ S.written out ++ text) }
+    ensures written { IsTrue S.tells → ((text : List ℕ) × IsOutput (IsNamed (map string_bytes words.now) T.tells (T.story tree).now.holds) result.acknowledged.items result.status text × (S.written result.out ≡ S.written out ++ text)) ⊎ Rose (S.faults out) (S.faults result.out) }
+    ensures told { IsTrue S.tells → (n : ℕ) → result.status ≡ Status.Ok n → (text : List ℕ) × IsOutput (IsNamed (map string_bytes words.now) T.tells (T.story tree).now.holds) result.acknowledged.items result.status text × (S.written result.out ≡ S.written out ++ text) }
 
     // Each answer but want of memory has its cause.
     ensures usage { result.status ≡ Status.Usage → IsCommand (map string_bytes words.now) → ⊥ }
     ensures no_command { (IsCommand (map string_bytes words.now) → ⊥) → (result.status ≡ Status.Usage) ⊎ ((result.status ≡ Status.OutputFault) ⊎ (result.status ≡ Status.Memory)) }
-    ensures build { (o : Order) → result.status ≡ Status.BuildFailed o → PoolRose B.faults pool result.pool }
+    ensures build { (id : PackageId) → result.status ≡ Status.BuildFailed id → PoolRose B.faults pool result.pool }
     ensures device { result.status ≡ Status.DeviceFault → Rose (T.faults tree) (T.faults result.tree) }
     ensures output { result.status ≡ Status.OutputFault → Rose (S.faults out) (S.faults result.out) }
     ensures ids { SameIds B.number pool result.pool }
@@ -99,22 +101,22 @@ fn attempt<T: Tree, S: Sink, B: Builder>(
     ensures history { (result.history.items ≡ []) ⊎ (result.history.items ≡ 1 ∷ []) }
     ensures refused { IsRefusal result.status → result.history.items ≡ [] }
     ensures acknowledged { (result.acknowledged.items ≡ []) ⊎ (result.acknowledged.items ≡ result.history.items) }
-    ensures written { IsTrue S.tells → ((text : List ℕ) × IsLines (map string_bytes words.now) result.acknowledged.items text × (S.written out.new ≡ S.written out.old ++ text)) ⊎ Rose (S.faults out.old) (S.faults out.new) }
-    ensures told { IsTrue S.tells → (n : ℕ) → result.status ≡ Status.Ok n → (text : List ℕ) × IsLines (map string_bytes words.now) result.acknowledged.items text × (S.written out.new ≡ S.written out.old ++ text) }
+    ensures written { IsTrue S.tells → ((text : List ℕ) × IsLines (IsNamed (map string_bytes words.now) T.tells (T.story tree.old).now.holds) result.acknowledged.items text × (S.written out.new ≡ S.written out.old ++ text)) ⊎ Rose (S.faults out.old) (S.faults out.new) }
+    ensures told { IsTrue S.tells → (n : ℕ) → result.status ≡ Status.Ok n → (text : List ℕ) × IsLines (IsNamed (map string_bytes words.now) T.tells (T.story tree.old).now.holds) result.acknowledged.items text × (S.written out.new ≡ S.written out.old ++ text) }
     ensures usage { result.status ≡ Status.Usage → IsCommand (map string_bytes words.now) → ⊥ }
     ensures no_command { (IsCommand (map string_bytes words.now) → ⊥) → (result.status ≡ Status.Usage) ⊎ (result.status ≡ Status.Memory) }
-    ensures build { (o : Order) → result.status ≡ Status.BuildFailed o → PoolRose B.faults pool.old pool.new }
+    ensures build { (id : PackageId) → result.status ≡ Status.BuildFailed id → PoolRose B.faults pool.old pool.new }
     ensures device { result.status ≡ Status.DeviceFault → Rose (T.faults tree.old) (T.faults tree.new) }
     ensures output { result.status ≡ Status.OutputFault → Rose (S.faults out.old) (S.faults out.new) }
     ensures out_count { S.faults out.old ≤ S.faults out.new }
     ensures ids { SameIds B.number pool.old pool.new }
 {
-    let order = match read_order(alloc, words) {
-        Ok(order) => order,
+    let atom = match read_request(alloc, words) {
+        Ok(atom) => atom,
         Err(fault) => return stopped(alloc, Status::from(fault)),
     };
     match recover(alloc, tree) {
-        Ok(()) => run_order(alloc, &order, tree, out, pool),
+        Ok(()) => run_request(alloc, atom, tree, out, pool),
         Err(fault) => stopped(alloc, Status::from(fault)),
     }
 }

@@ -1,4 +1,4 @@
-use build_pool::Order;
+use dep_atom::{Atom, PackageId};
 
 /// A part of the product that is not there yet for what the run met.
 #[derive(Clone, Copy, Debug, PartialEq, Eq)]
@@ -13,15 +13,31 @@ pub enum Part {
     Image,
 }
 
+/// Why an atom doesn't choose a candidate.
+#[derive(Clone, Copy, Debug, PartialEq, Eq)]
+pub enum Reason {
+    /// The atom doesn't match it.
+    NotMatched,
+}
+
 /// How a run ended.
 #[derive(Debug, Drop)]
 pub enum Status {
     /// The command was done, with this many groups acknowledged.
-    Ok { groups: u32 },
+    Ok {
+        groups: u32,
+    },
     /// The words are no command.
     Usage,
+    /// The atom matches no candidate of its name: these are all of them, the greatest version first.
+    NoCandidate {
+        atom: Atom,
+        reasons: Vec<(PackageId, Reason)>,
+    },
     /// A builder failed at this package.
-    BuildFailed { package: Order },
+    BuildFailed {
+        package: PackageId,
+    },
     /// The tree's device failed.
     DeviceFault,
     /// The output failed.
@@ -29,15 +45,23 @@ pub enum Status {
     /// Memory ran out.
     Memory,
     /// The run met what this part of the product can't do yet.
-    NotBuilt { what: Part },
+    NotBuilt {
+        what: Part,
+    },
 }
 
 impl Status {
+    ghost use Rattle.std.specs.Prelude.{◌≡◌};
+    ghost use Rattle.emerge_run.specs.Texts.{code_of};
+
     /// The number that a program ends with.
-    pub fn code(&self) -> u8 {
+    pub fn code(&self) -> u8
+        ensures { result ≡ code_of self.now }
+    {
         match self {
             Status::Ok { .. } => 0,
             Status::Usage => 2,
+            Status::NoCandidate { .. } => 7,
             Status::BuildFailed { .. } => 15,
             Status::DeviceFault => 16,
             Status::OutputFault => 17,

@@ -1,19 +1,19 @@
-ghost use Rattle.std.specs.Prelude.{◌≡◌, ◌++◌, ◌∷◌, [], IfOk, IfSome, codes, string_bytes};
-ghost use Rattle.emerge_run.specs.Texts.{done_line, last_line};
-ghost use Rattle.emerge_run.specs.Words.{order_text};
+ghost use Rattle.std.specs.Prelude.{◌≡◌, ◌++◌, ◌∷◌, [], IfOk, IfSome, OnOk, codes, string_bytes};
+ghost use Rattle.std.specs.List.{flat_map};
+ghost use Rattle.dep_atom.specs.Ids.{id_text};
+ghost use Rattle.dep_atom.specs.Text.{atom_text};
+ghost use Rattle.emerge_run.specs.Texts.{done_line, last_line, reason_text, reason_word};
 
-use crate::status::{Part, Status};
-use build_pool::Order;
+use crate::status::{Part, Reason, Status};
+use dep_atom::{Atom, PackageId};
 use std::alloc::{AllocError, Global};
 
-/// The line of a group that adds the package of the order.
-pub fn line_of_group(alloc: Global, order: &Order, group: u32) -> Result<String, AllocError>
-    ensures { IfOk result (λ t. string_bytes t ≡ done_line order.now group) }
+/// The line of a group that adds the package.
+pub fn line_of_group(alloc: Global, package: &PackageId, group: u32) -> Result<String, AllocError>
+    ensures { IfOk result (λ t. string_bytes t ≡ done_line «package».now group) }
 {
-    let category = order.category.as_str();
-    let package = order.package.as_str();
-    let version = order.version.as_str();
-    format!(in alloc; "done {group} +{category}/{package}-{version}\n")
+    let text = package.print(alloc)?;
+    format!(in alloc; "done {group} +{text}\n")
 }
 
 /// The last line of a status that names nothing: it takes no memory.
@@ -21,7 +21,7 @@ pub fn fixed_line(status: &Status) -> Option<&'static str>
     ensures { IfSome result (λ t. t.now ≡ last_line status.now) }
 {
     match status {
-        Status::Ok { .. } | Status::BuildFailed { .. } => None,
+        Status::Ok { .. } | Status::NoCandidate { .. } | Status::BuildFailed { .. } => None,
         Status::Usage => Some("emerge: Usage\n"),
         Status::DeviceFault => Some("emerge: DeviceFault\n"),
         Status::OutputFault => Some("emerge: OutputFault\n"),
@@ -41,6 +41,7 @@ pub fn line_of_status(alloc: Global, status: &Status) -> Result<String, AllocErr
 {
     match status {
         Status::Ok { groups } => format!(in alloc; "emerge: ok {groups}\n"),
+        Status::NoCandidate { atom, reasons } => unmatched_line(alloc, atom, reasons),
         Status::BuildFailed { package } => failed_line(alloc, package),
         other => match fixed_line(other) {
             Some(line) => String::from_str(alloc, line),
@@ -49,11 +50,55 @@ pub fn line_of_status(alloc: Global, status: &Status) -> Result<String, AllocErr
     }
 }
 
-fn failed_line(alloc: Global, order: &Order) -> Result<String, AllocError>
-    ensures { IfOk result (λ t. string_bytes t ≡ codes "emerge: BuildFailed: " ++ (order_text order.now ++ 10 ∷ [])) }
+fn failed_line(alloc: Global, package: &PackageId) -> Result<String, AllocError>
+    ensures { IfOk result (λ t. string_bytes t ≡ codes "emerge: BuildFailed: " ++ (id_text «package».now ++ 10 ∷ [])) }
 {
-    let category = order.category.as_str();
-    let package = order.package.as_str();
-    let version = order.version.as_str();
-    format!(in alloc; "emerge: BuildFailed: {category}/{package}-{version}\n")
+    let text = package.print(alloc)?;
+    format!(in alloc; "emerge: BuildFailed: {text}\n")
+}
+
+fn unmatched_line(
+    alloc: Global,
+    atom: &Atom,
+    reasons: &[(PackageId, Reason)],
+) -> Result<String, AllocError>
+    ensures { IfOk result (λ t. string_bytes t ≡ codes "emerge: NoCandidate: " ++ (atom_text atom.now ++ (flat_map reason_text reasons.now ++ 10 ∷ []))) }
+{
+    let text = atom.print(alloc)?;
+    let listed = listed_reasons(alloc, reasons)?;
+    format!(in alloc; "emerge: NoCandidate: {text}{listed}\n")
+}
+
+/// Each candidate with its reason, in parentheses.
+fn listed_reasons(alloc: Global, reasons: &[(PackageId, Reason)]) -> Result<String, AllocError>
+    ensures { IfOk result (λ t. string_bytes t ≡ flat_map reason_text reasons.now) }
+{
+    let mut listed = String::new(alloc);
+    for reason in reasons {
+        write_reason(alloc, reason, &mut listed)?;
+    }
+    Ok(listed)
+}
+
+fn write_reason(
+    alloc: Global,
+    reason: &(PackageId, Reason),
+    text: &mut String,
+) -> Result<(), AllocError>
+    ensures { OnOk result (string_bytes text.new ≡ string_bytes text.old ++ reason_text reason.now) }
+{
+    let id = reason.0.print(alloc)?;
+    text.push_str(" (")?;
+    text.push_str(id.as_str())?;
+    text.push_str(" ")?;
+    text.push_str(word_of_reason(reason.1))?;
+    text.push_str(")")
+}
+
+fn word_of_reason(reason: Reason) -> &'static str
+    ensures { result.now ≡ reason_word reason }
+{
+    match reason {
+        Reason::NotMatched => "NotMatched",
+    }
 }

@@ -8,7 +8,7 @@ use Rattle.file_tree.specs.Disk.{Disk, Fixed, Map, Story, write}
 use Rattle.file_tree.specs.Moments.{Since}
 use Rattle.file_tree.proofs.Moments.{since_then, since_weaker}
 use Rattle.file_tree.specs.Paths.{is_below}
-use Rattle.file_tree.specs.Thing.{Thing}
+use Rattle.file_tree.specs.Thing.{Thing, plain}
 use Rattle.merge_record.specs.Content.{Content}
 use Rattle.merge_record.specs.Judging.{footprint, is_in}
 use Rattle.merge_record.specs.Names.{gate_path, jobs, record_path, stage_path, token_path}
@@ -17,7 +17,7 @@ use Rattle.merge_record.specs.Spelling.{spelling}
 use Rattle.merge_record.specs.declared.record.Placement.{Placement}
 use Rattle.merge_record.proofs.Form.{shift}
 use Rattle.group_merge.specs.Calls.{closed, merged, opened, placed, removed, sealed, staged}
-use Rattle.group_merge.specs.Group.{AreStaged, IsGroup, changed, given, plain, token}
+use Rattle.group_merge.specs.Group.{AreStaged, IsGroup, changed, given, token}
 use Rattle.group_merge.specs.Phases.{IsBeforeOrAfter, IsKept, IsOpened, IsSealed, IsShut}
 use Rattle.group_merge.proofs.Images.{changed_covered}
 use Rattle.group_merge.proofs.Stages.{stage_stays}

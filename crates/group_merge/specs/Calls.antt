@@ -1,11 +1,11 @@
 -- The disk after the calls of each stretch of a merge, when all of them answered Ok.
 use Rattle.std.specs.Prelude.{◌≡◌, ℕ, zero, suc, List, [], ◌∷◌, Some, None}
 use Rattle.file_tree.specs.Disk.{Disk, Moves, Story, settled, write}
-use Rattle.file_tree.specs.Thing.{Thing}
+use Rattle.file_tree.specs.Thing.{Thing, plain}
 use Rattle.merge_record.specs.Content.{Content}
 use Rattle.merge_record.specs.Names.{gate_path, record_path, stage_path, token_path}
 use Rattle.merge_record.specs.declared.record.Placement.{Placement}
-use Rattle.group_merge.specs.Group.{plain, token}
+use Rattle.group_merge.specs.Group.{token}
 
 -- calls that were asked to change these paths in this order, whatever each of them answered
 abbrev pub Asked : List (List ℕ) → Story → Story → Type 0

@@ -2,16 +2,12 @@
 use Rattle.std.specs.Prelude.{◌≡◌, ℕ, true, cond, List, [], ◌∷◌, Option, Some, None, bytes_eq}
 use Rattle.file_tree.specs.Disk.{Map}
 use Rattle.file_tree.specs.Paths.{is_below}
-use Rattle.file_tree.specs.Thing.{Thing}
-use Rattle.file_tree.specs.declared.objects.Kind.TheVariants.{Plain}
+use Rattle.file_tree.specs.Thing.{Thing, plain}
 use Rattle.merge_record.specs.Content.{Content}
 use Rattle.merge_record.specs.Judging.{IsStaged, are_free, footprint, is_in}
 use Rattle.merge_record.specs.Names.{jobs}
 use Rattle.merge_record.specs.Spelling.{Fits}
 use Rattle.merge_record.specs.declared.record.Placement.{Placement}
-
-abbrev pub plain : List ℕ → Thing
-plain bytes = record { kind = Plain; bytes = bytes }
 
 -- what an open gate holds
 abbrev pub token : Thing

@@ -2,13 +2,13 @@
 use Rattle.std.specs.Prelude.{◌≡◌, ◌⊎◌, ◌<◌, ◌^◌, ℕ, false, List, Some, None, slice_get}
 use Rattle.file_tree.specs.Disk.{Disk, Fixed, Map}
 use Rattle.file_tree.specs.Paths.{is_below}
-use Rattle.file_tree.specs.Thing.{Thing}
+use Rattle.file_tree.specs.Thing.{Thing, plain}
 use Rattle.merge_record.specs.Content.{Content}
 use Rattle.merge_record.specs.Judging.{footprint, is_in}
 use Rattle.merge_record.specs.Names.{gate_path, jobs, record_path, stage_path}
 use Rattle.merge_record.specs.Recovered.{IsRecovered}
 use Rattle.merge_record.specs.Spelling.{spelling}
-use Rattle.group_merge.specs.Group.{applied, cleared, plain, token}
+use Rattle.group_merge.specs.Group.{applied, cleared, token}
 
 -- outside the journal's folder a crash leaves the map
 abbrev pub IsQuiet : Map → Disk → Type 0

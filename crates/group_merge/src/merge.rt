@@ -3,14 +3,14 @@ ghost use Rattle.basics.specs.Members.{Has};
 ghost use Rattle.file_tree.specs.Disk.{Map, Rose};
 ghost use Rattle.file_tree.specs.Moments.{Since};
 ghost use Rattle.file_tree.specs.Paths.{is_below};
-ghost use Rattle.file_tree.specs.Thing.{Thing};
+ghost use Rattle.file_tree.specs.Thing.{Thing, plain};
 ghost use Rattle.merge_record.specs.Content.{Content};
 ghost use Rattle.merge_record.specs.Names.{jobs, stage_path, token_path};
 ghost use Rattle.merge_record.specs.Recovered.{IsRecovered};
 ghost use Rattle.merge_record.specs.Spelling.{spelling};
 ghost use Rattle.merge_record.specs.declared.record.Placement.{Placement};
 ghost use Rattle.group_merge.specs.Calls.{merged};
-ghost use Rattle.group_merge.specs.Group.{IsGroup, applied, changed, cleared, plain, token};
+ghost use Rattle.group_merge.specs.Group.{IsGroup, applied, changed, cleared, token};
 ghost use Rattle.group_merge.specs.Phases.{IsBeforeOrAfter, IsKept, IsOpened, IsSealed, IsShut};
 
 use crate::changes::{place_all, remove_all};

@@ -1,12 +1,12 @@
 ghost use Rattle.std.specs.Prelude.{◌≡◌, ◌≤◌, ◌⊎◌, ℕ, List, IsErr, IsErrOf, IsTrue, OnOk, Some, length};
 ghost use Rattle.file_tree.specs.Disk.{Map, Rose};
 ghost use Rattle.file_tree.specs.Moments.{Since};
-ghost use Rattle.file_tree.specs.Thing.{Thing};
+ghost use Rattle.file_tree.specs.Thing.{Thing, plain};
 ghost use Rattle.merge_record.specs.Content.{Content};
 ghost use Rattle.merge_record.specs.Names.{token_path};
 ghost use Rattle.merge_record.specs.Recovered.{IsRecovered};
 ghost use Rattle.group_merge.specs.Calls.{closed, opened, sealed, staged};
-ghost use Rattle.group_merge.specs.Group.{IsGroup, applied, changed, cleared, plain, token};
+ghost use Rattle.group_merge.specs.Group.{IsGroup, applied, changed, cleared, token};
 ghost use Rattle.group_merge.specs.Phases.{IsBeforeOrAfter, IsSealed, IsShut};
 
 use crate::paths::JournalPaths;

@@ -6,7 +6,7 @@
 #![tactic(auto)]
 
 use build_pool::BuildPool;
-use emerge_run::{Ended, emerge};
+use emerge_run::{Ended, Status, emerge};
 use samples::{ImageBuilder, listing, sample_image, sample_tree, without_touched};
 use std::alloc::{AllocError, Global};
 use std::io::Write;
@@ -60,33 +60,61 @@ fn shown(alloc: Global, call: u64) -> Result<(u8, String), AllocError> {
     let stopped = merged(alloc, tree)?;
     let left = without_touched(alloc, &stopped.tree)?;
     let mut text = format!(in alloc; "stopped at call {call}, it said:\n")?;
-    push_bytes(&mut text, stopped.out.bytes())?;
+    text.push_str(stopped.said.as_str())?;
     text.push_str("a crash may leave:\n")?;
     push_paths(&mut text, &left)?;
     let again = merged(alloc, left)?;
     text.push_str("run again, it said:\n")?;
-    push_bytes(&mut text, again.out.bytes())?;
+    text.push_str(again.said.as_str())?;
     text.push_str("and left:\n")?;
     push_paths(&mut text, &again.tree)?;
     if listing(alloc, &again.tree)? == listing(alloc, &whole.tree)? {
         text.push_str("the same objects as without the stop\n")?;
-        Ok((again.status.code(), text))
+        Ok((again.code, text))
     } else {
         text.push_str("other objects than without the stop\n")?;
         Ok((OTHER, text))
     }
 }
 
-/// A run that merges `c/p-1` into a tree.
-fn merged(
-    alloc: Global,
+/// What a run came to: its number, what it said, and its tree.
+#[derive(Drop)]
+struct Ending {
+    code: u8,
+    said: String,
     tree: MemTree,
-) -> Result<Ended<MemTree, MemSink, ImageBuilder>, AllocError> {
+}
+
+/// A run that merges `c/p-1` into a tree.
+fn merged(alloc: Global, tree: MemTree) -> Result<Ending, AllocError> {
     let word = String::from_str(alloc, "=c/p-1")?;
     let words = vec![in alloc; word]?;
     let builder = ImageBuilder::new(1, sample_image(alloc)?);
     let pool = BuildPool::new(alloc, vec![in alloc; builder]?)?;
-    Ok(emerge(alloc, &words, tree, MemSink::new(alloc), pool))
+    summary(
+        alloc,
+        emerge(alloc, &words, tree, MemSink::new(alloc), pool),
+    )
+}
+
+fn summary(
+    alloc: Global,
+    ended: Ended<MemTree, MemSink, ImageBuilder>,
+) -> Result<Ending, AllocError> {
+    let Ended {
+        status,
+        tree,
+        out,
+        ..
+    } = ended;
+    let code = number_of(status);
+    let mut said = String::new(alloc);
+    push_bytes(&mut said, out.bytes())?;
+    Ok(Ending { code, said, tree })
+}
+
+fn number_of(status: Status) -> u8 {
+    status.code()
 }
 
 fn push_bytes(text: &mut String, bytes: &[u8]) -> Result<(), AllocError> {

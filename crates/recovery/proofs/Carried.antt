@@ -14,7 +14,6 @@ use Rattle.merge_record.specs.Recovered.{IsRecovered, remade}
 use Rattle.merge_record.specs.declared.fault.JudgeFault.{JudgeFault}
 use Rattle.merge_record.specs.declared.record.Placement.{Placement}
 use Rattle.merge_record.proofs.Opened.{open_groups_has, open_groups_rise}
-use Rattle.merge_record.proofs.Recovery.{recovered_once}
 use Rattle.group_merge.proofs.Images.{none_open, one_open, recovered_none, recovered_one}
 use Rattle.recovery.specs.Calls.{nothing}
 use Rattle.recovery.specs.Found.{IsWork}
@@ -46,9 +45,9 @@ mended_is a r w = elim (cases_Bool (is_open (a (gate_path r.group)))) [
   | inr shut ↦ subst (λ (s : Content). IsRecovered a (mended a s)) (sym (w.none shut)) (recovered_none a (none_open a (all_shut a r w shut)))
 ]
 
--- what recovers to this map recovers to whatever the first map recovers to
+-- what recovers to the mended map recovers as the first map does
 pub alike : (a c : Map) (r : Content) → IsWork a r → IsRecovered c (mended a r) → RecoversAlike a c
-alike a c r w is m h = subst (λ (n : Map). IsRecovered c n) (λ i q. recovered_once a (mended a r) m (mended_is a r w) h q i) is
+alike a c r w is = (mended a r, mended_is a r w, is)
 
 abbrev all_good : List Content → Result (List Content) JudgeFault
 all_good rs = Ok rs

@@ -1,11 +1,10 @@
 -- The records that change nothing, and the disk once they are put.
 use Rattle.std.specs.Prelude.{ℕ, List, [], ◌∷◌, Some}
 use Rattle.file_tree.specs.Disk.{Disk, write}
-use Rattle.file_tree.specs.Thing.{Thing}
+use Rattle.file_tree.specs.Thing.{Thing, plain}
 use Rattle.merge_record.specs.Content.{Content}
 use Rattle.merge_record.specs.Names.{record_path}
 use Rattle.merge_record.specs.Spelling.{spelling}
-use Rattle.group_merge.specs.Group.{plain}
 
 -- what a group without paths does
 abbrev pub nothing : ℕ → Content

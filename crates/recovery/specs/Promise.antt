@@ -6,9 +6,9 @@ use Rattle.merge_record.specs.Judging.{judged}
 use Rattle.merge_record.specs.Open.{open_groups}
 use Rattle.merge_record.specs.Recovered.{IsRecovered}
 
--- what recovery makes of the first map, it makes of the second too
+-- both maps recover, and to the same map
 abbrev pub RecoversAlike : Map → Map → Type 0
-RecoversAlike a c = (m : Map) → IsRecovered a m → IsRecovered c m
+RecoversAlike a c = (m : Map) × IsRecovered a m × IsRecovered c m
 
 -- no group is open, or just one, and it is in form
 abbrev pub IsMendable : Map → Type 0

@@ -5,8 +5,12 @@
 //! `build_pool`, `file_tree` and `tree_mem`.
 #![tactic(auto)]
 
+#[cfg(test)]
+mod atoms;
 mod crashes;
 mod image_builder;
+#[cfg(test)]
+mod runs;
 #[cfg(test)]
 mod stops;
 #[cfg(test)]
@@ -15,4 +19,4 @@ mod trees;
 
 pub use crashes::{as_read, listing, with_touched, without_touched};
 pub use image_builder::ImageBuilder;
-pub use trees::{CACHE_TEXT, file, sample_image, sample_tree, tree_of};
+pub use trees::{cached, file, sample_image, sample_tree, tree_of};

@@ -1,6 +1,6 @@
-use crate::tests::{Run, run_on, told};
+use crate::runs::{Run, run_on, told_on};
 use crate::{
-    CACHE_TEXT, as_read, file, listing, sample_image, sample_tree, tree_of, with_touched,
+    as_read, cached, file, listing, sample_image, sample_tree, tree_of, with_touched,
     without_touched,
 };
 use file_tree::{Kind, Path};
@@ -19,7 +19,7 @@ fn stopped(alloc: Global, mut tree: MemTree, call: u64) -> Result<Run, AllocErro
 /// The number of the status with which a run over this tree ends, and the objects that it leaves.
 fn ending(alloc: Global, tree: MemTree) -> Result<String, AllocError> {
     let run = run_on(alloc, "=c/p-1", tree, sample_image(alloc)?)?;
-    let code = run.status.code();
+    let code = run.code;
     let objects = listing(alloc, &run.tree)?;
     format!(in alloc; "{code} {objects}")
 }
@@ -33,7 +33,7 @@ fn a_run_that_is_stopped_at_any_call_ends_well_when_it_is_run_again(
     let mut ended = false;
     for call in 1..60 {
         let run = stopped(alloc, sample_tree(alloc)?, call)?;
-        ended = run.status.code() == 0;
+        ended = run.code == 0;
         if ended {
             break;
         }
@@ -90,15 +90,15 @@ fn images_of_each_call_recover_to_before_or_after(rt: HostRuntime) -> Result<(),
     let whole = run_on(alloc, "=c/p-1", sample_tree(alloc)?, sample_image(alloc)?)?;
     let after = recovered(alloc, whole.tree)?;
     let mut came = String::new(alloc);
-    for call in 1..=32 {
+    for call in 1..=33 {
         let run = stopped(alloc, sample_tree(alloc)?, call)?;
         came.push_str(&images(alloc, &run.tree, &before, &after)?)?;
     }
-    // Recovery is calls 1 to 6, the looks are 7 to 11, the stages, the record, the token and their sync 12 to
-    // 18, and the gate is placed at 19 and synced at 20. What is stopped there has the gate or not.
+    // Recovery is calls 1 to 6, the looks are 7 to 12, the stages, the record, the token and their sync 13 to
+    // 19, and the gate is placed at 20 and synced at 21. What is stopped there has the gate or not.
     assert_eq!(rt;
         came.as_str(),
-        "bbbbbbbbbbbbbbbbbbbbbbbbbbbbbbbbbbbbbbbbbbbbbbbbbbbbbbbbbabbaaaaaaaaaaaaaaaaaaaaaaaaaaaaaaaaaaaa"
+        "bbbbbbbbbbbbbbbbbbbbbbbbbbbbbbbbbbbbbbbbbbbbbbbbbbbbbbbbbbbbabbaaaaaaaaaaaaaaaaaaaaaaaaaaaaaaaaaaaa"
     );
     Ok(())
 }
@@ -135,7 +135,7 @@ fn seventh_call_fails(rt: HostRuntime) -> Result<(), Fail> {
     let mut tree = sample_tree(alloc)?;
     tree.fail_at(7)?;
     let run = run_on(alloc, "=c/p-1", tree, sample_image(alloc)?)?;
-    assert_eq!(rt; told(alloc, &run)?.as_str(), "16 emerge: DeviceFault\n");
+    assert_eq!(rt; run.told.as_str(), "16 emerge: DeviceFault\n");
     let whole = ending(alloc, sample_tree(alloc)?)?;
     assert_eq!(rt; ending(alloc, run.tree)?, whole);
     Ok(())
@@ -173,13 +173,7 @@ fn told_over(
         second,
     )
     .map_err(|_| AllocError)?;
-    let cached = file(
-        alloc,
-        "var/db/repos/gentoo/metadata/md5-cache/c/p-1",
-        Kind::Plain,
-        CACHE_TEXT,
-    )
-    .map_err(|_| AllocError)?;
+    let cached = cached(alloc, "c/p-1", "0")?;
     let entries = vec![in alloc; cached, gate, other, filed, staged]?;
     let run = run_on(
         alloc,
@@ -187,7 +181,7 @@ fn told_over(
         tree_of(alloc, entries).map_err(|_| AllocError)?,
         sample_image(alloc)?,
     )?;
-    let text = told(alloc, &run)?;
+    let text = run.told.as_str();
     let objects = run.tree.objects().len();
     format!(in alloc; "{text}{objects}")
 }
@@ -199,10 +193,7 @@ fn damaged_record(rt: HostRuntime) -> Result<(), Fail> {
     let filed = entry(alloc, "record", "EMJR")?;
     let tree = tree_of(alloc, vec![in alloc; gate, filed]?).map_err(|_| AllocError)?;
     let run = run_on(alloc, "=c/p-1", tree, sample_image(alloc)?)?;
-    assert_eq!(rt;
-        told(alloc, &run)?.as_str(),
-        "20 emerge: NotBuilt: Journal\n"
-    );
+    assert_eq!(rt; run.told.as_str(), "20 emerge: NotBuilt: Journal\n");
     assert_eq!(rt; run.tree.objects().len(), 2);
     Ok(())
 }

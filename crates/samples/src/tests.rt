@@ -1,99 +1,35 @@
-ghost use Rattle.std.specs.Prelude.{◌<◌, IfOk, length};
-
-use crate::{CACHE_TEXT, ImageBuilder, file, listing, sample_image, sample_tree, tree_of};
-use build_pool::BuildPool;
-use emerge_run::{Ended, emerge};
+use crate::runs::{run_on, run_with, told_on};
+use crate::{ImageBuilder, cached, file, listing, sample_image, sample_tree, tree_of};
 use file_tree::{Entry, Kind};
 use std::alloc::{AllocError, Global};
 use std::test::Fail;
-use tree_mem::{MemSink, MemTree};
-
-pub type Run = Ended<MemTree, MemSink, ImageBuilder>;
-
-/// A pool of this one builder.
-fn pool_of(alloc: Global, builder: ImageBuilder) -> Result<BuildPool<ImageBuilder>, AllocError>
-    ensures { IfOk result (λ p. 0 < length p.resting) }
-{
-    let builders = vec![in alloc; builder]?;
-    BuildPool::new(alloc, builders)
-}
-
-/// The words of a text, which is split at spaces.
-fn words_of(alloc: Global, text: &str) -> Result<Vec<String>, AllocError> {
-    let mut list = Vec::new(alloc);
-    for word in text.split_whitespace() {
-        list.push(String::from_str(alloc, word)?)?;
-    }
-    Ok(list)
-}
-
-/// A run of these words.
-fn run_with(
-    alloc: Global,
-    words: &str,
-    tree: MemTree,
-    out: MemSink,
-    builder: ImageBuilder,
-) -> Result<Run, AllocError> {
-    let words = words_of(alloc, words)?;
-    let pool = pool_of(alloc, builder)?;
-    Ok(emerge(alloc, &words, tree, out, pool))
-}
-
-/// A run of these words with an image and a sink that doesn't fail.
-pub fn run_on(
-    alloc: Global,
-    words: &str,
-    tree: MemTree,
-    image: Vec<Entry>,
-) -> Result<Run, AllocError> {
-    run_with(
-        alloc,
-        words,
-        tree,
-        MemSink::new(alloc),
-        ImageBuilder::new(7, image),
-    )
-}
-
-/// What a run came to: its number, and what it wrote.
-pub fn told(alloc: Global, run: &Run) -> Result<String, AllocError> {
-    let mut text = format!(in alloc; "{} ", run.status.code())?;
-    for byte in run.out.bytes() {
-        text.push(char::from(*byte))?;
-    }
-    Ok(text)
-}
+use tree_mem::MemSink;
 
 #[test]
 fn one_file_into_an_empty_tree(rt: HostRuntime) -> Result<(), Fail> {
     let alloc = rt.alloc();
     let run = run_on(alloc, "=c/p-1", sample_tree(alloc)?, sample_image(alloc)?)?;
-    assert_eq!(rt;
-        told(alloc, &run)?.as_str(),
-        "0 done 1 +c/p-1\nemerge: ok 1\n"
-    );
+    assert_eq!(rt; run.told.as_str(), "0 done 1 +c/p-1\nemerge: ok 1\n");
     assert_eq!(rt; run.acknowledged.as_slice(), [1].as_slice());
     let want =
         "etc/portage/make.profile/make.defaults ARCH=\"amd64\"\nACCEPT_KEYWORDS=\"amd64\"\n\nusr/bin/p \nvar/db/pkg/c/p-1/CONTENTS obj /usr/bin/p d41d8cd98f00b204e9800998ecf8427e 0\n\nvar/db/pkg/c/p-1/EAPI 8\n\nvar/db/pkg/c/p-1/SLOT 0\n\nvar/db/repos/gentoo/c/p/p-1.ebuild \nvar/db/repos/gentoo/metadata/md5-cache/c/p-1 EAPI=8\nKEYWORDS=amd64\nSLOT=0\n_md5_=d41d8cd98f00b204e9800998ecf8427e\n\n";
     assert_eq!(rt; listing(alloc, &run.tree)?.as_str(), want);
     assert_eq!(rt; run.tree.refused(), 0);
     let again = run_on(alloc, "=c/p-1", run.tree, sample_image(alloc)?)?;
-    assert_eq!(rt; told(alloc, &again)?.as_str(), "0 emerge: ok 0\n");
+    assert_eq!(rt; again.told.as_str(), "0 emerge: ok 0\n");
     Ok(())
 }
 
 /// What a run of these words over the sample comes to.
 fn told_of_words(alloc: Global, words: &str) -> Result<String, AllocError> {
-    let run = run_on(alloc, words, sample_tree(alloc)?, sample_image(alloc)?)?;
-    told(alloc, &run)
+    told_on(alloc, words, sample_tree(alloc)?, sample_image(alloc)?)
 }
 
 #[test]
 fn words_that_are_no_command(rt: HostRuntime) -> Result<(), Fail> {
     let alloc = rt.alloc();
     let table =
-        ",=c/p-1 =c/p-1,c/p-1,=c/p,=c/p-,=C/p-1,=c/P-1,=c/p-1234567890,=c/p-1.0,=c/p2-1,=/p-1,=c/-1,!c/p,=c/p-1:0";
+        ",=c/p-1 =c/p-1,c/p-1,=c/p,=c/p-,=c/p-1.,=/p-1,=c/-1,!c/p,!!=c/p-1,=c/p-1:,c/p[x,>=c/p-1*,c,c/p::gentoo,@world";
     for words in table.split(',') {
         assert_eq!(rt;
             told_of_words(alloc, words)?.as_str(),
@@ -112,26 +48,25 @@ fn told_beside(
     path: &str,
     kind: Kind,
 ) -> Result<String, AllocError> {
-    let cached = file(
-        alloc,
-        "var/db/repos/gentoo/metadata/md5-cache/c/p-1",
-        Kind::Plain,
-        CACHE_TEXT,
-    )
-    .map_err(|_| AllocError)?;
+    let cached = cached(alloc, "c/p-1", "0")?;
     let other = file(alloc, also, Kind::Plain, "\u{1}").map_err(|_| AllocError)?;
     let entries = vec![in alloc; cached, other]?;
     let tree = tree_of(alloc, entries).map_err(|_| AllocError)?;
     let program = file(alloc, path, kind, "").map_err(|_| AllocError)?;
-    let run = run_on(alloc, words, tree, vec![in alloc; program]?)?;
-    told(alloc, &run)
+    told_on(alloc, words, tree, vec![in alloc; program]?)
 }
 
 #[test]
 fn trees_that_are_not_built_yet(rt: HostRuntime) -> Result<(), Fail> {
     let alloc = rt.alloc();
     let program = "usr/bin/p";
-    let repository = told_beside(alloc, "=c/q-1", "etc/x", program, Kind::Plain)?;
+    let repository = told_beside(
+        alloc,
+        "=c/q-1",
+        "var/db/repos/gentoo/metadata/md5-cache/c/q-1",
+        program,
+        Kind::Plain,
+    )?;
     assert_eq!(rt; repository.as_str(), "20 emerge: NotBuilt: Repository\n");
     let database = told_beside(
         alloc,
@@ -178,12 +113,12 @@ fn kinds_and_counts_that_are_not_built_yet(rt: HostRuntime) -> Result<(), Fail> 
         told_beside(alloc, "=c/p-1", "etc/x", "usr/bin/p", Kind::Link)?.as_str(),
         want
     );
-    let none = run_on(alloc, "=c/p-1", sample_tree(alloc)?, Vec::new(alloc))?;
-    assert_eq!(rt; told(alloc, &none)?.as_str(), want);
+    let none = told_on(alloc, "=c/p-1", sample_tree(alloc)?, Vec::new(alloc))?;
+    assert_eq!(rt; none.as_str(), want);
     let mut both = sample_image(alloc)?;
     both.push(file(alloc, "usr/bin/q", Kind::Plain, "")?)?;
-    let two = run_on(alloc, "=c/p-1", sample_tree(alloc)?, both)?;
-    assert_eq!(rt; told(alloc, &two)?.as_str(), want);
+    let two = told_on(alloc, "=c/p-1", sample_tree(alloc)?, both)?;
+    assert_eq!(rt; two.as_str(), want);
     Ok(())
 }
 
@@ -199,11 +134,8 @@ fn a_builder_that_fails(rt: HostRuntime) -> Result<(), Fail> {
         MemSink::new(alloc),
         builder,
     )?;
-    assert_eq!(rt;
-        told(alloc, &run)?.as_str(),
-        "15 emerge: BuildFailed: c/p-1\n"
-    );
-    assert_eq!(rt; run.pool.faults(), 1);
+    assert_eq!(rt; run.told.as_str(), "15 emerge: BuildFailed: c/p-1\n");
+    assert_eq!(rt; run.faults, 1);
     let before = sample_tree(alloc)?;
     assert_eq!(rt; listing(alloc, &run.tree)?, listing(alloc, &before)?);
     Ok(())
@@ -221,7 +153,7 @@ fn first_write_fails(rt: HostRuntime) -> Result<(), Fail> {
         out,
         ImageBuilder::new(7, sample_image(alloc)?),
     )?;
-    assert_eq!(rt; told(alloc, &run)?.as_str(), "17 emerge: OutputFault\n");
+    assert_eq!(rt; run.told.as_str(), "17 emerge: OutputFault\n");
     assert_eq!(rt; run.history.as_slice(), [1].as_slice());
     assert_eq!(rt; run.acknowledged.len(), 0);
     Ok(())
@@ -231,8 +163,7 @@ fn first_write_fails(rt: HostRuntime) -> Result<(), Fail> {
 fn told_of_failure(alloc: Global, call: u64) -> Result<String, AllocError> {
     let mut tree = sample_tree(alloc)?;
     tree.fail_at(call)?;
-    let run = run_on(alloc, "=c/p-1", tree, sample_image(alloc)?)?;
-    told(alloc, &run)
+    told_on(alloc, "=c/p-1", tree, sample_image(alloc)?)
 }
 
 #[test]

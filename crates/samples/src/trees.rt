@@ -2,11 +2,6 @@ use file_tree::{Entry, Kind, Object, Path, PathFault};
 use std::alloc::{AllocError, Global};
 use tree_mem::{MemFault, MemTree};
 
-/// The cache entry of a package without dependencies, in slot 0 and stable on amd64, whose ebuild
-/// is empty.
-pub const CACHE_TEXT: &str =
-    "EAPI=8\nKEYWORDS=amd64\nSLOT=0\n_md5_=d41d8cd98f00b204e9800998ecf8427e\n";
-
 /// An entry of these words. A text that is no path is refused.
 pub fn file(alloc: Global, path: &str, kind: Kind, text: &str) -> Result<Entry, PathFault> {
     let path = Path::parse(alloc, path)?;
@@ -29,6 +24,16 @@ pub fn tree_of(alloc: Global, entries: Vec<Entry>) -> Result<MemTree, MemFault> 
     MemTree::new(alloc, objects)
 }
 
+/// The cache entry of a package without dependencies, with this value of SLOT and stable on amd64,
+/// whose ebuild is empty. A text that is no package's is refused.
+pub fn cached(alloc: Global, package: &str, slot: &str) -> Result<Entry, AllocError> {
+    let path = format!(in alloc; "var/db/repos/gentoo/metadata/md5-cache/{package}")?;
+    let text = format!(in alloc;
+        "EAPI=8\nKEYWORDS=amd64\nSLOT={slot}\n_md5_=d41d8cd98f00b204e9800998ecf8427e\n"
+    )?;
+    file(alloc, path.as_str(), Kind::Plain, text.as_str()).map_err(|_| AllocError)
+}
+
 /// A tree with nothing installed, a profile for amd64, and one candidate: `c/p-1`.
 pub fn sample_tree(alloc: Global) -> Result<MemTree, AllocError> {
     let defaults = file(
@@ -41,14 +46,7 @@ pub fn sample_tree(alloc: Global) -> Result<MemTree, AllocError> {
     let ebuild = file(alloc, "var/db/repos/gentoo/c/p/p-1.ebuild", Kind::Plain, "").map_err(
         |_| AllocError,
     )?;
-    let cached = file(
-        alloc,
-        "var/db/repos/gentoo/metadata/md5-cache/c/p-1",
-        Kind::Plain,
-        CACHE_TEXT,
-    )
-    .map_err(|_| AllocError)?;
-    let entries = vec![in alloc; defaults, ebuild, cached]?;
+    let entries = vec![in alloc; defaults, ebuild, cached(alloc, "c/p-1", "0")?]?;
     tree_of(alloc, entries).map_err(|_| AllocError)
 }
 

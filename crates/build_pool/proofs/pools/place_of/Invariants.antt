@@ -1,4 +1,4 @@
-use Rattle.std.proofs.Common.{◌≡◌, ◌<◌, ℕ, length, get_or}
+use Rattle.std.proofs.Common.{◌≡◌, ◌<◌, ℕ, get_or}
 use Rattle.build_pool.specs.declared.pools.Away.{Away}
 use Rattle.build_pool.proofs.pools.place_of.Given as goal
 

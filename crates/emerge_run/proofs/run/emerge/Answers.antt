@@ -1,4 +1,4 @@
-use Rattle.emerge_run.proofs.Endings.{all_told, all_written, outcome_finished}
+use Rattle.emerge_run.proofs.Endings.{all_told, all_written, built_before, outcome_finished}
 use Rattle.emerge_run.proofs.run.emerge.Goals as goal
 
 pub returns-clause-written : goal.returns-clause-written
@@ -17,3 +17,6 @@ pub returns-clause-outcome : goal.returns-clause-outcome
 returns-clause-outcome g c t =
     outcome_finished g.B.Builder.tells g.B.Builder.told c.args.pool.resting _ (g.T.Tree.story c.args.tree) (g.T.Tree.story c.attempt-reached.new.tree) c.attempt-reached.result.history.items c.attempt-reached.result.status c.finish-status.result _ _
     c.finish-status.ensures.status (c.attempt-reached.ensures.outcome t)
+
+pub returns-clause-build : goal.returns-clause-build
+returns-clause-build g c id is = c.attempt-reached.ensures.build id (built_before c.attempt-reached.result.status c.finish-status.result id _ c.finish-status.ensures.status is)

@@ -1,6 +1,0 @@
-use Rattle.std.proofs.Common.{rules, [], ◌∷◌}
-use Rattle.emerge_run.proofs.OrderTexts.{order_text_then}
-use Rattle.emerge_run.proofs.texts.failed_line.Goals as goal
-
-pub returns : goal.returns
-returns c = rw (order_text_then c.args.order.now (10 ∷ [])) (search rules)
