@@ -370,16 +370,10 @@ pub written_weaker : (P Q : PackageId → Type 0) (acknowledged old new : List �
     → ((text : List ℕ) × IsLines P acknowledged text × (new ≡ old ++ text)) → (text : List ℕ) × IsLines Q acknowledged text × (new ≡ old ++ text)
 written_weaker P Q acknowledged old new so h = (h.0, lines_weaker P Q acknowledged h.0 so h.1, h.2)
 
-pub written_or_failed : (P Q : PackageId → Type 0) (acknowledged old new : List ℕ) (failed : Type 0) → ((id : PackageId) → P id → Q id)
-    → ((text : List ℕ) × IsLines P acknowledged text × (new ≡ old ++ text)) ⊎ failed → ((text : List ℕ) × IsLines Q acknowledged text × (new ≡ old ++ text)) ⊎ failed
-written_or_failed P Q acknowledged old new failed so (inl h) = inl (written_weaker P Q acknowledged old new so h)
-written_or_failed P Q acknowledged old new failed so (inr f) = inr f
-
--- the lines of the package that was chosen, where the output may have failed
-pub lines_or_failed : (P : PackageId → Type 0) (id : PackageId) (acknowledged : List ℕ) (old new : List ℕ) (failed : Type 0) → P id
-    → (new ≡ old ++ flat_map (done_line id) acknowledged) ⊎ failed → ((text : List ℕ) × IsLines P acknowledged text × (new ≡ old ++ text)) ⊎ failed
-lines_or_failed P id acknowledged old new failed is (inl e) = inl (lines_written P id acknowledged old new is e)
-lines_or_failed P id acknowledged old new failed is (inr f) = inr f
+-- what was written, where the output may have failed
+pub or_failed : {A B : Type 0} (failed : Type 0) → (A → B) → A ⊎ failed → B ⊎ failed
+or_failed failed so (inl h) = inl (so h)
+or_failed failed so (inr f) = inr f
 
 -- the package of the atom is that of the words
 pub named_of : (words : List (List ℕ)) (a : AtomValue) (tells : Bool) (opening m : Map) → IsRequest words a → (IsTrue tells → IsRecovered opening m) → (id : PackageId) → IsPackageOf a tells m id → IsNamed words tells opening id

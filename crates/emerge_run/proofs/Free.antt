@@ -1,6 +1,7 @@
 -- The paths of a package's files are apart, and outside the journal.
 use Rattle.std.proofs.Common.{◌≡◌, ◌||◌, arith, ℕ, Bool, true, false, List, [], ◌∷◌, get_or, inl, inr, refl, ap, sym, subst}
 use Rattle.std.specs.Prelude.{bytes_eq, codes}
+use Rattle.std.proofs.lemmas.Bool.{or_from}
 use Rattle.std.proofs.lemmas.Slice.Eq.{bytes_eq-Decides}
 use Rattle.file_tree.specs.Paths.{is_below}
 use Rattle.file_tree.specs.declared.objects.Entry.{Entry}
@@ -32,9 +33,6 @@ not_true : (b : Bool) → (b ≡ true → ⊥) → b ≡ false
 not_true true h = absurd (h refl)
 not_true false h = refl
 
-or_none : (a b : Bool) → a ≡ false → b ≡ false → (a || b) ≡ false
-or_none a b p q = cc
-
 -- a path that doesn't meet the whole state doesn't meet the journal
 outside_if_unreserved : (p : List ℕ) → is_reserved p ≡ false → meets_jobs p ≡ false
 outside_if_unreserved p free =
@@ -42,7 +40,7 @@ outside_if_unreserved p free =
     let equal : bytes_eq p jobs ≡ true → ⊥ = λ e. cc (below_meets state_path p (subst (λ (x : List ℕ). is_below state_path x ≡ true) (sym ((bytes_eq-Decides p jobs).0 e)) jobs_is_below), state) in
     let under : is_below jobs p ≡ true → ⊥ = λ e. cc (below_meets state_path p (below_further state_path jobs p jobs_is_below e), state) in
     let over : is_below p jobs ≡ true → ⊥ = λ e. cc (above_one_meet state_path p jobs jobs_is_below e, state) in
-    or_none (bytes_eq p jobs) (is_below jobs p || is_below p jobs) (not_true (bytes_eq p jobs) equal) (or_none (is_below jobs p) (is_below p jobs) (not_true (is_below jobs p) under) (not_true (is_below p jobs) over))
+    or_from (bytes_eq p jobs) (is_below jobs p || is_below p jobs) (not_true (bytes_eq p jobs) equal) (or_from (is_below jobs p) (is_below p jobs) (not_true (is_below jobs p) under) (not_true (is_below p jobs) over))
 
 -- a file of the image is none of the package's record
 not_in_record : (o : PackageId) (name p : List ℕ) → AreApart o → is_reserved p ≡ false → record_path o name ≡ p → ⊥

@@ -140,11 +140,6 @@ pub before_then : (es : List Entry) (m : Map) (old mid new : Story) → Since (R
 before_then es m old mid new until from =
     since_then (RecoversToEither es m) old mid new until (since_weaker (λ c. IsRecovered c m) (RecoversToEither es m) (λ c h. inl h) mid new from)
 
--- what follows with Ok
-pub ok_weaker : {X E : Type 0} {P Q : Type 0} (r : Result X E) → (P → Q) → OnOk r P → OnOk r Q
-ok_weaker (Ok x) f p = f p
-ok_weaker (Err e) f p = tt
-
 -- the group that was made of the files
 pub group_made : (n : ℕ) (es : List Entry) (removals : List (List ℕ)) (placements : List Placement) (objects : List Thing) → removals ≡ [] → placements ≡ map placement_of es → objects ≡ map object_of es
     → Fits (record { group = n; removals = removals; placements = placements }) → are_free [] (footprint (placing n es)) ≡ true → IsGroup (record { group = n; removals = removals; placements = placements }) objects
@@ -156,7 +151,3 @@ group_made n es removals placements objects none placed objects_of fits free =
       free = ap (λ (r : Content). are_free [] (footprint r)) same ∙ free;
       staged = subst (λ (os : List Thing). AreStaged placements os) (sym objects_of) (subst (λ (ps : List Placement). AreStaged ps (map object_of es)) (sym placed) (all_staged es));
     }
-
-pub if_ok_weaker : {X E : Type 0} {P Q : X → Type 0} (r : Result X E) → ((x : X) → P x → Q x) → IfOk r P → IfOk r Q
-if_ok_weaker (Ok x) f p = f x p
-if_ok_weaker (Err e) f p = tt

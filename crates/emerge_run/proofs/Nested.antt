@@ -1,7 +1,7 @@
 -- Paths above and below one another, as one that goes on with a slash behind the other.
 use Rattle.std.proofs.Common.{◌≡◌, ◌⊎◌, ◌<◌, ◌||◌, ◌==◌, ℕ, suc, Bool, true, false, List, [], ◌∷◌, ◌++◌, length, take, drop, get_or, inl, inr, refl, ap, sym, ◌∙◌, arith, subst, append_assoc}
 use Rattle.std.specs.Prelude.{bytes_eq}
-use Rattle.std.proofs.lemmas.Bool.{cases_lt, eq-eqb}
+use Rattle.std.proofs.lemmas.Bool.{cases_lt, eq-eqb, or_left, or_right}
 use Rattle.std.proofs.lemmas.List.{take-append-drop}
 use Rattle.std.proofs.lemmas.Slice.Eq.{bytes_eq-Decides}
 use Rattle.std.proofs.Math.ListN.{get_or-eq_default}
@@ -52,13 +52,6 @@ above_one (x ∷ a) [] r s e = let first : x ≡ 47 = cc (ap (λ (l : List ℕ).
 above_one (x ∷ a) (y ∷ b) r s e =
     let first : x ≡ y = cc (ap (λ (l : List ℕ). get_or l 0 0) e) in
     subst (λ (n : ℕ). Meet (x ∷ a) (n ∷ b)) first (behind x a b (above_one a b r s (ap (drop 1) e)))
-
-pub or_left : (a b : Bool) → a ≡ true → (a || b) ≡ true
-or_left a b e = cc
-
-pub or_right : (a b : Bool) → b ≡ true → (a || b) ≡ true
-or_right true b e = refl
-or_right false b e = e
 
 pub above_one_meet : (top path low : List ℕ) → is_below top low ≡ true → is_below path low ≡ true → meets top path ≡ true
 above_one_meet top path low h k =

@@ -5,15 +5,13 @@
 //! never stopped.
 #![tactic(auto)]
 
-use build_pool::BuildPool;
-use emerge_run::{Ended, Status, emerge};
-use samples::{ImageBuilder, listing, sample_image, sample_tree, without_touched};
+use samples::{Run, listing, run_on, sample_image, sample_tree, without_touched};
 use std::alloc::{AllocError, Global};
 use std::io::Write;
 use std::process::ExitCode;
 use std::rt::Env;
 use std::{env, io};
-use tree_mem::{MemSink, MemTree};
+use tree_mem::MemTree;
 
 /// The status of a run whose argument is no number.
 const USAGE: u8 = 2;
@@ -77,51 +75,9 @@ fn shown(alloc: Global, call: u64) -> Result<(u8, String), AllocError> {
     }
 }
 
-/// What a run came to: its number, what it said, and its tree.
-#[derive(Drop)]
-struct Ending {
-    code: u8,
-    said: String,
-    tree: MemTree,
-}
-
 /// A run that merges `c/p-1` into a tree.
-fn merged(alloc: Global, tree: MemTree) -> Result<Ending, AllocError> {
-    let word = String::from_str(alloc, "=c/p-1")?;
-    let words = vec![in alloc; word]?;
-    let builder = ImageBuilder::new(1, sample_image(alloc)?);
-    let pool = BuildPool::new(alloc, vec![in alloc; builder]?)?;
-    summary(
-        alloc,
-        emerge(alloc, &words, tree, MemSink::new(alloc), pool),
-    )
-}
-
-fn summary(
-    alloc: Global,
-    ended: Ended<MemTree, MemSink, ImageBuilder>,
-) -> Result<Ending, AllocError> {
-    let Ended {
-        status,
-        tree,
-        out,
-        ..
-    } = ended;
-    let code = number_of(status);
-    let mut said = String::new(alloc);
-    push_bytes(&mut said, out.bytes())?;
-    Ok(Ending { code, said, tree })
-}
-
-fn number_of(status: Status) -> u8 {
-    status.code()
-}
-
-fn push_bytes(text: &mut String, bytes: &[u8]) -> Result<(), AllocError> {
-    for byte in bytes {
-        text.push(char::from(*byte))?;
-    }
-    Ok(())
+fn merged(alloc: Global, tree: MemTree) -> Result<Run, AllocError> {
+    run_on(alloc, "=c/p-1", tree, sample_image(alloc)?)
 }
 
 fn push_paths(text: &mut String, tree: &MemTree) -> Result<(), AllocError> {

@@ -1,7 +1,7 @@
 -- A verdict in words: a group that is judged good is in form, and one that is in form is judged good.
 use Rattle.std.proofs.Common.{◌≡◌, ◌⊎◌, ◌+◌, ◌&&◌, ◌||◌, ℕ, zero, suc, Bool, true, false, not, cond, eqb, List, [], ◌∷◌, length, Option, Some, None, Result, Ok, Err, refl, sym, ap, subst, ◌∙◌, inl, inr, arith, eq-eqb}
 use Rattle.std.specs.Prelude.{bytes_eq, slice_get}
-use Rattle.std.proofs.lemmas.Bool.{eqb-true}
+use Rattle.std.proofs.lemmas.Bool.{eqb-true, or_cases, or_left, or_right}
 use Rattle.std.proofs.lemmas.Slice.Eq.{bytes_eq-Decides}
 use Rattle.basics.specs.Members.{AreDistinct, Has}
 use Rattle.md5.specs.Md5.{md5}
@@ -22,18 +22,6 @@ use Rattle.merge_record.proofs.Verdicts.{fine, judged_ok, paths_pass}
 use Rattle.merge_record.proofs.Whole.{and_true}
 
 -- ---- membership as a test and as a fact
-
-or_cases : (a b : Bool) → a || b ≡ true → (a ≡ true) ⊎ (b ≡ true)
-or_cases true b h = inl refl
-or_cases false b h = inr h
-
-or_right : (a b : Bool) → b ≡ true → a || b ≡ true
-or_right true b h = refl
-or_right false b h = h
-
-or_left : (a b : Bool) → a ≡ true → a || b ≡ true
-or_left true b h = refl
-or_left false b h = absurd cc
 
 pub has_if_in : (paths : List (List ℕ)) (q : List ℕ) → is_in paths q ≡ true → Has paths q
 has_if_in [] q h = absurd cc

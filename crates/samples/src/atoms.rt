@@ -1,5 +1,5 @@
-use crate::runs::{Run, run_on, told_on};
-use crate::{cached, listing, sample_image, tree_of};
+use crate::tests::{told, told_on};
+use crate::{Run, cached, listing, run_on, sample_image, tree_of};
 use std::alloc::{AllocError, Global};
 use std::test::Fail;
 
@@ -21,8 +21,7 @@ fn run_over(alloc: Global, rows: &str, words: &str) -> Result<Run, AllocError> {
 
 /// What such a run comes to.
 fn told_over(alloc: Global, rows: &str, words: &str) -> Result<String, AllocError> {
-    let Run { told, .. } = run_over(alloc, rows, words)?;
-    Ok(told)
+    told(alloc, &run_over(alloc, rows, words)?)
 }
 
 #[test]

@@ -7,14 +7,16 @@ use file_tree::Entry;
 use std::alloc::{AllocError, Global};
 use tree_mem::{MemSink, MemTree};
 
-/// What a run came to: its number, that number and what the run wrote, its groups, the faults of its
-/// builders, and its tree.
+/// What a run came to. It is made at once of the run's end, whose status has many parts.
 #[derive(Drop)]
 pub struct Run {
+    /// The number of the status.
     pub code: u8,
-    pub told: String,
+    /// What was written.
+    pub said: String,
     pub history: Vec<u32>,
     pub acknowledged: Vec<u32>,
+    /// Those of all builders.
     pub faults: u128,
     pub tree: MemTree,
 }
@@ -65,17 +67,6 @@ pub fn run_on(
     )
 }
 
-/// What such a run says.
-pub fn told_on(
-    alloc: Global,
-    words: &str,
-    tree: MemTree,
-    image: Vec<Entry>,
-) -> Result<String, AllocError> {
-    let Run { told, .. } = run_on(alloc, words, tree, image)?;
-    Ok(told)
-}
-
 fn summary(alloc: Global, ended: Ended<MemTree, MemSink, ImageBuilder>) -> Result<Run, AllocError> {
     let Ended {
         status,
@@ -87,10 +78,10 @@ fn summary(alloc: Global, ended: Ended<MemTree, MemSink, ImageBuilder>) -> Resul
     } = ended;
     let code = number_of(status);
     let faults = faults_of(pool);
-    let told = text_of(alloc, code, out)?;
+    let said = text_of(alloc, out)?;
     Ok(Run {
         code,
-        told,
+        said,
         history,
         acknowledged,
         faults,
@@ -106,9 +97,8 @@ fn faults_of(pool: BuildPool<ImageBuilder>) -> u128 {
     pool.faults()
 }
 
-/// The number, and behind a space what was written.
-fn text_of(alloc: Global, code: u8, out: MemSink) -> Result<String, AllocError> {
-    let mut text = format!(in alloc; "{code} ")?;
+fn text_of(alloc: Global, out: MemSink) -> Result<String, AllocError> {
+    let mut text = String::new(alloc);
     for byte in out.bytes() {
         text.push(char::from(*byte))?;
     }

@@ -1,6 +1,6 @@
-use crate::runs::{Run, run_on, told_on};
+use crate::tests::told;
 use crate::{
-    as_read, cached, file, listing, sample_image, sample_tree, tree_of, with_touched,
+    Run, as_read, cached, file, listing, run_on, sample_image, sample_tree, tree_of, with_touched,
     without_touched,
 };
 use file_tree::{Kind, Path};
@@ -135,7 +135,7 @@ fn seventh_call_fails(rt: HostRuntime) -> Result<(), Fail> {
     let mut tree = sample_tree(alloc)?;
     tree.fail_at(7)?;
     let run = run_on(alloc, "=c/p-1", tree, sample_image(alloc)?)?;
-    assert_eq!(rt; run.told.as_str(), "16 emerge: DeviceFault\n");
+    assert_eq!(rt; told(alloc, &run)?.as_str(), "16 emerge: DeviceFault\n");
     let whole = ending(alloc, sample_tree(alloc)?)?;
     assert_eq!(rt; ending(alloc, run.tree)?, whole);
     Ok(())
@@ -181,7 +181,7 @@ fn told_over(
         tree_of(alloc, entries).map_err(|_| AllocError)?,
         sample_image(alloc)?,
     )?;
-    let text = run.told.as_str();
+    let text = told(alloc, &run)?;
     let objects = run.tree.objects().len();
     format!(in alloc; "{text}{objects}")
 }
@@ -193,7 +193,10 @@ fn damaged_record(rt: HostRuntime) -> Result<(), Fail> {
     let filed = entry(alloc, "record", "EMJR")?;
     let tree = tree_of(alloc, vec![in alloc; gate, filed]?).map_err(|_| AllocError)?;
     let run = run_on(alloc, "=c/p-1", tree, sample_image(alloc)?)?;
-    assert_eq!(rt; run.told.as_str(), "20 emerge: NotBuilt: Journal\n");
+    assert_eq!(rt;
+        told(alloc, &run)?.as_str(),
+        "20 emerge: NotBuilt: Journal\n"
+    );
     assert_eq!(rt; run.tree.objects().len(), 2);
     Ok(())
 }

@@ -1,22 +1,43 @@
-use crate::runs::{run_on, run_with, told_on};
-use crate::{ImageBuilder, cached, file, listing, sample_image, sample_tree, tree_of};
+use crate::{
+    ImageBuilder, Run, cached, file, listing, run_on, run_with, sample_image, sample_tree, tree_of,
+};
 use file_tree::{Entry, Kind};
 use std::alloc::{AllocError, Global};
 use std::test::Fail;
-use tree_mem::MemSink;
+use tree_mem::{MemSink, MemTree};
+
+/// The number of a run's status, and behind a space what it wrote.
+pub fn told(alloc: Global, run: &Run) -> Result<String, AllocError> {
+    let code = run.code;
+    let said = run.said.as_str();
+    format!(in alloc; "{code} {said}")
+}
+
+/// The same, of a run of these words over this tree with this image.
+pub fn told_on(
+    alloc: Global,
+    words: &str,
+    tree: MemTree,
+    image: Vec<Entry>,
+) -> Result<String, AllocError> {
+    told(alloc, &run_on(alloc, words, tree, image)?)
+}
 
 #[test]
 fn one_file_into_an_empty_tree(rt: HostRuntime) -> Result<(), Fail> {
     let alloc = rt.alloc();
     let run = run_on(alloc, "=c/p-1", sample_tree(alloc)?, sample_image(alloc)?)?;
-    assert_eq!(rt; run.told.as_str(), "0 done 1 +c/p-1\nemerge: ok 1\n");
+    assert_eq!(rt;
+        told(alloc, &run)?.as_str(),
+        "0 done 1 +c/p-1\nemerge: ok 1\n"
+    );
     assert_eq!(rt; run.acknowledged.as_slice(), [1].as_slice());
     let want =
         "etc/portage/make.profile/make.defaults ARCH=\"amd64\"\nACCEPT_KEYWORDS=\"amd64\"\n\nusr/bin/p \nvar/db/pkg/c/p-1/CONTENTS obj /usr/bin/p d41d8cd98f00b204e9800998ecf8427e 0\n\nvar/db/pkg/c/p-1/EAPI 8\n\nvar/db/pkg/c/p-1/SLOT 0\n\nvar/db/repos/gentoo/c/p/p-1.ebuild \nvar/db/repos/gentoo/metadata/md5-cache/c/p-1 EAPI=8\nKEYWORDS=amd64\nSLOT=0\n_md5_=d41d8cd98f00b204e9800998ecf8427e\n\n";
     assert_eq!(rt; listing(alloc, &run.tree)?.as_str(), want);
     assert_eq!(rt; run.tree.refused(), 0);
     let again = run_on(alloc, "=c/p-1", run.tree, sample_image(alloc)?)?;
-    assert_eq!(rt; again.told.as_str(), "0 emerge: ok 0\n");
+    assert_eq!(rt; told(alloc, &again)?.as_str(), "0 emerge: ok 0\n");
     Ok(())
 }
 
@@ -134,7 +155,10 @@ fn a_builder_that_fails(rt: HostRuntime) -> Result<(), Fail> {
         MemSink::new(alloc),
         builder,
     )?;
-    assert_eq!(rt; run.told.as_str(), "15 emerge: BuildFailed: c/p-1\n");
+    assert_eq!(rt;
+        told(alloc, &run)?.as_str(),
+        "15 emerge: BuildFailed: c/p-1\n"
+    );
     assert_eq!(rt; run.faults, 1);
     let before = sample_tree(alloc)?;
     assert_eq!(rt; listing(alloc, &run.tree)?, listing(alloc, &before)?);
@@ -153,7 +177,7 @@ fn first_write_fails(rt: HostRuntime) -> Result<(), Fail> {
         out,
         ImageBuilder::new(7, sample_image(alloc)?),
     )?;
-    assert_eq!(rt; run.told.as_str(), "17 emerge: OutputFault\n");
+    assert_eq!(rt; told(alloc, &run)?.as_str(), "17 emerge: OutputFault\n");
     assert_eq!(rt; run.history.as_slice(), [1].as_slice());
     assert_eq!(rt; run.acknowledged.len(), 0);
     Ok(())

@@ -2,7 +2,7 @@
 use Rattle.std.proofs.Common.{◌≡◌, ◌⊎◌, ◌||◌, ℕ, zero, suc, Bool, true, false, Option, MatchOption, List, [], ◌∷◌, Some, None, inl, inr, refl, ap, sym, ◌∙◌, arith, subst}
 use Rattle.std.specs.Prelude.{Contains, bytes_eq, codes}
 use Rattle.std.specs.List.{list_all}
-use Rattle.std.proofs.lemmas.Bool.{and_from, and_parts}
+use Rattle.std.proofs.lemmas.Bool.{and_from, and_parts, or_cases, or_left, or_right}
 use Rattle.std.proofs.lemmas.Slice.Eq.{bytes_eq-Decides}
 use Rattle.file_tree.specs.Disk.{Map}
 use Rattle.file_tree.specs.Thing.{plain}
@@ -24,18 +24,6 @@ passes : (f : List ℕ → Bool) (xs : List (List ℕ)) (q : List ℕ) → list_
 passes f [] q h has = absurd (omega (arith, has.1))
 passes f (x ∷ xs) q h (zero, lt, is) = subst (λ (y : List ℕ). f y ≡ true) is (and_parts (f x) (list_all f xs) h).0
 passes f (x ∷ xs) q h (suc i, lt, is) = passes f xs q (and_parts (f x) (list_all f xs) h).1 (i, omega (arith, lt), is)
-
-or_left : (a b : Bool) → a ≡ true → (a || b) ≡ true
-or_left true b h = refl
-or_left false b h = absurd (let f : false ≡ true = h in cc)
-
-or_right : (a b : Bool) → b ≡ true → (a || b) ≡ true
-or_right true b h = refl
-or_right false b h = h
-
-or_cases : (a b : Bool) → (a || b) ≡ true → (a ≡ true) ⊎ (b ≡ true)
-or_cases true b h = inl refl
-or_cases false b h = inr h
 
 -- the paths of the package's record
 pub record AreRecord (id : PackageId) (contents eapi slot : List ℕ) : Type 0 where

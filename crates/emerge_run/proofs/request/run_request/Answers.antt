@@ -6,7 +6,7 @@ use Rattle.emerge_run.specs.Outcomes.{IsPackageOf}
 use Rattle.emerge_run.specs.declared.judge.Standing.{Standing}
 use Rattle.emerge_run.specs.Refusals.{status_of}
 use Rattle.emerge_run.proofs.Asked.{some_builder}
-use Rattle.emerge_run.proofs.Endings.{lines_or_failed, lines_written, no_lines, not_ok_refusal, package_of, ran_after_looking, ran_before, ran_installed, rose_later, tree_asks}
+use Rattle.emerge_run.proofs.Endings.{lines_written, no_lines, not_ok_refusal, or_failed, package_of, ran_after_looking, ran_before, ran_installed, rose_later, tree_asks}
 use Rattle.emerge_run.proofs.request.run_request.Goals as goal
 
 pub returns-in-Err-clause-outcome : goal.returns-in-Err-clause-outcome
@@ -53,9 +53,9 @@ returns-in-Ok-Chosen-clause-written g c t =
     let m = (g.T.Tree.story c.args.tree.now).now.holds in
     let a = atom_value c.args.atom in
     let f = c.in-Ok-Chosen.chosen in
-    lines_or_failed (IsPackageOf a g.T.Tree.tells m) f.id c.merge_chosen.result.acknowledged.items (g.S.Sink.written c.args.out.now) (g.S.Sink.written c.merge_chosen.new.out) _
+    or_failed _ (lines_written (IsPackageOf a g.T.Tree.tells m) f.id c.merge_chosen.result.acknowledged.items (g.S.Sink.written c.args.out.now) (g.S.Sink.written c.merge_chosen.new.out)
     (package_of a g.T.Tree.tells m f (subst (λ (x : Standing). HasMatched a x) c.in-Ok-Chosen.field-0-is c.in-Ok-Chosen.ensures.matched)
-    (λ u. subst (λ (x : Standing). Stands m a x) c.in-Ok-Chosen.field-0-is (c.in-Ok-Chosen.ensures.stands u)))
+    (λ u. subst (λ (x : Standing). Stands m a x) c.in-Ok-Chosen.field-0-is (c.in-Ok-Chosen.ensures.stands u))))
     (c.merge_chosen.ensures.written t)
 
 pub returns-in-Ok-Chosen-clause-told : goal.returns-in-Ok-Chosen-clause-told

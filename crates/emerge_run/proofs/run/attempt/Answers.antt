@@ -5,7 +5,7 @@ use Rattle.dep_atom.specs.Values.{atom_value}
 use Rattle.emerge_run.specs.Outcomes.{IsKept, IsNamed, IsPackageOf}
 use Rattle.emerge_run.specs.Refusals.{status_of_recovery, status_of_word}
 use Rattle.emerge_run.proofs.Asked.{some_builder, word_refused}
-use Rattle.emerge_run.proofs.Endings.{kept_same, not_ok_recovery, not_ok_word, named_of, outcome_before, outcome_ran, recovery_asks, rose_later, written_or_failed, written_weaker}
+use Rattle.emerge_run.proofs.Endings.{kept_same, not_ok_recovery, not_ok_word, named_of, outcome_before, outcome_ran, recovery_asks, rose_later, or_failed, written_weaker}
 use Rattle.emerge_run.proofs.run.attempt.Goals as goal
 
 pub returns-in-Err-clause-outcome : goal.returns-in-Err-clause-outcome
@@ -45,8 +45,8 @@ returns-in-Ok-recover-clause-written g c t =
     let mid = (g.T.Tree.story c.recover.new.tree).now.holds in
     let a = atom_value c.in-Ok.atom in
     let asked = c.in-Ok.ensures.found in
-    written_or_failed (IsPackageOf a g.T.Tree.tells mid) (IsNamed _ g.T.Tree.tells old) c.run_request.result.acknowledged.items (g.S.Sink.written c.args.out.now) (g.S.Sink.written c.run_request.new.out) _
-    (named_of _ a g.T.Tree.tells old mid asked (λ u. (c.in-Ok-recover.ensures.recovered u).0)) (c.run_request.ensures.written t)
+    or_failed _ (written_weaker (IsPackageOf a g.T.Tree.tells mid) (IsNamed _ g.T.Tree.tells old) c.run_request.result.acknowledged.items (g.S.Sink.written c.args.out.now) (g.S.Sink.written c.run_request.new.out)
+    (named_of _ a g.T.Tree.tells old mid asked (λ u. (c.in-Ok-recover.ensures.recovered u).0))) (c.run_request.ensures.written t)
 
 pub returns-in-Ok-recover-clause-told : goal.returns-in-Ok-recover-clause-told
 returns-in-Ok-recover-clause-told g c t n is =
