@@ -1,4 +1,5 @@
--- A pool of builders: those at rest, and of each that is lent what it is known by and how often it had failed.
+-- A pool of builders: those at rest, and of each that is lent what it is known by and how often it
+-- had failed.
 use Rattle.std.specs.Prelude.{◌≡◌, ◌==◌, ◌⊎◌, ◌<◌, ◌≤◌, ◌+◌, ◌^◌, ℕ, List, Some, Contains, cond, sum_by, remove, slice_get}
 use Rattle.build_pool.specs.declared.pools.Away.{Away}
 
@@ -30,7 +31,8 @@ faults_of faults p = added faults (λ a. a.faults) p
 
 -- the count of some builder stands at the end of its type
 abbrev pub IsFull : {B : Type 0} → (B → ℕ) → Kept B → Type 0
-IsFull {B} faults p = ((b : B) × Contains p.resting b × (2 ^ 64 ≤ faults b + 1)) ⊎ ((a : Away) × Contains p.lent a × (2 ^ 64 ≤ a.faults + 1))
+IsFull {B} faults p = ((b : B) × Contains p.resting b × (2 ^ 64 ≤ faults b + 1)) ⊎
+    ((a : Away) × Contains p.lent a × (2 ^ 64 ≤ a.faults + 1))
 
 -- the builders failed more often, so far as can be counted
 abbrev pub PoolRose : {B : Type 0} → (B → ℕ) → Kept B → Kept B → Type 0
@@ -38,4 +40,5 @@ PoolRose faults old new = (faults_of faults old < faults_of faults new) ⊎ IsFu
 
 -- one entry of this number was taken out of the list
 abbrev pub LeavesOne : ℕ → List Away → List Away → Type 0
-LeavesOne number old new = (i : ℕ) × (a : Away) × (slice_get old i ≡ Some a) × (a.number ≡ number) × (new ≡ remove old i)
+LeavesOne number old new =
+    (i : ℕ) × (a : Away) × (slice_get old i ≡ Some a) × (a.number ≡ number) × (new ≡ remove old i)

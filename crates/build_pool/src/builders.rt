@@ -1,5 +1,6 @@
-ghost use Rattle.std.specs.Prelude.{◌≡◌, ◌<◌, ◌≤◌, ℕ, Bool, List, Some, IfOk, IsErrOf, IsTrue, length, slice_get};
-ghost use Rattle.file_tree.specs.Disk.{Rose};
+ghost use Rattle.std.specs.Prelude.{◌≡◌, ◌<◌, ℕ, Bool, List, Some, IfOk, IsErrOf, IsTrue, length};
+ghost use Rattle.std.specs.Prelude.{slice_get};
+ghost use Rattle.file_tree.specs.Disk.{CountsFault};
 ghost use Rattle.file_tree.specs.declared.objects.Entry.{Entry};
 ghost use Rattle.build_pool.specs.declared.orders.Order.{Order};
 
@@ -43,10 +44,15 @@ pub trait Builder: Drop {
     fn start(&mut self, order: &Order) -> Result<u32, BuildStop>
         ensures same_number { number self.new ≡ number self.old }
         ensures same_told { told self.new ≡ told self.old }
-        ensures count { faults self.old ≤ faults self.new }
         ensures started { IfOk result (λ n. started self.new ≡ n) }
-        ensures image { IsTrue tells → IfOk result (λ n. (image self.new ≡ told self.old order.now) × (length (told self.old order.now) ≡ n)) }
-        ensures cause { IsErrOf result BuildStop.Failed → Rose (faults self.old) (faults self.new) };
+        ensures image {
+            IsTrue tells → IfOk result
+                (λ n. (image self.new ≡ told self.old order.now) ×
+                    (length (told self.old order.now) ≡ n))
+        }
+        ensures faults {
+            CountsFault (IsErrOf result BuildStop.Failed) (faults self.old) (faults self.new)
+        };
 
     /// The entry at this place of the image, counted from 0.
     fn entry(&mut self, index: u32) -> Result<Entry, BuildStop>
@@ -55,7 +61,10 @@ pub trait Builder: Drop {
         ensures same_told { told self.new ≡ told self.old }
         ensures same_started { started self.new ≡ started self.old }
         ensures same_image { image self.new ≡ image self.old }
-        ensures entry { IsTrue tells → IfOk result (λ e. slice_get (image self.old) index ≡ Some e) }
-        ensures count { faults self.old ≤ faults self.new }
-        ensures cause { IsErrOf result BuildStop.Failed → Rose (faults self.old) (faults self.new) };
+        ensures entry {
+            IsTrue tells → IfOk result (λ e. slice_get (image self.old) index ≡ Some e)
+        }
+        ensures faults {
+            CountsFault (IsErrOf result BuildStop.Failed) (faults self.old) (faults self.new)
+        };
 }

@@ -1,4 +1,6 @@
-ghost use Rattle.std.specs.Prelude.{◌≡◌, ◌<◌, ◌≤◌, ◌++◌, ◌*◌, ◌+◌, ◌^◌, ◌-◌, [], ◌∷◌, length, vec_len, vec_capacity, sum_by, Any, Some, slice_get, Contains, ℕ};
+ghost use Rattle.std.specs.Prelude.{◌≡◌, ◌<◌, ◌≤◌, ◌++◌, ◌*◌, ◌+◌, ◌^◌, ◌-◌, [], ◌∷◌, length};
+ghost use Rattle.std.specs.Prelude.{vec_len, vec_capacity, sum_by, Any, Some, slice_get, Contains};
+ghost use Rattle.std.specs.Prelude.{ℕ};
 ghost use Rattle.build_pool.specs.Pool.{LeavesOne};
 ghost use Rattle.build_pool.specs.declared.pools.Away.{Away};
 
@@ -33,7 +35,8 @@ impl<B: Builder> Model for BuildPool<B> {
 }
 
 impl<B: Builder> BuildPool<B> {
-    ghost use Rattle.std.specs.Prelude.{◌≡◌, ◌<◌, ◌≤◌, ◌++◌, ◌↔◌, [], ◌∷◌, All, Any, IfOk, IfSome, IsNone, length};
+    ghost use Rattle.std.specs.Prelude.{◌≡◌, ◌<◌, ◌≤◌, ◌++◌, ◌↔◌, [], ◌∷◌, All, Any, IfOk, IfSome};
+    ghost use Rattle.std.specs.Prelude.{IsNone, length};
     ghost use Rattle.build_pool.specs.Pool.{AreOnce, LeavesOne, SameIds, faults_of};
 
     /// A pool of these builders, all at rest. The room for lending and taking back is made here.
@@ -57,7 +60,11 @@ impl<B: Builder> BuildPool<B> {
 
     /// One of the builders at rest, if there is one.
     pub fn lend(&mut self) -> Option<B>
-        ensures some { IfSome result (λ b. (self.old.resting ≡ self.new.resting ++ b ∷ []) × (self.new.lent ≡ self.old.lent ++ record { number = B.number b; faults = B.faults b } ∷ [])) }
+        ensures some {
+            IfSome result (λ b. (self.old.resting ≡ self.new.resting ++ b ∷ []) ×
+                (self.new.lent ≡ self.old.lent ++
+                    record { number = B.number b; faults = B.faults b } ∷ []))
+        }
         ensures none { IsNone result ↔ (self.old.resting ≡ []) }
         ensures none_same { IsNone result → self.new ≡ self.old }
         ensures other { IfSome result (λ b. All (λ a. a.number ≡ B.number b → ⊥) self.old.lent) }
@@ -76,12 +83,17 @@ impl<B: Builder> BuildPool<B> {
     /// Takes a builder back that was lent; from now on it counts with what it has.
     pub fn take_back(&mut self, builder: B)
         requires lent { Any (λ a. a.number ≡ B.number builder) self.old.lent }
-        requires count { All (λ a. a.number ≡ B.number builder → a.faults ≤ B.faults builder) self.old.lent }
+        requires count {
+            All (λ a. a.number ≡ B.number builder → a.faults ≤ B.faults builder) self.old.lent
+        }
         ensures resting { self.new.resting ≡ self.old.resting ++ builder ∷ [] }
         ensures lent { LeavesOne (B.number builder) self.old.lent self.new.lent }
         ensures ids { SameIds B.number self.old self.new }
         ensures faults { faults_of B.faults self.old ≤ faults_of B.faults self.new }
-        ensures rose { All (λ a. a.number ≡ B.number builder → a.faults < B.faults builder) self.old.lent → faults_of B.faults self.old < faults_of B.faults self.new }
+        ensures rose {
+            All (λ a. a.number ≡ B.number builder → a.faults < B.faults builder) self.old.lent →
+            faults_of B.faults self.old < faults_of B.faults self.new
+        }
     {
         take_out(&mut self.lent, builder.id());
         add(&mut self.resting, builder);

@@ -1,5 +1,5 @@
 -- A disk as a tree reads it, what a crash may leave of it, and the story of all its states.
-use Rattle.std.specs.Prelude.{◌≡◌, ◌⊎◌, ◌<◌, ◌≤◌, ◌+◌, ◌^◌, ℕ, Bool, true, false, cond, List, [], ◌∷◌, ◌++◌, Option, Some, None, bytes_eq, IsSome}
+use Rattle.std.specs.Prelude.{◌≡◌, ◌↔◌, ◌⊎◌, ◌<◌, ◌≤◌, ◌+◌, ◌^◌, ℕ, Bool, true, false, cond, List, [], ◌∷◌, ◌++◌, Option, Some, None, bytes_eq, Contains, IsSome}
 use Rattle.file_tree.specs.Thing.{Thing}
 use Rattle.file_tree.specs.Paths.{is_below}
 use Rattle.file_tree.specs.declared.objects.Look.{Look}
@@ -20,7 +20,8 @@ with_path m p x = λ q. cond (bytes_eq p q) x (m q)
 
 -- one path is changed, and touched by that
 abbrev pub write : Disk → List ℕ → Option Thing → Disk
-write d p x = record { holds = with_path d.holds p x; touched = λ q. cond (bytes_eq p q) true (d.touched q) }
+write d p x =
+    record { holds = with_path d.holds p x; touched = λ q. cond (bytes_eq p q) true (d.touched q) }
 
 -- a sync reached the disk
 abbrev pub settled : Disk → Disk
@@ -47,13 +48,34 @@ pub record Story : Type 0 where
 abbrev pub next : Story → Disk → Story
 next s d = record { past = s.past ++ s.now ∷ []; now = d }
 
--- a call that was asked to change a path, whatever it answered: the path holds anything and is touched, or nothing came of the call
+-- a call that was asked to change a path, whatever it answered: the path holds anything and is
+-- touched, or nothing came of the call
 abbrev pub Moves : Story → List ℕ → Story → Type 0
 Moves old p new = (new ≡ old) ⊎ ((x : Option Thing) × (new ≡ next old (write old.now p x)))
 
 -- a sync, whatever it answered
 abbrev pub Syncs : Story → Story → Type 0
 Syncs old new = (new ≡ old) ⊎ (new ≡ next old (settled old.now))
+
+-- the story of a disk that begins with this map and nothing touched
+abbrev pub new_story : Map → Story
+new_story m = record { past = []; now = record { holds = m; touched = λ _. false } }
+
+-- the story once the path was made to hold x
+abbrev pub with_write : Story → List ℕ → Option Thing → Story
+with_write s p x = next s (write s.now p x)
+
+-- the story once a failed call touched the path, which holds what it held
+abbrev pub with_touch : Story → List ℕ → Story
+with_touch s p = with_write s p (s.now.holds p)
+
+-- the story once a sync reached the disk
+abbrev pub with_sync : Story → Story
+with_sync s = next s (settled s.now)
+
+-- the paths of the map strictly below p are these
+abbrev pub Lists : Map → List ℕ → List (List ℕ) → Type 0
+Lists m p ps = (q : List ℕ) → Contains ps q ↔ ((is_below p q ≡ true) × IsSome (m q))
 
 -- some object stands below the path
 abbrev pub HasBelow : Map → List ℕ → Type 0
@@ -68,3 +90,8 @@ Looks m p Folder = (m p ≡ None) × HasBelow m p
 -- a count of faults rose; one that stands at the end of its type counts as risen
 abbrev pub Rose : ℕ → ℕ → Type 0
 Rose before now = (before < now) ⊎ (2 ^ 64 ≤ now + 1)
+
+-- the count of faults never falls, and it rose where the call failed
+pub record CountsFault (Fails : Type 0) (before now : ℕ) : Type 0 where
+  pub later : before ≤ now
+  pub rose : Fails → Rose before now

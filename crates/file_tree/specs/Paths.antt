@@ -24,9 +24,11 @@ part_begins bytes at = (at == 0) || (slice_index bytes (at - 1) == 47)
 abbrev pub bad_part_at : List ℕ → ℕ → Bool
 bad_part_at bytes at = part_begins bytes at && is_bad_part (first_part (drop at bytes))
 
--- a newline, a NUL byte, or a space, a hyphen and a greater-than sign, with which a link line of CONTENTS is split
+-- a newline, a NUL byte, or a space, a hyphen and a greater-than sign, with which a link line of
+-- CONTENTS is split
 abbrev pub begins_badly : List ℕ → Bool
-begins_badly bytes = starts_with nat_eq bytes (10 ∷ []) || (starts_with nat_eq bytes (0 ∷ []) || starts_with nat_eq bytes (32 ∷ 45 ∷ 62 ∷ []))
+begins_badly bytes = starts_with nat_eq bytes (10 ∷ []) ||
+    (starts_with nat_eq bytes (0 ∷ []) || starts_with nat_eq bytes (32 ∷ 45 ∷ 62 ∷ []))
 
 abbrev pub bad_char_at : List ℕ → ℕ → Bool
 bad_char_at bytes at = begins_badly (drop at bytes)
@@ -41,7 +43,8 @@ none_below test (suc n) = not (test n) && none_below test n
 
 -- a path: some bytes and not too many, and at no place of it a bad part or a bad byte
 unfoldable pub is_path : List ℕ → Bool
-is_path bytes = nat_lt 0 (length bytes) && (nat_le (length bytes) most_bytes && none_below (bad_at bytes) (length bytes + 1))
+is_path bytes = nat_lt 0 (length bytes) &&
+    (nat_le (length bytes) most_bytes && none_below (bad_at bytes) (length bytes + 1))
 
 -- the second path is strictly below the first: it goes on with a slash behind the whole of it
 abbrev pub is_below : List ℕ → List ℕ → Bool

@@ -1,6 +1,8 @@
-ghost use Rattle.std.specs.Prelude.{◌≡◌, ◌≤◌, ◌==◌, ◌&&◌, ◌||◌, drop, false, length, true, MatchOption, slice_index, nat_eq};
+ghost use Rattle.std.specs.Prelude.{◌≡◌, ◌≤◌, ◌==◌, ◌&&◌, ◌||◌, drop, false, length, true};
+ghost use Rattle.std.specs.Prelude.{MatchOption, slice_index, nat_eq};
 ghost use Rattle.std.specs.List.{starts_with};
-ghost use Rattle.file_tree.specs.Paths.{FaultAt, FirstFault, bad_at, begins_badly, first_part, is_bad_part, is_path};
+ghost use Rattle.file_tree.specs.Paths.{FaultAt, FirstFault, bad_at, begins_badly, first_part};
+ghost use Rattle.file_tree.specs.Paths.{is_bad_part, is_path};
 
 use crate::fault::PathFault;
 use crate::limits::MOST_PATH_BYTES;
@@ -75,7 +77,10 @@ impl Path {
 
 /// The first fault of a text, if it is no path. Want of memory is none.
 fn first_fault(bytes: &[u8]) -> Option<PathFault>
-    ensures { MatchOption result (is_path bytes.now ≡ true) (λ f. (is_path bytes.now ≡ false) × FirstFault bytes.now f) }
+    ensures {
+        MatchOption result (is_path bytes.now ≡ true)
+            (λ f. (is_path bytes.now ≡ false) × FirstFault bytes.now f)
+    }
 {
     if bytes.is_empty() {
         return Some(PathFault::Empty);
@@ -89,7 +94,10 @@ fn first_fault(bytes: &[u8]) -> Option<PathFault>
 fn first_bad_place(bytes: &[u8]) -> Option<PathFault>
     requires some { 1 ≤ length bytes.now }
     requires short { length bytes.now ≤ 4095 }
-    ensures { MatchOption result (is_path bytes.now ≡ true) (λ f. (is_path bytes.now ≡ false) × FirstFault bytes.now f) }
+    ensures {
+        MatchOption result (is_path bytes.now ≡ true)
+            (λ f. (is_path bytes.now ≡ false) × FirstFault bytes.now f)
+    }
 {
     for at in 0..bytes.len() {
         if let Some(fault) = fault_at(bytes, at) {

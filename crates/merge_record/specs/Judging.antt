@@ -20,7 +20,8 @@ use Rattle.merge_record.specs.declared.fault.RecordFault.TheVariants as record_f
 use Rattle.merge_record.specs.declared.record.Placement.{Placement}
 
 infixl 10 ◌>>=◌
-abbrev pub ◌>>=◌ : {A B : Type 0} → Result A JudgeFault → (A → Result B JudgeFault) → Result B JudgeFault
+abbrev pub ◌>>=◌ : {A B : Type 0} → Result A JudgeFault → (A → Result B JudgeFault) →
+    Result B JudgeFault
 (Ok x) >>= f = f x
 (Err e) >>= f = Err e
 
@@ -54,7 +55,8 @@ are_free taken (p ∷ ps) = is_free taken p && are_free (p ∷ taken) ps
 -- an object of the recorded kind, length and digest
 unfoldable pub is_staged : Option Thing → Placement → Bool
 is_staged None p = false
-is_staged (Some o) p = (byte_of o.kind == byte_of p.kind) && ((length o.bytes == p.length) && bytes_eq (md5 o.bytes) p.md5)
+is_staged (Some o) p = (byte_of o.kind == byte_of p.kind) &&
+    ((length o.bytes == p.length) && bytes_eq (md5 o.bytes) p.md5)
 
 -- the record that an object is; whatever object stands there, its bytes are read
 unfoldable pub record_in : Option Thing → Result Content RecordFault
@@ -68,14 +70,17 @@ record_read g (Err e) = Err (faults.BadRecord g)
 
 -- the record is the group's, and its paths are free
 unfoldable pub paths_judged : List (List ℕ) → ℕ → Content → Result (Unit {0}) JudgeFault
-paths_judged taken g r = if (r.group == g) && are_free taken (footprint r) then Ok tt else Err (faults.BadRecord g)
+paths_judged taken g r =
+    if (r.group == g) && are_free taken (footprint r) then Ok tt else Err (faults.BadRecord g)
 
 -- the stages of placements from an index on, or the first that isn't as recorded
 unfoldable pub stages_judged : Map → ℕ → ℕ → List Placement → Result (Unit {0}) JudgeFault
 stages_judged c g i [] = Ok tt
-stages_judged c g i (p ∷ ps) = if is_staged (c (stage_path g i)) p then stages_judged c g (suc i) ps else Err (faults.BadStage g i)
+stages_judged c g i (p ∷ ps) = if is_staged (c (stage_path g i)) p then stages_judged c g
+    (suc i) ps else Err (faults.BadStage g i)
 
--- the record of an open group that is in form, or why it isn't, where these paths are taken by lower groups
+-- the record of an open group that is in form, or why it isn't, where these paths are taken by
+-- lower groups
 unfoldable pub judged : Map → List (List ℕ) → ℕ → Result Content JudgeFault
 judged c taken g = do
   r ← record_read g (record_in (c (record_path g)))
@@ -119,11 +124,13 @@ pub record IsStaged (x : Option Thing) (p : Placement) : Type 0 where
   pub size : length object.bytes ≡ p.length
   pub digest : md5 object.bytes ≡ p.md5
 
--- a group whose gate is open is in form, with this record, where these paths are taken by lower groups
+-- a group whose gate is open is in form, with this record, where these paths are taken by lower
+-- groups
 pub record IsInForm (c : Map) (taken : List (List ℕ)) (g : ℕ) (r : Content) : Type 0 where
   pub reads : record_in (c (record_path g)) ≡ Ok r
   pub number : r.group ≡ g
   pub distinct : AreDistinct (footprint r)
   pub outside : (q : List ℕ) → Has (footprint r) q → meets_jobs q ≡ false
   pub free : (q : List ℕ) → Has (footprint r) q → Has taken q → ⊥
-  pub stages : (i : ℕ) (p : Placement) → slice_get r.placements i ≡ Some p → IsStaged (c (stage_path g i)) p
+  pub stages : (i : ℕ) (p : Placement) → slice_get r.placements i ≡ Some p →
+      IsStaged (c (stage_path g i)) p

@@ -11,7 +11,8 @@ jobs = codes "var/lib/portage/jobs"
 unfoldable pub digits : ℕ → List ℕ
 digits n = encode_lower (number_text 4 n)
 
--- the files of a group: what opens it, what it does, what its gate is made of, and the object of each placement
+-- the files of a group: what opens it, what it does, what its gate is made of, and the object of
+-- each placement
 pub data Part : Type 0 where
   Gate : Part
   Changes : Part

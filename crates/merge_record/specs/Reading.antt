@@ -1,4 +1,5 @@
--- Reading from left to right, with the first fault that is met. A place is what the whole has before the rest.
+-- Reading from left to right, with the first fault that is met. A place is what the whole has
+-- before the rest.
 use Rattle.std.specs.Prelude.{◌≡◌, ◌==◌, ◌+◌, ◌-◌, ◌&&◌, ℕ, zero, suc, List, [], ◌∷◌, length, take, drop, nat_lt, Result, Ok, Err, if◌then◌else◌}
 use Rattle.std.specs.Str.{is_utf8}
 use Rattle.byteorder.specs.Endian.{big_number}
@@ -13,7 +14,8 @@ use Rattle.merge_record.specs.declared.record.Placement.{Placement}
 use Rattle.merge_record.specs.declared.limits.TheConstants.{MOST_FILE_BYTES, MOST_GROUP_PATHS, MOST_RECORD_BYTES}
 
 infixl 10 ◌>>=◌
-abbrev pub ◌>>=◌ : {A B : Type 0} → Result A RecordFault → (A → Result B RecordFault) → Result B RecordFault
+abbrev pub ◌>>=◌ : {A B : Type 0} → Result A RecordFault → (A → Result B RecordFault) →
+    Result B RecordFault
 (Ok x) >>= f = f x
 (Err e) >>= f = Err e
 
@@ -43,10 +45,12 @@ lead_at n (w ∷ ws) bytes = do
   lead_at n ws rest
 
 unfoldable pub number_at : ℕ → List ℕ → Result (ℕ × List ℕ) RecordFault
-number_at k bytes = if nat_lt (length bytes) k then Err faults.Short else Ok (big_number k bytes, drop k bytes)
+number_at k bytes =
+    if nat_lt (length bytes) k then Err faults.Short else Ok (big_number k bytes, drop k bytes)
 
 unfoldable pub bytes_at : ℕ → List ℕ → Result (List ℕ × List ℕ) RecordFault
-bytes_at k bytes = if nat_lt (length bytes) k then Err faults.Short else Ok (take k bytes, drop k bytes)
+bytes_at k bytes =
+    if nat_lt (length bytes) k then Err faults.Short else Ok (take k bytes, drop k bytes)
 
 -- a count of paths, `before` of which were counted already
 unfoldable pub count_at : ℕ → List ℕ → Result (ℕ × List ℕ) RecordFault
@@ -82,7 +86,8 @@ placement_at n bytes = do
   Ok (record { path = path.0; kind = kind.0; length = size.0; md5 = digest.0 }, path.1)
 
 -- so many fields, one behind the other
-unfoldable pub many_at : {A : Type 0} → (List ℕ → Result (A × List ℕ) RecordFault) → ℕ → List ℕ → Result (List A × List ℕ) RecordFault
+unfoldable pub many_at : {A : Type 0} → (List ℕ → Result (A × List ℕ) RecordFault) → ℕ → List ℕ →
+    Result (List A × List ℕ) RecordFault
 many_at one zero bytes = Ok ([], bytes)
 many_at one (suc n) bytes = do
   first ← one bytes
@@ -90,7 +95,8 @@ many_at one (suc n) bytes = do
   Ok (first.0 ∷ others.0, others.1)
 
 -- a count, and so many fields
-unfoldable pub counted_at : {A : Type 0} → ℕ → (List ℕ → Result (A × List ℕ) RecordFault) → List ℕ → Result (List A × List ℕ) RecordFault
+unfoldable pub counted_at : {A : Type 0} → ℕ → (List ℕ → Result (A × List ℕ) RecordFault) →
+    List ℕ → Result (List A × List ℕ) RecordFault
 counted_at before one bytes = do
   count ← count_at before bytes
   many_at one count.0 count.1

@@ -14,15 +14,18 @@ use Rattle.merge_record.specs.declared.record.Placement.{Placement}
 pub record IsRecovered (c m : Map) : Type 0 where
   pub records : List Content
   pub form : judged_open c ≡ Ok records
-  pub placed : (r : Content) → Has records r → (i : ℕ) (p : Placement) → slice_get r.placements i ≡ Some p → m p.path ≡ c (stage_path r.group i)
+  pub placed : (r : Content) → Has records r → (i : ℕ) (p : Placement) →
+      slice_get r.placements i ≡ Some p → m p.path ≡ c (stage_path r.group i)
   pub removed : (r : Content) → Has records r → (q : List ℕ) → Has r.removals q → m q ≡ None
   pub cleared : (q : List ℕ) → is_below jobs q ≡ true → m q ≡ None
-  pub others : (q : List ℕ) → is_below jobs q ≡ false → ((r : Content) → Has records r → Has (footprint r) q → ⊥) → m q ≡ c q
+  pub others : (q : List ℕ) → is_below jobs q ≡ false →
+      ((r : Content) → Has records r → Has (footprint r) q → ⊥) → m q ≡ c q
 
 -- what placing makes of what stands at a path, from an index on
 abbrev pub placed_at : Map → ℕ → ℕ → List Placement → List ℕ → Option Thing → Option Thing
 placed_at c g i [] q x = x
-placed_at c g i (p ∷ ps) q x = placed_at c g (suc i) ps q (cond (bytes_eq q p.path) (c (stage_path g i)) x)
+placed_at c g i (p ∷ ps) q x =
+    placed_at c g (suc i) ps q (cond (bytes_eq q p.path) (c (stage_path g i)) x)
 
 -- what a record makes of what stands at a path: first the removals, then the placements
 abbrev pub remade : Map → Content → List ℕ → Option Thing → Option Thing

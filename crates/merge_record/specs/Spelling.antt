@@ -37,7 +37,8 @@ counted text xs = number_text 4 (length xs) ++ flat_map text xs
 
 -- the fixed bytes, the group, the removals and the placements
 abbrev pub spelling : Content → List ℕ
-spelling r = lead ++ (number_text 4 r.group ++ (counted path_text r.removals ++ counted placement_text r.placements))
+spelling r = lead ++
+    (number_text 4 r.group ++ (counted path_text r.removals ++ counted placement_text r.placements))
 
 -- a text that is a path
 abbrev pub IsPathText : List ℕ → Type 0
@@ -58,4 +59,7 @@ pub record Fits (r : Content) : Type 0 where
 
 -- too many bytes, too many paths, or a file that is too long
 abbrev pub PassesLimit : Content → Type 0
-PassesLimit r = (MOST_RECORD_BYTES < length (spelling r)) ⊎ ((MOST_GROUP_PATHS < length r.removals + length r.placements) ⊎ Any (λ p. MOST_FILE_BYTES < p.length) r.placements)
+PassesLimit r =
+    (MOST_RECORD_BYTES < length (spelling r)) ⊎
+    ((MOST_GROUP_PATHS < length r.removals + length r.placements) ⊎
+        Any (λ p. MOST_FILE_BYTES < p.length) r.placements)

@@ -1,6 +1,8 @@
-ghost use Rattle.std.specs.Prelude.{◌≡◌, ◌<◌, ◌^◌, ◌++◌, ◌∷◌, ℕ, List, Some, true, codes, string_bytes, IfOk, MatchOption};
+ghost use Rattle.std.specs.Prelude.{◌≡◌, ◌<◌, ◌^◌, ◌++◌, ◌∷◌, ℕ, List, Some, true, codes};
+ghost use Rattle.std.specs.Prelude.{string_bytes, IfOk, MatchOption};
 ghost use Rattle.file_tree.specs.Paths.{is_below, is_path};
-ghost use Rattle.merge_record.specs.Names.{IsPart, Part, digits, gate_path, jobs, named, part_path, record_path, stage_path, token_path};
+ghost use Rattle.merge_record.specs.Names.{IsPart, Part, digits, gate_path, jobs, named, part_path};
+ghost use Rattle.merge_record.specs.Names.{record_path, stage_path, token_path};
 
 use byteorder::{BigEndian, ByteOrder};
 use file_tree::{Path, PathFault};
@@ -79,7 +81,11 @@ fn number_in(text: &[u8]) -> Option<u32>
 
 /// The group whose gate the path is, if it is one.
 pub fn group_of_gate(alloc: Global, path: &Path) -> Result<Option<u32>, AllocError>
-    ensures { IfOk result (λ found. MatchOption found ((g : ℕ) → g < 2 ^ 32 → path.now ≡ gate_path g → ⊥) (λ g. (g < 2 ^ 32) × (path.now ≡ gate_path g))) }
+    ensures {
+        IfOk result (λ found.
+            MatchOption found ((g : ℕ) → g < 2 ^ 32 → path.now ≡ gate_path g → ⊥)
+                (λ g. (g < 2 ^ 32) × (path.now ≡ gate_path g)))
+    }
 {
     let text = path.text().as_bytes();
     if text.len() < 29 {
@@ -119,7 +125,10 @@ pub fn stage_path(alloc: Global, group: u32, index: u32) -> Result<Path, AllocEr
 
 /// The files of the journal: no two have one path, each has one, and it is below the folder of all groups.
 pub fn names_differ()
-    ensures apart { (g h : ℕ) (p q : Part) → g < 2 ^ 32 → h < 2 ^ 32 → IsPart p → IsPart q → part_path g p ≡ part_path h q → (g ≡ h) × (p ≡ q) }
+    ensures apart {
+        (g h : ℕ) (p q : Part) → g < 2 ^ 32 → h < 2 ^ 32 → IsPart p → IsPart q →
+        part_path g p ≡ part_path h q → (g ≡ h) × (p ≡ q)
+    }
     ensures paths { (g : ℕ) (p : Part) → is_path (part_path g p) ≡ true }
     ensures below { (g : ℕ) (p : Part) → is_below jobs (part_path g p) ≡ true }
 {}

@@ -3,7 +3,9 @@ ghost use Rattle.std.specs.Str.{is_utf8};
 ghost use Rattle.file_tree.specs.Paths.{is_path};
 ghost use Rattle.merge_record.specs.Content.{Content};
 ghost use Rattle.merge_record.specs.Spelling.{lead, Fits, spelling};
-ghost use Rattle.merge_record.specs.Reading.{Gives, byte_at, bytes_at, count_at, counted_at, fields_at, kind_at, lead_at, many_at, number_at, path_at, placement_at, record_of, size_at};
+ghost use Rattle.merge_record.specs.Reading.{Gives, byte_at, bytes_at, count_at, counted_at};
+ghost use Rattle.merge_record.specs.Reading.{fields_at, kind_at, lead_at, many_at, number_at};
+ghost use Rattle.merge_record.specs.Reading.{path_at, placement_at, record_of, size_at};
 
 use crate::fault::RecordFault;
 use crate::limits::{LEAD, MOST_FILE_BYTES, MOST_GROUP_PATHS, MOST_RECORD_BYTES};
@@ -197,7 +199,9 @@ fn placements_of(
     count: u32,
     bytes: &[u8],
 ) -> Result<(Vec<Placement>, &[u8]), RecordFault>
-    ensures { Gives (λ x. (x.0.items, x.1.now)) result (many_at (placement_at size) count bytes.now) }
+    ensures {
+        Gives (λ x. (x.0.items, x.1.now)) result (many_at (placement_at size) count bytes.now)
+    }
 {
     let mut placements = Vec::new(alloc);
     let mut rest = bytes;
@@ -224,7 +228,9 @@ fn placed_of(
     before: usize,
     bytes: &[u8],
 ) -> Result<(Vec<Placement>, &[u8]), RecordFault>
-    ensures { Gives (λ x. (x.0.items, x.1.now)) result (counted_at before (placement_at size) bytes.now) }
+    ensures {
+        Gives (λ x. (x.0.items, x.1.now)) result (counted_at before (placement_at size) bytes.now)
+    }
 {
     let (count, rest) = count_of(before, bytes)?;
     placements_of(alloc, size, count, rest)

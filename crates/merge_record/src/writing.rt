@@ -1,6 +1,9 @@
-ghost use Rattle.std.specs.Prelude.{◌≡◌, ◌⊎◌, ◌<◌, ◌^◌, ◌++◌, ◌≤◌, false, length, All, Any, IfErr, IfOk, IsErrOf, IsTrue, OnOk};
+ghost use Rattle.std.specs.Prelude.{◌≡◌, ◌⊎◌, ◌<◌, ◌^◌, ◌++◌, ◌≤◌, false, length, All, Any, IfErr};
+ghost use Rattle.std.specs.Prelude.{IfOk, IsErrOf, IsTrue, OnOk};
 ghost use Rattle.std.specs.List.{AllByRecursion, flat_map};
-ghost use Rattle.merge_record.specs.Spelling.{Fits, IsPathText, PassesLimit, byte_of, counted, lead, number_text, path_text, placement_text, spelling};
+ghost use Rattle.merge_record.specs.Spelling.{Fits, IsPathText, PassesLimit, byte_of, counted};
+ghost use Rattle.merge_record.specs.Spelling.{lead, number_text, path_text, placement_text};
+ghost use Rattle.merge_record.specs.Spelling.{spelling};
 
 use crate::fault::RecordFault;
 use crate::limits::{LEAD, MOST_FILE_BYTES, MOST_GROUP_PATHS, MOST_RECORD_BYTES};
@@ -76,8 +79,12 @@ fn put_paths(out: &mut Vec<u8>, paths: &[Path]) -> Result<(), AllocError>
 }
 
 fn put_placements(out: &mut Vec<u8>, placements: &[Placement]) -> Result<(), AllocError>
-    ensures text { OnOk result (out.new.items ≡ out.old.items ++ flat_map placement_text placements.now) }
-    ensures form { OnOk result (AllByRecursion (λ p. IsPathText p.path × (length p.md5 ≡ 16)) placements.now) }
+    ensures text {
+        OnOk result (out.new.items ≡ out.old.items ++ flat_map placement_text placements.now)
+    }
+    ensures form {
+        OnOk result (AllByRecursion (λ p. IsPathText p.path × (length p.md5 ≡ 16)) placements.now)
+    }
 {
     for placement in placements {
         put_placement(out, placement)?;
@@ -94,10 +101,16 @@ fn spelled(
 ) -> Result<Vec<u8>, AllocError>
     requires removed { length removals.now < 2 ^ 32 }
     requires placed { length placements.now < 2 ^ 32 }
-    ensures text { IfOk result (λ v. v.items ≡ lead ++ (number_text 4 group ++ (counted path_text removals.now ++ counted placement_text placements.now))) }
+    ensures text {
+        IfOk result (λ v. v.items ≡
+            lead ++ (number_text 4 group ++
+                (counted path_text removals.now ++ counted placement_text placements.now)))
+    }
     ensures group { group < 2 ^ 32 }
     ensures removals { OnOk result (AllByRecursion IsPathText removals.now) }
-    ensures placements { OnOk result (AllByRecursion (λ p. IsPathText p.path × (length p.md5 ≡ 16)) placements.now) }
+    ensures placements {
+        OnOk result (AllByRecursion (λ p. IsPathText p.path × (length p.md5 ≡ 16)) placements.now)
+    }
 {
     let mut out = Vec::new(alloc);
     out.extend_from_slice(&LEAD)?;

@@ -79,7 +79,8 @@ abbrev pub front : List ℕ → List Item → List (List ℕ)
 front text [] = []
 front text (e ∷ es) = cond (starts_with nat_eq e.0 text) (e.0 ∷ front text es) []
 
--- p is the first path that stands in the list a second time: those before it are distinct, and it is one of them
+-- p is the first path that stands in the list a second time: those before it are distinct, and it
+-- is one of them
 pub record IsFirstRepeat (names : List (List ℕ)) (p : List ℕ) : Type 0 where
   pub before : List (List ℕ)
   pub behind : List (List ℕ)

@@ -16,8 +16,10 @@ disk_of es touched = record { holds = held es; touched = is_among touched }
 
 -- the disk before a change
 abbrev pub undo : Change → Disk → Disk
-undo (Wrote p old was) d = record { holds = with_path d.holds p old; touched = λ q. cond (bytes_eq p q) was (d.touched q) }
-undo (Touched p was) d = record { holds = d.holds; touched = λ q. cond (bytes_eq p q) was (d.touched q) }
+undo (Wrote p old was) d =
+    record { holds = with_path d.holds p old; touched = λ q. cond (bytes_eq p q) was (d.touched q) }
+undo (Touched p was) d =
+    record { holds = d.holds; touched = λ q. cond (bytes_eq p q) was (d.touched q) }
 undo (Synced touched) d = record { holds = d.holds; touched = is_among touched.keys }
 
 -- the disks before these changes, the last of which comes first

@@ -29,12 +29,13 @@ fn note(changes: &mut Vec<Change>, change: Change)
 }
 
 impl MemDisk {
-    ghost use Rattle.std.specs.Prelude.{◌≡◌, ◌↔◌, ℕ, List, [], None, Some, false, true, Contains, IfErr, IfOk, IsSome, OnErr, OnOk};
+    ghost use Rattle.std.specs.Prelude.{◌≡◌, ℕ, List, None, Some, false, true, IfErr, IfOk, IsSome};
+    ghost use Rattle.std.specs.Prelude.{OnErr, OnOk};
     ghost use Rattle.std.specs.Cmp.Lexicographic.{slice_cmp};
     ghost use Rattle.std.specs.List.Sorted.{IsStrictlySortedBy};
     ghost use Rattle.std.specs.Ordering.{nat_cmp};
-    ghost use Rattle.file_tree.specs.Disk.{Looks, next, settled, write};
-    ghost use Rattle.file_tree.specs.Paths.{is_below};
+    ghost use Rattle.file_tree.specs.Disk.{Lists, Looks, new_story, with_sync, with_touch};
+    ghost use Rattle.file_tree.specs.Disk.{with_write};
     ghost use Rattle.tree_mem.specs.Items.{IsRising, held};
     ghost use Rattle.tree_mem.specs.Image.{AllTouched, IsImageFault, chosen};
     ghost use Rattle.tree_mem.specs.MemDisk.{disk_story};
@@ -42,7 +43,7 @@ impl MemDisk {
     /// A disk that holds these objects, no path of which is touched.
     pub fn new(alloc: Global, objects: Vec<(Path, Object)>) -> MemDisk
         requires rising { IsRising objects.items }
-        ensures { disk_story result ≡ record { past = []; now = record { holds = held objects.items; touched = λ q. false } } }
+        ensures { disk_story result ≡ new_story (held objects.items) }
     {
         MemDisk {
             alloc,
@@ -66,7 +67,10 @@ impl MemDisk {
 
     /// The disk after a crash that grants the choice: no path is touched, and it has no past.
     pub fn image(&self, choice: &[(Path, Option<Object>)]) -> Result<MemDisk, ImageFault>
-        ensures story { IfOk result (λ d. disk_story d ≡ record { past = []; now = record { holds = chosen choice.now (disk_story self.now).now.holds; touched = λ q. false } }) }
+        ensures story {
+            IfOk result (λ d. disk_story d ≡
+                new_story (chosen choice.now (disk_story self.now).now.holds))
+        }
         ensures touched { OnOk result (AllTouched (disk_story self.now).now.touched choice.now) }
         ensures fault { IfErr result (IsImageFault (disk_story self.now).now.touched choice.now) }
     {
@@ -93,7 +97,9 @@ impl MemDisk {
 
     /// The paths below this one that hold something, in byte order.
     pub fn list(&self, below: &Path) -> Result<Vec<Path>, AllocError>
-        ensures answer { IfOk result (λ v. (q : List ℕ) → Contains v.items q ↔ ((is_below below.now q ≡ true) × IsSome ((disk_story self.now).now.holds q))) }
+        ensures answer {
+            IfOk result (λ v. Lists (disk_story self.now).now.holds below.now v.items)
+        }
         ensures rising { IfOk result (λ v. IsStrictlySortedBy (slice_cmp nat_cmp) v.items) }
     {
         items::list(self.alloc, self.objects.as_slice(), below)
@@ -101,7 +107,10 @@ impl MemDisk {
 
     /// Makes `to` hold a copy of what `from` holds, and touches it.
     pub fn copy(&mut self, from: &Path, to: &Path) -> Result<(), AllocError>
-        ensures ok { OnOk result (disk_story self.new ≡ next (disk_story self.old) (write (disk_story self.old).now to.now ((disk_story self.old).now.holds from.now))) }
+        ensures ok {
+            OnOk result (disk_story self.new ≡
+                with_write (disk_story self.old) to.now ((disk_story self.old).now.holds from.now))
+        }
         ensures err { OnErr result (disk_story self.new ≡ disk_story self.old) }
     {
         match self.read(from)? {
@@ -112,7 +121,10 @@ impl MemDisk {
 
     /// Makes the path hold the object, and touches it.
     pub fn store(&mut self, path: &Path, object: Object) -> Result<(), AllocError>
-        ensures ok { OnOk result (disk_story self.new ≡ next (disk_story self.old) (write (disk_story self.old).now path.now (Some object))) }
+        ensures ok {
+            OnOk result (disk_story self.new ≡
+                with_write (disk_story self.old) path.now (Some object))
+        }
         ensures err { OnErr result (disk_story self.new ≡ disk_story self.old) }
     {
         self.changes.reserve(1)?;
@@ -132,7 +144,9 @@ impl MemDisk {
 
     /// Makes the path hold nothing, and touches it.
     pub fn clear(&mut self, path: &Path) -> Result<(), AllocError>
-        ensures ok { OnOk result (disk_story self.new ≡ next (disk_story self.old) (write (disk_story self.old).now path.now None)) }
+        ensures ok {
+            OnOk result (disk_story self.new ≡ with_write (disk_story self.old) path.now None)
+        }
         ensures err { OnErr result (disk_story self.new ≡ disk_story self.old) }
     {
         self.changes.reserve(1)?;
@@ -150,7 +164,7 @@ impl MemDisk {
 
     /// Touches the path, which holds what it held.
     pub fn touch(&mut self, path: &Path) -> Result<(), AllocError>
-        ensures ok { OnOk result (disk_story self.new ≡ next (disk_story self.old) (write (disk_story self.old).now path.now ((disk_story self.old).now.holds path.now))) }
+        ensures ok { OnOk result (disk_story self.new ≡ with_touch (disk_story self.old) path.now) }
         ensures err { OnErr result (disk_story self.new ≡ disk_story self.old) }
     {
         self.changes.reserve(1)?;
@@ -166,7 +180,7 @@ impl MemDisk {
 
     /// Forgets which paths were touched.
     pub fn settle(&mut self) -> Result<(), AllocError>
-        ensures ok { OnOk result (disk_story self.new ≡ next (disk_story self.old) (settled (disk_story self.old).now)) }
+        ensures ok { OnOk result (disk_story self.new ≡ with_sync (disk_story self.old)) }
         ensures err { OnErr result (disk_story self.new ≡ disk_story self.old) }
     {
         self.changes.reserve(1)?;

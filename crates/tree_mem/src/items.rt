@@ -1,11 +1,12 @@
-ghost use Rattle.std.specs.Prelude.{◌≡◌, ◌≤◌, ◌<◌, ◌++◌, ◌∷◌, ◌↔◌, ℕ, List, [], Some, None, true, Contains, IfOk, IsSome, IsTrue, MatchResult, insert, nat_eq, string_bytes, vec_capacity, vec_len};
+ghost use Rattle.std.specs.Prelude.{◌≡◌, ◌≤◌, ◌<◌, ◌++◌, ◌∷◌, ◌↔◌, ℕ, List, [], Some, None, true};
+ghost use Rattle.std.specs.Prelude.{Contains, IfOk, IsSome, IsTrue, MatchResult, insert, nat_eq};
+ghost use Rattle.std.specs.Prelude.{string_bytes, vec_capacity, vec_len};
 ghost use Rattle.std.specs.Cmp.Lexicographic.{slice_cmp};
 ghost use Rattle.std.specs.List.{starts_with};
 ghost use Rattle.std.specs.List.Sorted.{IsStrictlySortedBy};
 ghost use Rattle.std.specs.Option.{option_copied};
 ghost use Rattle.std.specs.Ordering.{nat_cmp};
-ghost use Rattle.file_tree.specs.Paths.{is_below};
-ghost use Rattle.file_tree.specs.Disk.{HasBelow, Looks, with_path};
+ghost use Rattle.file_tree.specs.Disk.{HasBelow, Lists, Looks, with_path};
 ghost use Rattle.tree_mem.specs.Items.{GoesAt, IsRising, StandsAt, StartsAt, front, held};
 
 use file_tree::{Look, Object, Path};
@@ -16,7 +17,9 @@ use std::mem;
 /// The place of the item with this path, or the place where it belongs.
 pub fn find(items: &[(Path, Object)], text: &str) -> Result<usize, usize>
     requires rising { IsRising items.now }
-    ensures { MatchResult result (λ i. StandsAt items.now text.now i) (λ i. GoesAt items.now text.now i) }
+    ensures {
+        MatchResult result (λ i. StandsAt items.now text.now i) (λ i. GoesAt items.now text.now i)
+    }
 {
     let mut low = 0;
     let mut high = items.len();
@@ -117,7 +120,10 @@ fn begins(path: &Path, text: &str) -> bool
 /// Whether the first item that doesn't come before the text begins with it.
 fn has_under(items: &[(Path, Object)], text: &str) -> bool
     requires rising { IsRising items.now }
-    ensures { IsTrue result ↔ ((q : List ℕ) × (starts_with nat_eq q text.now ≡ true) × IsSome (held items.now q)) }
+    ensures {
+        IsTrue result ↔ ((q : List ℕ) × (starts_with nat_eq q text.now ≡ true) ×
+            IsSome (held items.now q))
+    }
 {
     let at = start(items, text);
     at < items.len() && begins(&items[at].0, text)
@@ -166,7 +172,7 @@ fn front_of(alloc: Global, items: &[(Path, Object)], text: &str) -> Result<Vec<P
 /// The paths below this one that hold something, in byte order.
 pub fn list(alloc: Global, items: &[(Path, Object)], below: &Path) -> Result<Vec<Path>, AllocError>
     requires rising { IsRising items.now }
-    ensures answer { IfOk result (λ v. (q : List ℕ) → Contains v.items q ↔ ((is_below below.now q ≡ true) × IsSome (held items.now q))) }
+    ensures answer { IfOk result (λ v. Lists (held items.now) below.now v.items) }
     ensures rising { IfOk result (λ v. IsStrictlySortedBy (slice_cmp nat_cmp) v.items) }
 {
     let folder = folder(alloc, below)?;

@@ -29,7 +29,9 @@ impl MemSink {
 
     /// Makes the write of this number, counted from 1, fail. It then takes no byte.
     pub fn fail_at(&mut self, call: u64) -> Result<(), AllocError>
-        ensures ok { OnOk result ((n : ℕ) → sink_fails self.new n ≡ (n == call) || sink_fails self.old n) }
+        ensures ok {
+            OnOk result ((n : ℕ) → sink_fails self.new n ≡ (n == call) || sink_fails self.old n)
+        }
         ensures err { OnErr result ((n : ℕ) → sink_fails self.new n ≡ sink_fails self.old n) }
         ensures bytes { sink_bytes self.new ≡ sink_bytes self.old }
         ensures counts { sink_counts self.new ≡ sink_counts self.old }
@@ -53,26 +55,28 @@ impl MemSink {
 }
 
 impl Sink for MemSink {
-    ghost use Rattle.std.specs.Prelude.{◌≡◌, ◌≤◌, ◌++◌, ◌&&◌, ℕ, List, not, true, take, is_err, IsErr, IsTrue, OnErr, OnOk};
-    ghost use Rattle.file_tree.specs.Disk.{Rose};
-    ghost use Rattle.tree_mem.specs.Calls.{counted};
-    ghost use Rattle.tree_mem.specs.MemSink.{next_write_fails, sink_bytes, sink_counts, sink_fails};
+    ghost use Rattle.std.specs.Prelude.{◌≡◌, ◌++◌, ℕ, List, true, take, is_err, IsErr, IsTrue};
+    ghost use Rattle.std.specs.Prelude.{OnErr, OnOk};
+    ghost use Rattle.file_tree.specs.Disk.{CountsFault};
+    ghost use Rattle.tree_mem.specs.MemSink.{CountsWrite, next_write_fails, sink_bytes, sink_fails};
+    ghost use Rattle.tree_mem.specs.MemSink.{sink_fault_count};
 
     ghost tells = { true };
 
     ghost written = { sink_bytes };
 
-    ghost faults = { λ s. (sink_counts s).faults };
+    ghost faults = { sink_fault_count };
 
     fn write(&mut self, bytes: &[u8]) -> Result<(), Failed>
         ensures ok { OnOk result (sink_bytes self.new ≡ sink_bytes self.old ++ bytes.now) }
         ensures err { OnErr result (sink_bytes self.new ≡ sink_bytes self.old) }
         ensures moved { (n : ℕ) × (sink_bytes self.new ≡ sink_bytes self.old ++ take n bytes.now) }
         ensures listed { IsTrue (next_write_fails self.old) → IsErr result }
-        ensures counts { sink_counts self.new ≡ counted (is_err result) (is_err result && not (next_write_fails self.old)) (sink_counts self.old) }
+        ensures counts { CountsWrite (is_err result) self.old self.new }
         ensures plan { (n : ℕ) → sink_fails self.new n ≡ sink_fails self.old n }
-        ensures count { (sink_counts self.old).faults ≤ (sink_counts self.new).faults }
-        ensures cause { IsErr result → Rose (sink_counts self.old).faults (sink_counts self.new).faults }
+        ensures faults {
+            CountsFault (IsErr result) (sink_fault_count self.old) (sink_fault_count self.new)
+        }
     {
         if self.calls.begin() {
             self.calls.fail();

@@ -15,7 +15,8 @@ pub struct MemTree {
 }
 
 impl MemTree {
-    ghost use Rattle.std.specs.Prelude.{◌≡◌, ◌||◌, ◌==◌, ◌↔◌, ◌⊎◌, ◌≤◌, ℕ, List, [], Some, false, nat_le, Contains, IfErr, IfOk, OnErr, OnOk};
+    ghost use Rattle.std.specs.Prelude.{◌≡◌, ◌||◌, ◌==◌, ◌↔◌, ◌⊎◌, ◌≤◌, ℕ, List, [], Some, false};
+    ghost use Rattle.std.specs.Prelude.{nat_le, Contains, IfErr, IfOk, OnErr, OnOk};
     ghost use Rattle.std.specs.Cmp.Lexicographic.{slice_cmp};
     ghost use Rattle.std.specs.List.Sorted.{IsStrictlySortedBy};
     ghost use Rattle.std.specs.Ordering.{nat_cmp};
@@ -25,15 +26,21 @@ impl MemTree {
     ghost use Rattle.file_tree.specs.Disk.{IsImage, IsUntouched, Rose};
     ghost use Rattle.tree_mem.specs.Fault.{IsMemFault};
     ghost use Rattle.tree_mem.specs.Image.{AllTouched, IsImageFault, chosen};
-    ghost use Rattle.tree_mem.specs.MemTree.{IsRefusedBy, IsTouchedBy, SameFailures, mem_counts, mem_fails, mem_holds, mem_story};
+    ghost use Rattle.tree_mem.specs.MemTree.{IsRefusedBy, IsTouchedBy, SameFailures, mem_counts};
+    ghost use Rattle.tree_mem.specs.MemTree.{mem_fails, mem_holds, mem_story};
 
     /// A tree that holds these objects. Nothing is touched, no call was made, and none is to fail.
     pub fn new(alloc: Global, objects: Vec<(Path, Object)>) -> Result<MemTree, MemFault>
-        ensures held { IfOk result (λ t. (p : List ℕ) (x : Thing) → Contains objects.items (p, x) ↔ (mem_holds t p ≡ Some x)) }
+        ensures held {
+            IfOk result (λ t. (p : List ℕ) (x : Thing) →
+                Contains objects.items (p, x) ↔ (mem_holds t p ≡ Some x))
+        }
         ensures distinct { IfOk result (λ t. AreDistinct (paths objects.items)) }
         ensures untouched { IfOk result (λ t. IsUntouched (mem_story t).now) }
         ensures past { IfOk result (λ t. (mem_story t).past ≡ []) }
-        ensures counts { IfOk result (λ t. mem_counts t ≡ record { calls = 0; faults = 0; refused = 0 }) }
+        ensures counts {
+            IfOk result (λ t. mem_counts t ≡ record { calls = 0; faults = 0; refused = 0 })
+        }
         ensures fails { IfOk result (λ t. (n : ℕ) → mem_fails t n ≡ false) }
         ensures fault { IfErr result (IsMemFault (paths objects.items)) }
     {
@@ -46,7 +53,9 @@ impl MemTree {
 
     /// Makes the call of this number, counted from 1, fail.
     pub fn fail_at(&mut self, call: u64) -> Result<(), AllocError>
-        ensures ok { OnOk result ((n : ℕ) → mem_fails self.new n ≡ (n == call) || mem_fails self.old n) }
+        ensures ok {
+            OnOk result ((n : ℕ) → mem_fails self.new n ≡ (n == call) || mem_fails self.old n)
+        }
         ensures err { OnErr result (SameFailures self.old self.new) }
         ensures story { mem_story self.new ≡ mem_story self.old }
         ensures counts { mem_counts self.new ≡ mem_counts self.old }
@@ -80,7 +89,9 @@ impl MemTree {
     /// All objects, in byte order of their paths.
     pub fn objects(&self) -> &[(Path, Object)]
         ensures rising { IsStrictlySortedBy (slice_cmp nat_cmp) (paths result.now) }
-        ensures held { (p : List ℕ) (x : Thing) → Contains result.now (p, x) ↔ (mem_holds self.now p ≡ Some x) }
+        ensures held {
+            (p : List ℕ) (x : Thing) → Contains result.now (p, x) ↔ (mem_holds self.now p ≡ Some x)
+        }
     {
         self.disk.objects()
     }
@@ -94,7 +105,9 @@ impl MemTree {
         ensures touched { OnOk result (AllTouched (mem_story self.now).now.touched choice.now) }
         ensures untouched { IfOk result (λ t. IsUntouched (mem_story t).now) }
         ensures past { IfOk result (λ t. (mem_story t).past ≡ []) }
-        ensures counts { IfOk result (λ t. mem_counts t ≡ record { calls = 0; faults = 0; refused = 0 }) }
+        ensures counts {
+            IfOk result (λ t. mem_counts t ≡ record { calls = 0; faults = 0; refused = 0 })
+        }
         ensures fails { IfOk result (λ t. (n : ℕ) → mem_fails t n ≡ false) }
         ensures fault { IfErr result (IsImageFault (mem_story self.now).now.touched choice.now) }
     {
@@ -118,29 +131,30 @@ impl MemTree {
 }
 
 impl Tree for MemTree {
-    ghost use Rattle.std.specs.Prelude.{◌≡◌, ◌≤◌, ◌↔◌, ◌&&◌, ℕ, List, Some, None, false, not, true, is_err, Contains, IfOk, IsErr, IsErrOf, IsSome, IsTrue, OnErr, OnOk};
+    ghost use Rattle.std.specs.Prelude.{◌≡◌, ℕ, Some, None, true, is_err, IfOk, IsErr, IsErrOf};
+    ghost use Rattle.std.specs.Prelude.{IsSome, IsTrue, OnErr, OnOk};
     ghost use Rattle.std.specs.Cmp.Lexicographic.{slice_cmp};
     ghost use Rattle.std.specs.List.Sorted.{IsStrictlySortedBy};
     ghost use Rattle.std.specs.Ordering.{nat_cmp};
-    ghost use Rattle.file_tree.specs.Disk.{Looks, Moves, Rose, Syncs, next, settled, write};
-    ghost use Rattle.file_tree.specs.Paths.{is_below};
-    ghost use Rattle.tree_mem.specs.Calls.{counted};
-    ghost use Rattle.tree_mem.specs.MemTree.{FailsAt, SameFailures, mem_counts, mem_holds, mem_story, next_fails};
+    ghost use Rattle.file_tree.specs.Disk.{CountsFault, Lists, Looks, Moves, Syncs, with_sync};
+    ghost use Rattle.file_tree.specs.Disk.{with_write};
+    ghost use Rattle.tree_mem.specs.MemTree.{CountsCall, CountsListed, CountsOk, FailsAt};
+    ghost use Rattle.tree_mem.specs.MemTree.{SameFailures, fault_count, mem_holds, mem_story};
+    ghost use Rattle.tree_mem.specs.MemTree.{next_fails};
 
     ghost tells = { true };
 
     ghost story = { mem_story };
 
-    ghost faults = { λ t. (mem_counts t).faults };
+    ghost faults = { fault_count };
 
     fn look(&mut self, path: &Path) -> Result<Look, Failed>
         ensures answer { IfOk result (λ l. Looks (mem_holds self.old) path.now l) }
         ensures same { mem_story self.new ≡ mem_story self.old }
         ensures listed { IsTrue (next_fails self.old) → IsErr result }
-        ensures counts { mem_counts self.new ≡ counted (is_err result) (is_err result && not (next_fails self.old)) (mem_counts self.old) }
+        ensures counts { CountsCall (is_err result) self.old self.new }
         ensures plan { SameFailures self.old self.new }
-        ensures count { (mem_counts self.old).faults ≤ (mem_counts self.new).faults }
-        ensures cause { IsErr result → Rose (mem_counts self.old).faults (mem_counts self.new).faults }
+        ensures faults { CountsFault (IsErr result) (fault_count self.old) (fault_count self.new) }
     {
         if self.calls.begin() {
             self.calls.fail();
@@ -159,10 +173,12 @@ impl Tree for MemTree {
         ensures answer { IfOk result (λ o. o ≡ mem_holds self.old path.now) }
         ensures same { mem_story self.new ≡ mem_story self.old }
         ensures listed { IsTrue (next_fails self.old) → IsErrOf result TreeFault.Failed }
-        ensures counts { mem_counts self.new ≡ counted (next_fails self.old) false (mem_counts self.old) }
+        ensures counts { CountsListed self.old self.new }
         ensures plan { SameFailures self.old self.new }
-        ensures count { (mem_counts self.old).faults ≤ (mem_counts self.new).faults }
-        ensures cause { IsErrOf result TreeFault.Failed → Rose (mem_counts self.old).faults (mem_counts self.new).faults }
+        ensures faults {
+            CountsFault (IsErrOf result TreeFault.Failed) (fault_count self.old)
+                (fault_count self.new)
+        }
     {
         if self.calls.begin() {
             self.calls.fail();
@@ -173,14 +189,16 @@ impl Tree for MemTree {
     }
 
     fn list(&mut self, below: &Path) -> Result<Vec<Path>, TreeFault>
-        ensures answer { IfOk result (λ v. (q : List ℕ) → Contains v.items q ↔ ((is_below below.now q ≡ true) × IsSome (mem_holds self.old q))) }
+        ensures answer { IfOk result (λ v. Lists (mem_holds self.old) below.now v.items) }
         ensures rising { IfOk result (λ v. IsStrictlySortedBy (slice_cmp nat_cmp) v.items) }
         ensures same { mem_story self.new ≡ mem_story self.old }
         ensures listed { IsTrue (next_fails self.old) → IsErrOf result TreeFault.Failed }
-        ensures counts { mem_counts self.new ≡ counted (next_fails self.old) false (mem_counts self.old) }
+        ensures counts { CountsListed self.old self.new }
         ensures plan { SameFailures self.old self.new }
-        ensures count { (mem_counts self.old).faults ≤ (mem_counts self.new).faults }
-        ensures cause { IsErrOf result TreeFault.Failed → Rose (mem_counts self.old).faults (mem_counts self.new).faults }
+        ensures faults {
+            CountsFault (IsErrOf result TreeFault.Failed) (fault_count self.old)
+                (fault_count self.new)
+        }
     {
         if self.calls.begin() {
             self.calls.fail();
@@ -191,15 +209,20 @@ impl Tree for MemTree {
     }
 
     fn put(&mut self, path: &Path, object: &Object) -> Result<(), TreeFault>
-        ensures ok { OnOk result (mem_story self.new ≡ next (mem_story self.old) (write (mem_story self.old).now path.now (Some object.now))) }
+        ensures ok {
+            OnOk result (mem_story self.new ≡
+                with_write (mem_story self.old) path.now (Some object.now))
+        }
         ensures moved { Moves (mem_story self.old) path.now (mem_story self.new) }
         ensures listed { IsTrue (next_fails self.old) → IsErrOf result TreeFault.Failed }
         ensures failed { IsErrOf result TreeFault.Failed → FailsAt self.old path.now self.new }
         ensures memory { IsErrOf result TreeFault.Memory → mem_story self.new ≡ mem_story self.old }
-        ensures counts { (IsErrOf result TreeFault.Failed → ⊥) → mem_counts self.new ≡ counted false false (mem_counts self.old) }
+        ensures counts { (IsErrOf result TreeFault.Failed → ⊥) → CountsOk self.old self.new }
         ensures plan { SameFailures self.old self.new }
-        ensures count { (mem_counts self.old).faults ≤ (mem_counts self.new).faults }
-        ensures cause { IsErrOf result TreeFault.Failed → Rose (mem_counts self.old).faults (mem_counts self.new).faults }
+        ensures faults {
+            CountsFault (IsErrOf result TreeFault.Failed) (fault_count self.old)
+                (fault_count self.new)
+        }
     {
         if self.calls.begin() {
             let failed = self.fail_touching(path);
@@ -213,14 +236,16 @@ impl Tree for MemTree {
     fn place(&mut self, from: &Path, to: &Path) -> Result<(), Failed>
         requires differ { from.now ≡ to.now → ⊥ }
         requires there { IsSome (mem_holds self.old from.now) }
-        ensures ok { OnOk result (mem_story self.new ≡ next (mem_story self.old) (write (mem_story self.old).now to.now (mem_holds self.old from.now))) }
+        ensures ok {
+            OnOk result (mem_story self.new ≡
+                with_write (mem_story self.old) to.now (mem_holds self.old from.now))
+        }
         ensures moved { Moves (mem_story self.old) to.now (mem_story self.new) }
         ensures listed { IsTrue (next_fails self.old) → IsErr result }
         ensures err { OnErr result (FailsAt self.old to.now self.new) }
-        ensures counts { OnOk result (mem_counts self.new ≡ counted false false (mem_counts self.old)) }
+        ensures counts { OnOk result (CountsOk self.old self.new) }
         ensures plan { SameFailures self.old self.new }
-        ensures count { (mem_counts self.old).faults ≤ (mem_counts self.new).faults }
-        ensures cause { IsErr result → Rose (mem_counts self.old).faults (mem_counts self.new).faults }
+        ensures faults { CountsFault (IsErr result) (fault_count self.old) (fault_count self.new) }
     {
         if self.calls.begin() {
             return Err(self.fail_touching(to));
@@ -235,14 +260,15 @@ impl Tree for MemTree {
     }
 
     fn remove(&mut self, path: &Path) -> Result<(), Failed>
-        ensures ok { OnOk result (mem_story self.new ≡ next (mem_story self.old) (write (mem_story self.old).now path.now None)) }
+        ensures ok {
+            OnOk result (mem_story self.new ≡ with_write (mem_story self.old) path.now None)
+        }
         ensures moved { Moves (mem_story self.old) path.now (mem_story self.new) }
         ensures listed { IsTrue (next_fails self.old) → IsErr result }
         ensures err { OnErr result (FailsAt self.old path.now self.new) }
-        ensures counts { OnOk result (mem_counts self.new ≡ counted false false (mem_counts self.old)) }
+        ensures counts { OnOk result (CountsOk self.old self.new) }
         ensures plan { SameFailures self.old self.new }
-        ensures count { (mem_counts self.old).faults ≤ (mem_counts self.new).faults }
-        ensures cause { IsErr result → Rose (mem_counts self.old).faults (mem_counts self.new).faults }
+        ensures faults { CountsFault (IsErr result) (fault_count self.old) (fault_count self.new) }
     {
         if self.calls.begin() {
             return Err(self.fail_touching(path));
@@ -257,14 +283,13 @@ impl Tree for MemTree {
     }
 
     fn sync(&mut self) -> Result<(), Failed>
-        ensures ok { OnOk result (mem_story self.new ≡ next (mem_story self.old) (settled (mem_story self.old).now)) }
+        ensures ok { OnOk result (mem_story self.new ≡ with_sync (mem_story self.old)) }
         ensures moved { Syncs (mem_story self.old) (mem_story self.new) }
         ensures err { OnErr result (mem_story self.new ≡ mem_story self.old) }
         ensures listed { IsTrue (next_fails self.old) → IsErr result }
-        ensures counts { mem_counts self.new ≡ counted (is_err result) (is_err result && not (next_fails self.old)) (mem_counts self.old) }
+        ensures counts { CountsCall (is_err result) self.old self.new }
         ensures plan { SameFailures self.old self.new }
-        ensures count { (mem_counts self.old).faults ≤ (mem_counts self.new).faults }
-        ensures cause { IsErr result → Rose (mem_counts self.old).faults (mem_counts self.new).faults }
+        ensures faults { CountsFault (IsErr result) (fault_count self.old) (fault_count self.new) }
     {
         if self.calls.begin() {
             self.calls.fail();

@@ -41,7 +41,8 @@ pub record HasSlots (x : Option Thing) (slot subslot : List ℕ) : Type 0 where
 
 -- the path is one of the three files of the package's record
 abbrev pub IsOfRecord : PackageId → List ℕ → Type 0
-IsOfRecord id q = (q ≡ record_path id (codes "CONTENTS")) ⊎ ((q ≡ record_path id (codes "EAPI")) ⊎ (q ≡ record_path id (codes "SLOT")))
+IsOfRecord id q = (q ≡ record_path id (codes "CONTENTS")) ⊎
+    ((q ≡ record_path id (codes "EAPI")) ⊎ (q ≡ record_path id (codes "SLOT")))
 
 -- just the files of this package stand below the database's folder, in their form; it has no flags
 pub record IsInstalled (m : Map) (f : Facts) : Type 0 where

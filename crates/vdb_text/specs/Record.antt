@@ -22,7 +22,8 @@ pub record IsInFolder (id : PackageId) (path : List ℕ) : Type 0 where
   pub name : List ℕ
   pub there : path ≡ record_path id name
 
--- just the files of this package stand below the database's folder, and they say this slot and subslot
+-- just the files of this package stand below the database's folder, and they say this slot and
+-- subslot
 pub record IsRecorded (m : Map) (id : PackageId) (slot subslot : List ℕ) : Type 0 where
   pub alone : (q : List ℕ) → is_below database_path q ≡ true → IsSome (m q) → IsOfRecord id q
   pub eapi : m (record_path id (codes "EAPI")) ≡ Some (plain eapi_text)

@@ -1,7 +1,8 @@
 ghost use Rattle.std.specs.Prelude.{◌≡◌, ◌++◌, ◌∷◌, [], IfOk, string_bytes};
 ghost use Rattle.file_tree.specs.Thing.{plain};
 ghost use Rattle.slot_value.specs.Slots.{slot_text};
-ghost use Rattle.vdb_text.specs.Files.{contents_text, database_path, record_file, record_files, record_path};
+ghost use Rattle.vdb_text.specs.Files.{contents_text, database_path, record_file, record_files};
+ghost use Rattle.vdb_text.specs.Files.{record_path};
 
 use dep_atom::{Facts, PackageId};
 use file_tree::{Entry, Kind, Object, Path};
@@ -64,7 +65,9 @@ fn text_of_contents(alloc: Global, entry: &Entry) -> Result<String, AllocError>
 
 /// The text of SLOT.
 fn text_of_slots(alloc: Global, facts: &Facts) -> Result<String, AllocError>
-    ensures { IfOk result (λ t. string_bytes t ≡ slot_text facts.now.slot facts.now.subslot ++ (10 ∷ [])) }
+    ensures {
+        IfOk result (λ t. string_bytes t ≡ slot_text facts.now.slot facts.now.subslot ++ (10 ∷ []))
+    }
 {
     let slots = print_slots(alloc, &facts.slot, &facts.subslot)?;
     format!(in alloc; "{slots}\n")

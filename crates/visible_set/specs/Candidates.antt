@@ -1,4 +1,5 @@
--- The candidates of a name: the entries of the repository's cache for it, and which of them an atom chooses.
+-- The candidates of a name: the entries of the repository's cache for it, and which of them an atom
+-- chooses.
 use Rattle.std.specs.Prelude.{◌≡◌, ◌↔◌, ℕ, true, List, [], ◌∷◌, ◌++◌, Option, Some, Contains, IsSome, codes}
 use Rattle.std.specs.Cmp.Lexicographic.{slice_cmp}
 use Rattle.std.specs.List.Sorted.{IsStrictlySortedBy}
@@ -21,9 +22,14 @@ use Rattle.slot_value.specs.Slots.{IsSlotValue}
 unfoldable pub cache_path : PackageId → List ℕ
 cache_path id = codes "var/db/repos/gentoo/metadata/md5-cache/" ++ id_text id
 
--- the one form of an entry that is read so far, with this value of SLOT: EAPI 8, stable on amd64, and the digest of an empty ebuild
+-- the one form of an entry that is read so far, with this value of SLOT: EAPI 8, stable on amd64,
+-- and the digest of an empty ebuild
 unfoldable pub entry_text : List ℕ → List ℕ
-entry_text value = codes "EAPI=8" ++ (10 ∷ (codes "KEYWORDS=amd64" ++ (10 ∷ (codes "SLOT=" ++ (value ++ (10 ∷ (codes "_md5_=d41d8cd98f00b204e9800998ecf8427e" ++ (10 ∷ []))))))))
+entry_text value =
+    codes "EAPI=8" ++ (10 ∷
+        (codes "KEYWORDS=amd64" ++
+            (10 ∷ (codes "SLOT=" ++
+                (value ++ (10 ∷ (codes "_md5_=d41d8cd98f00b204e9800998ecf8427e" ++ (10 ∷ []))))))))
 
 -- an object is a plain file of an entry that says this slot and subslot
 pub record IsEntry (x : Option Thing) (slot subslot : List ℕ) : Type 0 where
@@ -50,9 +56,11 @@ pub record IsOffer (m : Map) (name : Name) (f : Facts) : Type 0 where
   pub iuse : f.iuse ≡ []
   pub enabled : f.enabled ≡ []
 
--- which of two packages of a name comes first: the one of the greater version, and of equal ones that of the smaller text in bytes
+-- which of two packages of a name comes first: the one of the greater version, and of equal ones
+-- that of the smaller text in bytes
 abbrev pub rank_cmp : PackageId → PackageId → Ordering
-rank_cmp a b = ordering_then (version_cmp b.version a.version) (slice_cmp nat_cmp (spelling a.version) (spelling b.version))
+rank_cmp a b = ordering_then (version_cmp b.version a.version)
+    (slice_cmp nat_cmp (spelling a.version) (spelling b.version))
 
 abbrev pub offer_cmp : Facts → Facts → Ordering
 offer_cmp a b = rank_cmp a.id b.id
@@ -66,5 +74,8 @@ pub record AreOffers (m : Map) (name : Name) (offers : List Facts) : Type 0 wher
 pub record IsChosen (m : Map) (a : AtomValue) (f : Facts) : Type 0 where
   pub offer : IsOffer m a.name f
   pub matched : value_matches a f [] ≡ true
-  pub greatest : (g : Facts) → IsOffer m a.name g → value_matches a g [] ≡ true → version_cmp g.id.version f.id.version ≡ Greater → ⊥
-  pub first_text : (g : Facts) → IsOffer m a.name g → value_matches a g [] ≡ true → version_cmp g.id.version f.id.version ≡ Equal → slice_cmp nat_cmp (spelling g.id.version) (spelling f.id.version) ≡ Less → ⊥
+  pub greatest : (g : Facts) → IsOffer m a.name g → value_matches a g [] ≡ true →
+      version_cmp g.id.version f.id.version ≡ Greater → ⊥
+  pub first_text : (g : Facts) → IsOffer m a.name g → value_matches a g [] ≡ true →
+      version_cmp g.id.version f.id.version ≡ Equal →
+      slice_cmp nat_cmp (spelling g.id.version) (spelling f.id.version) ≡ Less → ⊥

@@ -1,4 +1,5 @@
-ghost use Rattle.std.specs.Prelude.{◌≡◌, ◌≤◌, All, IfOk, IsErrOf, IsSome, IsTrue, MatchOption, string_bytes};
+ghost use Rattle.std.specs.Prelude.{◌≡◌, All, IfOk, IsErrOf, IsSome, IsTrue, MatchOption};
+ghost use Rattle.std.specs.Prelude.{string_bytes};
 ghost use Rattle.std.specs.Cmp.Lexicographic.{slice_cmp};
 ghost use Rattle.std.specs.List.Sorted.{IsStrictlySortedBy};
 ghost use Rattle.std.specs.Ordering.{nat_cmp};
@@ -6,7 +7,7 @@ ghost use Rattle.version_text.specs.Grammar.{Parts, spelling};
 ghost use Rattle.pms_version.specs.Limits.{IsReadable};
 ghost use Rattle.dep_atom.specs.Ids.{IsId};
 ghost use Rattle.dep_atom.specs.declared.package.PackageId.{PackageId as Id};
-ghost use Rattle.file_tree.specs.Disk.{Rose};
+ghost use Rattle.file_tree.specs.Disk.{CountsFault};
 ghost use Rattle.visible_set.specs.Candidates.{AreOffers, HasOddEntry, cache_path};
 ghost use Rattle.visible_set.specs.Reading.{AreNames, AreRead, entry_stem, folder_path};
 
@@ -25,12 +26,20 @@ pub fn candidates<T: Tree>(
     tree: &mut T,
     name: &Name,
 ) -> Result<Vec<Facts>, CandidateFault>
-    ensures offers { IsTrue T.tells → IfOk result (λ v. AreOffers (T.story tree.old).now.holds name.now v.items) }
-    ensures all_read { IsTrue T.tells → IfOk result (λ v. HasOddEntry (T.story tree.old).now.holds name.now → ⊥) }
-    ensures odd { IsTrue T.tells → IsErrOf result CandidateFault.OddEntry → HasOddEntry (T.story tree.old).now.holds name.now }
+    ensures offers {
+        IsTrue T.tells → IfOk result (λ v. AreOffers (T.story tree.old).now.holds name.now v.items)
+    }
+    ensures all_read {
+        IsTrue T.tells → IfOk result (λ v. HasOddEntry (T.story tree.old).now.holds name.now → ⊥)
+    }
+    ensures odd {
+        IsTrue T.tells → IsErrOf result CandidateFault.OddEntry →
+        HasOddEntry (T.story tree.old).now.holds name.now
+    }
     ensures same { IsTrue T.tells → T.story tree.new ≡ T.story tree.old }
-    ensures count { T.faults tree.old ≤ T.faults tree.new }
-    ensures cause { IsErrOf result CandidateFault.Failed → Rose (T.faults tree.old) (T.faults tree.new) }
+    ensures faults {
+        CountsFault (IsErrOf result CandidateFault.Failed) (T.faults tree.old) (T.faults tree.new)
+    }
 {
     pms_version::order_is_that_of_keys();
     slot_value::one_slot_value();
@@ -47,13 +56,22 @@ fn read_listed<T: Tree>(
     name: &Name,
     listed: &[Path],
 ) -> Result<Vec<Facts>, CandidateFault>
-    requires filled { IsTrue T.tells → All (λ q. IsSome ((T.story tree.old).now.holds q)) listed.now }
+    requires filled {
+        IsTrue T.tells → All (λ q. IsSome ((T.story tree.old).now.holds q)) listed.now
+    }
     requires rising { IsStrictlySortedBy (slice_cmp nat_cmp) listed.now }
-    ensures read { IsTrue T.tells → IfOk result (λ v. AreRead (T.story tree.old).now.holds name.now listed.now v.items) }
-    ensures odd { IsTrue T.tells → IsErrOf result CandidateFault.OddEntry → HasOddEntry (T.story tree.old).now.holds name.now }
+    ensures read {
+        IsTrue T.tells → IfOk result
+            (λ v. AreRead (T.story tree.old).now.holds name.now listed.now v.items)
+    }
+    ensures odd {
+        IsTrue T.tells → IsErrOf result CandidateFault.OddEntry →
+        HasOddEntry (T.story tree.old).now.holds name.now
+    }
     ensures same { IsTrue T.tells → T.story tree.new ≡ T.story tree.old }
-    ensures count { T.faults tree.old ≤ T.faults tree.new }
-    ensures cause { IsErrOf result CandidateFault.Failed → Rose (T.faults tree.old) (T.faults tree.new) }
+    ensures faults {
+        CountsFault (IsErrOf result CandidateFault.Failed) (T.faults tree.old) (T.faults tree.new)
+    }
 {
     version_text::one_spelling();
     pms_version::order_is_that_of_keys();
@@ -78,7 +96,11 @@ fn id_at(
 ) -> Result<Option<PackageId>, AllocError>
     requires stem { stem.now ≡ entry_stem name.now }
     requires names { AreNames name.now }
-    ensures { IfOk result (λ r. MatchOption r ((id : Id) → IsId id → id.name ≡ name.now → path.now ≡ cache_path id → ⊥) (λ id. IsId id × (id.name ≡ name.now) × (path.now ≡ cache_path id))) }
+    ensures {
+        IfOk result (λ r. MatchOption r
+            ((id : Id) → IsId id → id.name ≡ name.now → path.now ≡ cache_path id → ⊥)
+                (λ id. IsId id × (id.name ≡ name.now) × (path.now ≡ cache_path id)))
+    }
 {
     let Some(rest) = path.text().strip_prefix(stem) else {
         return Ok(None);
@@ -92,7 +114,10 @@ fn id_at(
 
 /// The version that the whole text is, if it is one.
 fn read_version(alloc: Global, text: &str) -> Result<Option<Version>, AllocError>
-    ensures { IfOk result (λ r. MatchOption r ((p : Parts) → IsReadable p → text.now ≡ spelling p → ⊥) (λ v. IsReadable v × (text.now ≡ spelling v))) }
+    ensures {
+        IfOk result (λ r. MatchOption r ((p : Parts) → IsReadable p → text.now ≡ spelling p → ⊥)
+            (λ v. IsReadable v × (text.now ≡ spelling v)))
+    }
 {
     match Version::parse(alloc, text) {
         Ok(version) => Ok(Some(version)),
