@@ -6,8 +6,6 @@
 #![tactic(auto)]
 
 mod bytes;
-#[cfg(test)]
-mod tests;
 mod text;
 
 pub use bytes::{is_digit, is_lower};

@@ -8,8 +8,6 @@
 mod builders;
 mod orders;
 mod pools;
-#[cfg(test)]
-mod tests;
 
 pub use builders::{BuildStop, Builder};
 pub use orders::Order;

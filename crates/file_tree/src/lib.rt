@@ -10,8 +10,6 @@ mod fault;
 mod limits;
 mod objects;
 mod paths;
-#[cfg(test)]
-mod tests;
 mod traits;
 
 pub use fault::{Failed, PathFault, TreeFault};

@@ -15,8 +15,6 @@ mod open;
 mod reading;
 mod record;
 mod taken;
-#[cfg(test)]
-mod tests;
 mod writing;
 
 pub use digest::digest_of;

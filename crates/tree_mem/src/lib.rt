@@ -14,8 +14,6 @@ mod items;
 mod record;
 mod sink;
 mod sorting;
-#[cfg(test)]
-mod tests;
 mod tree;
 
 pub use fault::{ImageFault, MemFault};

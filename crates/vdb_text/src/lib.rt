@@ -12,8 +12,6 @@ mod database;
 mod files;
 mod laws;
 mod record;
-#[cfg(test)]
-mod tests;
 
 pub use database::{Database, read_database};
 pub use files::{path_of_database, record_files};

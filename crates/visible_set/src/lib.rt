@@ -10,8 +10,6 @@ mod entry;
 mod fault;
 mod listing;
 mod ranking;
-#[cfg(test)]
-mod tests;
 
 pub use choosing::choose;
 pub use fault::CandidateFault;

@@ -69,7 +69,7 @@ loop-index-preserved g c =
       λ t i lt'.
           let held = ap (λ (s : Story). s.now.holds (stage_path c.args.paths.now.group i)) (c.in_ok-place.ensures.ok t) in
           subst IsSome (sym held) (stage_stays (g.T.Tree.story c.loop-index.tree).now _ _ c.args.paths.now.group i (subst (λ (q : List ℕ). is_below jobs q ≡ false) to clear) (c.loop-index.invariant.2 t i lt')),
-      omega (arith, c.loop-index.invariant.3, c.place.ensures.count),
+      omega (arith, c.loop-index.invariant.3, c.place.ensures.faults.later),
       λ t.
           let moved = subst (λ (q : List ℕ). Moves (g.T.Tree.story c.loop-index.tree) q (g.T.Tree.story c.place.new.self)) (sym to) (c.place.ensures.moved t) in
           placed_asked c.loop-index.index c.args.placements.now c.index-placements-index.result (g.T.Tree.story c.args.tree.now) (g.T.Tree.story c.loop-index.tree) (g.T.Tree.story c.place.new.self) c.loop-index-test.true c.index-placements-index.is (c.loop-index.invariant.4 t) moved,

@@ -26,7 +26,7 @@ loop-path-preserved g c =
       λ t.
           let wrote = ap (λ (s : Story). s.now) (c.in_ok-remove.ensures.ok t) in
           removed_step c.loop-path.path-index c.args.removals.now c.path-item.result _ _ lt c.path-item.is wrote ∙ c.loop-path.invariant.1 t,
-      omega (arith, c.loop-path.invariant.2, c.remove.ensures.count),
+      omega (arith, c.loop-path.invariant.2, c.remove.ensures.faults.later),
       λ t. asked_step c.loop-path.path-index c.args.removals.now c.path-item.result (g.T.Tree.story c.args.tree.now) (g.T.Tree.story c.loop-path.tree) (g.T.Tree.story c.remove.new.self) lt c.path-item.is (c.loop-path.invariant.3 t) (c.remove.ensures.moved t),
     )
 

@@ -33,7 +33,7 @@ loop-index-preserved g c =
       λ t.
           let wrote = ap (λ (s : Story). s.now) (c.in_ok-put.ensures.ok t) ∙ ap (λ (p : List ℕ). write (g.T.Tree.story c.loop-index.tree).now p (Some c.index-objects-index.result)) (path ∙ ap (λ (n : ℕ). stage_path n c.loop-index.index) named) in
           staged_step c.args.paths.now.group c.loop-index.index c.args.objects.now c.index-objects-index.result _ _ c.loop-index-test.true c.index-objects-index.is wrote ∙ c.loop-index.invariant.1 t,
-      omega (arith, c.loop-index.invariant.2, c.put.ensures.count),
+      omega (arith, c.loop-index.invariant.2, c.put.ensures.faults.later),
     )
 
 pub returns-clause-moments : goal.returns-clause-moments

@@ -13,7 +13,7 @@ returns-in_err-judge-clause-answer g c =
 pub loop-group-preserved : goal.loop-group-preserved
 loop-group-preserved g c = (
   λ tells. c.judge.ensures.same tells ∙ c.loop-group.invariant.0 tells,
-  omega (arith, c.judge.ensures.count, c.loop-group.invariant.1),
+  omega (arith, c.judge.ensures.faults.later, c.loop-group.invariant.1),
   λ tells. rw c.in_ok-push.ensures.items (all_on (g.T.Tree.story c.args.tree.now) (g.T.Tree.story c.loop-group.tree) c.loop-group.taken c.judge.new.taken c.args.groups.now c.loop-group.group-index c.loop-group.records.items c.in_ok-judge.field-0 (judged_all (g.T.Tree.story c.args.tree.now).now.holds [] c.args.groups.now)
       (c.loop-group.invariant.0 tells) c.loop-group-test.true (c.in_ok-judge.ensures.answer tells) c.in_ok-judge.ensures.taken (c.loop-group.invariant.2 tells)),
 )

@@ -11,7 +11,7 @@ returns-in_err-judge_stage-clause-answer g c =
 pub loop-index-preserved : goal.loop-index-preserved
 loop-index-preserved g c = (
   λ tells. c.judge_stage.ensures.same tells ∙ c.loop-index.invariant.0 tells,
-  omega (arith, c.judge_stage.ensures.count, c.loop-index.invariant.1),
+  omega (arith, c.judge_stage.ensures.faults.later, c.loop-index.invariant.1),
   λ tells. stages_on (g.T.Tree.story c.args.tree.now) (g.T.Tree.story c.loop-index.tree) c.args.group c.loop-index.index c.args.placements.now c.index-placements-index.result (c.loop-index.invariant.0 tells) c.loop-index-test.true c.index-placements-index.is (c.in_ok-judge_stage.ensures.answer tells) (c.loop-index.invariant.2 tells),
 )
 

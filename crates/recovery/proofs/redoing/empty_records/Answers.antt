@@ -23,5 +23,5 @@ loop-group-preserved g c =
       λ t.
           let wrote = ap (λ (s : Story). s.now) (c.in_ok-put.ensures.ok t) in
           emptied_step c.loop-group.group-index c.args.groups.now c.in_ok-path.path _ _ _ c.loop-group-test.true c.in_ok-path.ensures c.in_ok-object.ensures wrote ∙ c.loop-group.invariant.1 t,
-      omega (arith, c.loop-group.invariant.2, c.put.ensures.count),
+      omega (arith, c.loop-group.invariant.2, c.put.ensures.faults.later),
     )

@@ -45,5 +45,5 @@ loop-path-preserved g c =
           let at = found.2 ∙ ap cache_path (sym is.named) in
           add_more m c.args.name.now c.args.listed.now c.loop-path.path-index path c.loop-path.offers.items c.push.new.self.items offer c.one_spelling.ensures c.order_is_that_of_keys.ensures.total c.requires.rising c.loop-path-test.true c.path-item.is one at c.in_ok-push.ensures.items (c.loop-path.invariant.0 t),
       λ t. is.same t ∙ c.loop-path.invariant.1 t,
-      omega (arith, is.count, c.loop-path.invariant.2),
+      omega (arith, is.faults.later, c.loop-path.invariant.2),
     )

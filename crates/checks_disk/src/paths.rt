@@ -1,4 +1,4 @@
-use crate::{Entry, Kind, Object, Path, PathFault};
+use file_tree::{Entry, Kind, Object, Path, PathFault};
 use std::test::Fail;
 
 // What `Path::parse` answers of a text, in words.

@@ -1,4 +1,4 @@
-use crate::{ImageFault, MemFault, MemSink, MemTree};
+use tree_mem::{ImageFault, MemFault, MemSink, MemTree};
 use file_tree::{Failed, Kind, Look, Object, Path, Sink, Tree};
 use std::alloc::Global;
 use std::process::Abort;

@@ -1,4 +1,4 @@
-use crate::{Text, is_digit, is_lower};
+use basics::{Text, is_digit, is_lower};
 use std::test::Fail;
 
 #[test]

@@ -1,6 +1,6 @@
 ghost use Rattle.std.specs.Prelude.{◌≡◌, [], true, IfOk};
 
-use crate::{BuildPool, BuildStop, Builder, Order};
+use build_pool::{BuildPool, BuildStop, Builder, Order};
 use dep_atom::PackageId;
 use file_tree::Entry;
 use std::test::Fail;

@@ -1,4 +1,4 @@
-use crate::*;
+use merge_record::*;
 use file_tree::{Kind, Path};
 use std::alloc::{AllocError, Global};
 use std::test::Fail;

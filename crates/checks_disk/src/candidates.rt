@@ -1,4 +1,4 @@
-use crate::*;
+use visible_set::*;
 use dep_atom::{Atom, Facts};
 use file_tree::{Kind, Object, Path};
 use pms_names::{Category, Name, PackageName};
