@@ -1,3 +1,3 @@
 pub mod Ascii
 pub mod Faults
-pub mod Rising
+pub mod Keys

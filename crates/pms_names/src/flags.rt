@@ -1,14 +1,18 @@
-ghost use Rattle.std.specs.Prelude.{◌≡◌, ℕ, List, [], ◌||◌, ◌&&◌, not, bytes_eq, IfOk, MatchResult, OnOk, OnErr};
-ghost use Rattle.pms_names.specs.Flags.{has, IsRising, StandsAt, BelongsAt};
+ghost use Rattle.std.specs.Prelude.{◌≡◌, ℕ, List, [], ◌||◌, ◌&&◌, not, bytes_eq, length, IfOk, OnOk, OnErr};
+ghost use Rattle.std.specs.Map.Iter.{ShowsInOrder, deref};
+ghost use Rattle.pms_names.specs.Flags.{has, IsRising};
 
 use crate::name::Flag;
 use std::alloc::{AllocError, Global};
+use std::collections::BTreeSet;
+use std::collections::btree_set::Iter;
 use std::marker::Model;
 
-/// A set of flags. Contracts see the list of their texts, in byte order.
+/// A set of flags: a test, an insertion and a removal take time in the logarithm of its size.
+/// Contracts see the list of their texts, in byte order.
 #[derive(Debug, Drop)]
 pub struct Flags {
-    items: Vec<Flag>,
+    items: BTreeSet<Flag>,
 }
 
 impl Model for Flags {
@@ -18,9 +22,9 @@ impl Model for Flags {
 
     ghost use Rattle.pms_names.specs.Flags.{IsRising};
 
-    ghost view = { λ s. s.items.items };
+    ghost view = { λ s. s.items.keys };
 
-    ghost invariant = { λ s. IsRising s.items.items };
+    ghost invariant = { λ s. IsRising s.items.keys };
 }
 
 impl Flags {
@@ -29,22 +33,14 @@ impl Flags {
         ensures { result ≡ [] }
     {
         Flags {
-            items: Vec::new(alloc),
+            items: BTreeSet::new(alloc),
         }
     }
 
     pub fn has(&self, flag: &Flag) -> bool
         ensures { result ≡ has self.now flag.now }
     {
-        self.place(flag).is_ok()
-    }
-
-    // Where the flag stands, or else where it belongs.
-    fn place(&self, flag: &Flag) -> Result<usize, usize>
-        ensures place { MatchResult result (StandsAt self.now flag.now) (BelongsAt self.now flag.now) }
-        ensures rising { IsRising self.now }
-    {
-        self.items.binary_search(flag)
+        self.items.contains(flag)
     }
 
     /// Adds the flag, and answers whether it is new.
@@ -54,13 +50,7 @@ impl Flags {
         ensures err { OnErr result (self.new ≡ self.old) }
         ensures rising { IsRising self.new }
     {
-        match self.place(&flag) {
-            Ok(_) => Ok(false),
-            Err(at) => {
-                self.items.insert(at, flag)?;
-                Ok(true)
-            }
-        }
+        Ok(self.items.insert(flag)?)
     }
 
     /// Takes the flag out, and answers whether it was there.
@@ -69,13 +59,7 @@ impl Flags {
         ensures found { result ≡ has self.old flag.now }
         ensures rising { IsRising self.new }
     {
-        match self.place(flag) {
-            Ok(at) => {
-                let _ = self.items.remove(at);
-                true
-            }
-            Err(_) => false,
-        }
+        self.items.remove(flag)
     }
 
     /// Takes every flag out.
@@ -85,21 +69,26 @@ impl Flags {
         self.items.clear();
     }
 
-    /// The flags in byte order.
-    pub fn list(&self) -> &[Flag]
-        ensures all { result.now ≡ self.now }
-        ensures rising { IsRising self.now }
+    /// How many flags there are.
+    pub fn len(&self) -> usize
+        ensures { result ≡ length self.now }
     {
-        self.items.as_slice()
+        self.items.len()
+    }
+
+    /// The flags in byte order.
+    pub fn iter(&self) -> Iter<'_, Flag>
+        ensures all { result ≡ self.now }
+        ensures rising { IsRising self.now }
+        ensures runs { ShowsInOrder (deref {X = List ℕ}) }
+    {
+        self.items.iter()
     }
 
     pub fn try_clone(&self) -> Result<Flags, AllocError>
         ensures { IfOk result (λ s. s ≡ self.now) }
     {
-        let mut items = Vec::with_capacity(self.items.allocator().clone()?, self.items.len())?;
-        for flag in &self.items {
-            items.push(flag.try_clone()?)?;
-        }
+        let items = self.items.clone()?;
         Ok(Flags { items })
     }
 }

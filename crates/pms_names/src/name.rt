@@ -73,6 +73,13 @@ impl<K: NameKind> NameOf<K> {
         })
     }
 
+    /// Are all the bytes one name? It takes no memory.
+    pub fn is_one(bytes: &[u8]) -> bool
+        ensures { IsTrue result ↔ IsName K.kind bytes.now }
+    {
+        fault_of(K::kind(), bytes).is_none()
+    }
+
     pub fn text(&self) -> &str
         ensures text { result.now ≡ self.now }
         ensures name { IsName K.kind self.now }
@@ -91,8 +98,17 @@ impl<K: NameKind> NameOf<K> {
     }
 }
 
-/// A package's full name, written `category/package`.
-#[derive(Debug, Drop, PartialEq, Eq, PartialOrd, Ord)]
+impl<K: NameKind> Clone for NameOf<K> {
+    ghost is_clone = { λ name copy. copy ≡ name };
+
+    fn clone(&self) -> Result<NameOf<K>, AllocError> {
+        self.try_clone()
+    }
+}
+
+/// A package's full name, written `category/package`. It has no order of its own: that of its
+/// parts isn't that of its text, in which `a-b/x` stands before `a/x`.
+#[derive(Debug, Drop, PartialEq, Eq)]
 pub struct Name {
     pub category: Category,
     pub package: PackageName,

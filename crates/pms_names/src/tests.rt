@@ -79,12 +79,12 @@ fn flags_are_a_set(rt: HostRuntime) -> Result<(), Fail> {
         assert!(rt; flags.insert(flag)? == is_new, "{text}");
     }
     let copy = flags.try_clone()?;
-    assert!(rt; copy.list().len() == 3);
+    assert!(rt; copy.len() == 3);
     let Ok(b) = Flag::parse(alloc, "b") else {
         return Ok(());
     };
     assert!(rt; flags.remove(&b));
     assert!(rt; !flags.remove(&b));
-    assert!(rt; flags.list().first().is_some_and(|flag| flag.text() == "a"));
+    assert!(rt; flags.iter().next().is_some_and(|flag| flag.text() == "a"));
     Ok(())
 }

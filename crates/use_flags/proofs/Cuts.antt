@@ -5,7 +5,7 @@ use Rattle.std.specs.List.{All, AllByRecursion, slice_split, onto_first, filter}
 use Rattle.std.proofs.lemmas.Bool.{cases_Bool}
 use Rattle.std.proofs.lemmas.List.Elements.{filter-append, All-tail}
 use Rattle.std.proofs.lemmas.List.Splits.{slice_split-cons_yes, slice_split-cons_no, slice_split_none}
-use Rattle.use_flags.specs.Words.{has_bytes, words, EndsInBreak, IsWordBetween, IsFirstBad}
+use Rattle.use_flags.specs.Words.{has_bytes, words, EachWord, EndsInBreak, IsWordBetween, IsFirstBad}
 
 abbrev white : ℕ → Bool
 white = is_ascii_whitespace
@@ -73,17 +73,27 @@ words-around before word [] bytes s =
 words-around before word (b ∷ after) bytes s =
     (words after, ap words s.cut ∙ ap words (sym (append_assoc before word (b ∷ after))) ∙ words-append (before ++ word) b after s.right ∙ ap (λ ws. ws ++ words after) (words-more before word s.left s.some s.solid) ∙ append_assoc (words before) (word ∷ []) (words after))
 
-good_among : (P : List ℕ → Type 0) (front : List (List ℕ)) (word : List ℕ) (more : List (List ℕ)) → AllByRecursion P (front ++ (word ∷ more)) → P word
+pub good_among : (P : List ℕ → Type 0) (front : List (List ℕ)) (word : List ℕ) (more : List (List ℕ)) → AllByRecursion P (front ++ (word ∷ more)) → P word
 good_among P [] word more all = all.0
 good_among P (x ∷ front) word more all = good_among P front word more all.1
-
--- a text of good words has no bad one
-pub no_bad_word : (P : List ℕ → Type 0) (bytes : List ℕ) (at : ℕ) → AllByRecursion P (words bytes) → IsFirstBad P bytes at → ⊥
-no_bad_word P bytes at all first =
-    let around = words-around first.before first.word first.after bytes first.stands in
-    let Q : List (List ℕ) → Type 0 = λ ws. AllByRecursion P ws in
-    first.bad (good_among P (words first.before) first.word around.0 (subst Q around.1 all))
 
 pub all_good-more : (P : List ℕ → Type 0) (ws : List (List ℕ)) (word : List ℕ) → AllByRecursion P ws → P word → AllByRecursion P (ws ++ (word ∷ []))
 all_good-more P [] word all good = (good, tt)
 all_good-more P (x ∷ ws) word all good = (all.0, all_good-more P ws word all.1 good)
+
+-- a text with a good word more is in form
+pub good_with : (P : List ℕ → Type 0) (before word : List ℕ) → EndsInBreak before → 0 < length word → All (λ b. white b ≡ false) word → EachWord P before → P word → EachWord P (before ++ word)
+good_with P before word left some solid good is =
+    let Q : List (List ℕ) → Type 0 = λ ws. AllByRecursion P ws in
+    subst Q (sym (words-more before word left some solid)) (all_good-more P (words before) word good is)
+
+-- the word is not good, where the text is not in form with it
+pub bad_word : (P : List ℕ → Type 0) (bytes : List ℕ) (at : ℕ) (first : IsFirstBad P bytes at) → P first.word → ⊥
+bad_word P bytes at first is = first.bad (good_with P first.before first.word first.stands.left first.stands.some first.stands.solid first.good is)
+
+-- a text of good words has no bad one
+pub no_bad_word : (P : List ℕ → Type 0) (bytes : List ℕ) (at : ℕ) → EachWord P bytes → IsFirstBad P bytes at → ⊥
+no_bad_word P bytes at all first =
+    let around = words-around first.before first.word first.after bytes first.stands in
+    let Q : List (List ℕ) → Type 0 = λ ws. AllByRecursion P ws in
+    bad_word P bytes at first (good_among P (words first.before) first.word around.0 (subst Q around.1 all))

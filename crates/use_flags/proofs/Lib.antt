@@ -1,3 +1,4 @@
 pub mod Cuts
 pub mod More
 pub mod Next
+pub mod Once

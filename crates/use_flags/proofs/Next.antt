@@ -9,7 +9,7 @@ use Rattle.std.proofs.lemmas.List.Quantifiers.{position-Some}
 use Rattle.std.proofs.lemmas.List.Sums.{fails_before_first}
 use Rattle.std.proofs.lemmas.List.Elements.{All-tail}
 use Rattle.use_flags.specs.Words.{words, EndsInBreak, BeginsWithBreak, IsFirstBad, IsNextWord}
-use Rattle.use_flags.proofs.Cuts.{words-gap, words-more}
+use Rattle.use_flags.proofs.Cuts.{words-gap, words-more, good_among}
 
 abbrev white : ℕ → Bool
 white = is_ascii_whitespace
@@ -112,5 +112,5 @@ first_bad P bytes from at word next good bad =
       stands = next.stands;
       place = length-take-le at bytes (omega (arith, next.within));
       good = subst Q (sym next.same) good;
-      bad = bad;
+      bad = λ all. bad (good_among P (words (take at bytes)) word [] (subst Q (words-more (take at bytes) word next.stands.left next.stands.some next.stands.solid) all));
     }

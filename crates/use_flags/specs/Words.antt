@@ -11,6 +11,10 @@ has_bytes (b ∷ bytes) = true
 abbrev pub words : List ℕ → List (List ℕ)
 words bytes = filter has_bytes (slice_split is_ascii_whitespace bytes)
 
+-- each word of the text is good
+abbrev pub EachWord : (List ℕ → Type 0) → List ℕ → Type 0
+EachWord IsGood bytes = AllByRecursion IsGood (words bytes)
+
 -- the text has no bytes, or ends in a white one
 abbrev pub EndsInBreak : List ℕ → Type 0
 EndsInBreak bytes = (bytes ≡ []) ⊎ ((front : List ℕ) × (b : ℕ) × (is_ascii_whitespace b ≡ true) × (bytes ≡ front ++ (b ∷ [])))
@@ -28,15 +32,15 @@ pub record IsWordBetween (before word after bytes : List ℕ) : Type 0 where
   pub left : EndsInBreak before
   pub right : BeginsWithBreak after
 
--- at `at` begins the first word that is not good
+-- what stands before `at` is in form, and with the word that begins there it is not
 pub record IsFirstBad (IsGood : List ℕ → Type 0) (bytes : List ℕ) (at : ℕ) : Type 0 where
   pub before : List ℕ
   pub word : List ℕ
   pub after : List ℕ
   pub stands : IsWordBetween before word after bytes
   pub place : length before ≡ at
-  pub good : AllByRecursion IsGood (words before)
-  pub bad : IsGood word → ⊥
+  pub good : EachWord IsGood before
+  pub bad : EachWord IsGood (before ++ word) → ⊥
 
 -- the words of the text up to `from` are followed by the word, which begins at `at`
 pub record IsNextWord (bytes : List ℕ) (from at : ℕ) (word : List ℕ) : Type 0 where

@@ -1,8 +1,7 @@
-ghost use Rattle.std.specs.Prelude.{◌≡◌, ◌↔◌, ℕ, ◌≤◌, List, length, take, map, IfOk, IfErr, OnOk, OnErr, IfSome, IfNone, IsTrue};
-ghost use Rattle.std.specs.List.{AllByRecursion};
+ghost use Rattle.std.specs.Prelude.{◌≡◌, ℕ, List, map, IfOk, IfErr, OnOk, OnErr, IfSome, IfNone};
 ghost use Rattle.pms_names.specs.Flags.{has};
 ghost use Rattle.use_flags.specs.Changes.{change_of, IsChange, changed, has_after};
-ghost use Rattle.use_flags.specs.Words.{words};
+ghost use Rattle.use_flags.specs.Words.{EachWord, words};
 ghost use Rattle.use_flags.specs.Faults.{FirstFault};
 ghost use Rattle.use_flags.specs.declared.fault.UseFault.TheVariants.{Memory};
 
@@ -25,8 +24,8 @@ pub enum Change {
 /// Reads a text of changes, such as the value of USE.
 pub fn changes(alloc: Global, text: &str) -> Result<Vec<Change>, UseFault>
     ensures found { IfOk result (λ v. v.items ≡ map change_of (words text.now)) }
-    ensures changes { OnOk result (AllByRecursion IsChange (words text.now)) }
-    ensures only { AllByRecursion IsChange (words text.now) → IfErr result (λ e. e ≡ Memory) }
+    ensures changes { OnOk result (EachWord IsChange text.now) }
+    ensures only { EachWord IsChange text.now → IfErr result (λ e. e ≡ Memory) }
     ensures fault { IfErr result (FirstFault IsChange text.now) }
 {
     let bytes = text.as_bytes();
@@ -62,14 +61,16 @@ fn read_change(alloc: Global, word: &[u8]) -> Result<Option<Change>, AllocError>
     }
 }
 
-/// Applies the changes in their order. Where memory runs out, some first changes are applied.
+/// Applies the changes in their order. Where memory runs out, the flags stay as they are.
 pub fn apply(flags: &mut Flags, changes: &[Change]) -> Result<(), AllocError>
     ensures ok { OnOk result ((q : List ℕ) → has flags.new q ≡ has_after changes.now q (has flags.old q)) }
-    ensures err { OnErr result ((n : ℕ) × (n ≤ length changes.now) × ((q : List ℕ) → has flags.new q ≡ has_after (take n changes.now) q (has flags.old q))) }
+    ensures err { OnErr result (flags.new ≡ flags.old) }
 {
+    let mut changed = flags.try_clone()?;
     for change in changes {
-        apply_one(flags, change)?;
+        apply_one(&mut changed, change)?;
     }
+    *flags = changed;
     Ok(())
 }
 

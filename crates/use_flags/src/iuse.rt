@@ -1,9 +1,8 @@
 ghost use Rattle.std.specs.Prelude.{◌≡◌, ◌↔◌, ℕ, List, ◌||◌, bytes_eq, IfOk, IfErr, OnOk, IsTrue, if◌then◌else◌};
 ghost use Rattle.std.specs.Bool.{OnTrue};
-ghost use Rattle.std.specs.List.{AllByRecursion};
 ghost use Rattle.pms_names.specs.Flags.{has};
 ghost use Rattle.use_flags.specs.Items.{flag_of, is_on, IsItem, names_flag, last_is_on};
-ghost use Rattle.use_flags.specs.Words.{words};
+ghost use Rattle.use_flags.specs.Words.{EachWord, words};
 ghost use Rattle.use_flags.specs.Faults.{FirstFault};
 ghost use Rattle.use_flags.specs.declared.fault.UseFault.TheVariants.{Memory};
 
@@ -24,8 +23,8 @@ impl Iuse {
     pub fn parse(alloc: Global, text: &str) -> Result<Iuse, UseFault>
         ensures flags { IfOk result (λ iuse. (q : List ℕ) → has iuse.flags q ≡ names_flag (words text.now) q) }
         ensures on { IfOk result (λ iuse. (q : List ℕ) → has iuse.on q ≡ last_is_on (words text.now) q) }
-        ensures items { OnOk result (AllByRecursion IsItem (words text.now)) }
-        ensures only { AllByRecursion IsItem (words text.now) → IfErr result (λ e. e ≡ Memory) }
+        ensures items { OnOk result (EachWord IsItem text.now) }
+        ensures only { EachWord IsItem text.now → IfErr result (λ e. e ≡ Memory) }
         ensures fault { IfErr result (FirstFault IsItem text.now) }
     {
         let bytes = text.as_bytes();

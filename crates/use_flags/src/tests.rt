@@ -49,7 +49,7 @@ fn changes_of_a_set(rt: HostRuntime) -> Result<(), Fail> {
     );
     let mut flags = Flags::new(alloc);
     apply(&mut flags, list.as_slice())?;
-    assert!(rt; flags.list().len() == 1);
+    assert!(rt; flags.len() == 1);
     assert!(rt; matches!(is_among(alloc, &flags, "b"), Ok(true)));
     Ok(())
 }

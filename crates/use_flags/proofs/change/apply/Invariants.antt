@@ -4,4 +4,4 @@ use Rattle.use_flags.specs.Changes.{has_after}
 use Rattle.use_flags.proofs.change.apply.Given as goal
 
 abbrev pub invariant-loop-change : goal.invariant-loop-change
-invariant-loop-change l = (q : List ℕ) → has l.flags q ≡ has_after (take l.change-index l.changes) q (has l.initial.flags q)
+invariant-loop-change l = (q : List ℕ) → has l.changed q ≡ has_after (take l.change-index l.changes) q (has l.initial.flags q)

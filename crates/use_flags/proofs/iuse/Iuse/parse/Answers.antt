@@ -1,7 +1,7 @@
-use Rattle.std.proofs.Common.{◌≡◌, true, inr, sym, ap, take, ◌∙◌, ◌||◌, cond, bytes_eq}
+use Rattle.std.proofs.Common.{◌≡◌, true, subst, inr, sym, ap, take, ◌∙◌, ◌||◌, cond, bytes_eq}
 use Rattle.std.proofs.lemmas.Bool.{both_ways, OnTrue_at}
 use Rattle.use_flags.specs.Items.{flag_of, is_on, IsItem}
-use Rattle.use_flags.specs.Words.{words}
+use Rattle.use_flags.specs.Words.{IsFirstBad, words}
 use Rattle.use_flags.proofs.Cuts.{no_bad_word, all_good-more}
 use Rattle.use_flags.proofs.More.{names_flag-more, last_is_on-more}
 use Rattle.use_flags.proofs.Next.{first_bad}
@@ -13,6 +13,12 @@ returns-then-not-branch-clause-only c =
     let bytes = c.as_bytes-bytes.result.now in
     let bad : IsItem c.in-Some.word.bytes.now → ⊥ = λ item. both_ways _ c.if-not-branch.true (c.in_ok-add_item.ensures.item.1 item) in
     absurd (no_bad_word IsItem bytes c.in-Some.word.at (rw c.as_bytes-bytes.ensures.value all) (first_bad IsItem bytes c.loop-word.from c.in-Some.word.at c.in-Some.word.bytes.now c.in-Some.ensures c.loop-word.invariant.items bad))
+
+pub returns-then-not-branch-clause-fault : goal.returns-then-not-branch-clause-fault
+returns-then-not-branch-clause-fault c =
+    let bytes = c.as_bytes-bytes.result.now in
+    let bad : IsItem c.in-Some.word.bytes.now → ⊥ = λ item. both_ways _ c.if-not-branch.true (c.in_ok-add_item.ensures.item.1 item) in
+    subst (λ b. IsFirstBad IsItem b c.in-Some.word.at) c.as_bytes-bytes.ensures.value (first_bad IsItem bytes c.loop-word.from c.in-Some.word.at c.in-Some.word.bytes.now c.in-Some.ensures c.loop-word.invariant.items bad)
 
 pub loop-word-preserved : goal.loop-word-preserved
 loop-word-preserved c =
