@@ -1,8 +1,18 @@
 //! What every crate of the workspace wants: a text with equality and order, tests on bytes, and
 //! membership in a list by recursion.
 //!
-//! It promises that a [`Text`] is the bytes that it was made from, equal and ordered as they are.
-//! It stands on std alone.
+//! **A contract sees** a [`Text`] as its bytes, `text.now`; membership, distinct lists and lists
+//! that say the same are words of `specs/Members.antt`.
+//!
+//! **Proved**: a text is the bytes that it was made from, equal and ordered as they are; each test
+//! on a byte is that of its set.
+//!
+//! **Only tested**: with ample memory a text is made.
+//!
+//! ```
+//! let text = Text::new(alloc, "usr")?;
+//! assert!(text.as_str() == "usr");
+//! ```
 #![tactic(auto)]
 
 mod bytes;

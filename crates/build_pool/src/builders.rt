@@ -34,9 +34,11 @@ pub trait Builder: Drop {
     /// The image of the order started last.
     ghost image: { Self → List Entry };
 
+    /// The number that tells this builder from the others of a pool.
     fn id(&self) -> u32
         ensures { result ≡ number self.now };
 
+    /// How often it failed.
     fn fault_count(&self) -> u64
         ensures { result ≡ faults self.now };
 

@@ -1,8 +1,20 @@
 //! The builders of a run, and the pool that lends them.
 //!
-//! It promises of a [`Builder`] that its image for an order is the one that it tells, and of a
-//! [`BuildPool`] that the builders at rest and lent are, each once, those handed in, and that the
-//! count of faults is the sum over all of them. It stands on `dep_atom` and `file_tree`.
+//! **A contract sees** a [`Builder`] by its number, its count of faults and the image that it
+//! tells for each order; a [`BuildPool`] as the builders at rest and, of each that is lent, its
+//! number and how often it had failed.
+//!
+//! **Proved**: the builders at rest and lent are, each once, those handed in; the count of faults
+//! is the sum over all of them; a builder that is lent was at rest. What a builder answers is a
+//! promise that whoever implements [`Builder`] proves.
+//!
+//! **Only tested**: with ample memory a pool is made.
+//!
+//! ```
+//! let mut pool = BuildPool::new(alloc, builders)?;
+//! let Some(builder) = pool.lend() else { return Ok(()) };
+//! pool.take_back(builder);
+//! ```
 #![tactic(auto)]
 
 mod builders;

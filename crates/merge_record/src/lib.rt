@@ -1,8 +1,19 @@
 //! The journal's record: what one group removes and places, and the names of its files.
 //!
-//! It promises that a record has one spelling, that whatever is read is spelled so, and which fault
-//! a text that spells none has first. It stands on `file_tree`, and on `byteorder`, `hex` and `md5`
-//! for the bytes.
+//! **A contract sees** a [`Record`] as its group, its removals and its placements, each of these a
+//! path, a kind, a length and a digest; the open gates and what recovery makes of a map are words
+//! of `specs/`.
+//!
+//! **Proved**: a record has one spelling, whatever is read is spelled so, and the fault of any
+//! other text is the first; a group is judged in form exactly where the definition says so; the
+//! recovered tree is one map.
+//!
+//! **Only tested**: digests, by those of RFC 1321, and that with ample memory each call answers.
+//!
+//! ```
+//! let bytes = encode(alloc, &record)?;
+//! let same = decode(alloc, &bytes)?;
+//! ```
 #![tactic(auto)]
 
 mod digest;

@@ -1,8 +1,15 @@
-//! A small tree and a builder in memory: what the built-in run of the program works on, and what the
-//! tests of whole runs begin with; and such runs.
+//! A small tree and a builder in memory: what the built-in run of the program works on, and what
+//! the tests of whole runs begin with; and such runs.
 //!
-//! It promises of an [`ImageBuilder`] that it tells its image and answers it. It stands on
-//! `build_pool`, `emerge_run`, `file_tree` and `tree_mem`.
+//! **A contract sees** an [`ImageBuilder`] by its number, its faults and its image.
+//!
+//! **Proved**: the builder tells its image and answers it.
+//!
+//! **Only tested**: the runs themselves.
+//!
+//! ```
+//! let run = run_on(alloc, "=c/p-1", sample_tree(alloc)?, sample_image(alloc)?)?;
+//! ```
 #![tactic(auto)]
 
 #[cfg(test)]

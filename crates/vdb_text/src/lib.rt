@@ -1,10 +1,19 @@
 //! The database of installed packages, in the one form that is there so far: the record of one
 //! package with one plain file.
 //!
-//! It promises that the files of a package's record are exactly those of the format, below the
-//! database's folder and each at its own path, and that a database is read as one package exactly
-//! where just that package's record stands in it, which is so of one package at most. It stands on
-//! `dep_atom`, `slot_value`, `file_tree` and `merge_record`.
+//! **A contract sees** a package's record as the files below `var/db/pkg`, and a database as a map
+//! in which just one such record stands.
+//!
+//! **Proved**: the files of a package's record are exactly those of the format, below the
+//! database's folder and each at its own path; a database is read as one package exactly where
+//! just that package's record stands in it, which is so of one package at most.
+//!
+//! **Only tested**: the files of a record with a known digest, and that with ample memory each is
+//! read.
+//!
+//! ```
+//! let database = read_database(alloc, &mut tree)?;
+//! ```
 #![tactic(auto)]
 
 mod contents;

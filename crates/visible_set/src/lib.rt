@@ -1,8 +1,17 @@
 //! The candidates of a name in the repository, and the one that an atom chooses.
 //!
-//! It promises that the candidates are read exactly where each of their cache entries is in the one
-//! form that is read so far, that they come in their order, and that an atom chooses the first that
-//! it matches. It stands on `dep_atom`, `slot_value` and `file_tree`.
+//! **A contract sees** the cache as the paths of a map, and an offer as a package with its slot
+//! and its flags.
+//!
+//! **Proved**: the candidates are read exactly where each of their cache entries is in the one
+//! form that is read so far; they come in their order; an atom chooses the first that it matches.
+//!
+//! **Only tested**: that with ample memory they are read.
+//!
+//! ```
+//! let offers = candidates(alloc, &mut tree, &atom.name)?;
+//! let chosen = choose(alloc, &atom, offers);
+//! ```
 #![tactic(auto)]
 
 mod choosing;
