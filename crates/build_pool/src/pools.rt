@@ -60,11 +60,9 @@ impl<B: Builder> BuildPool<B> {
 
     /// One of the builders at rest, if there is one.
     pub fn lend(&mut self) -> Option<B>
-        ensures some {
-            IfSome result (λ b. (self.old.resting ≡ self.new.resting ++ b ∷ []) ×
-                (self.new.lent ≡ self.old.lent ++
-                    record { number = B.number b; faults = B.faults b } ∷ []))
-        }
+        ensures some { IfSome result (λ b. (self.old.resting ≡ self.new.resting ++ b ∷ []) ×
+            (self.new.lent ≡ self.old.lent ++
+            record { number = B.number b; faults = B.faults b } ∷ [])) }
         ensures none { IsNone result ↔ (self.old.resting ≡ []) }
         ensures none_same { IsNone result → self.new ≡ self.old }
         ensures other { IfSome result (λ b. All (λ a. a.number ≡ B.number b → ⊥) self.old.lent) }
@@ -83,17 +81,13 @@ impl<B: Builder> BuildPool<B> {
     /// Takes a builder back that was lent; from now on it counts with what it has.
     pub fn take_back(&mut self, builder: B)
         requires lent { Any (λ a. a.number ≡ B.number builder) self.old.lent }
-        requires count {
-            All (λ a. a.number ≡ B.number builder → a.faults ≤ B.faults builder) self.old.lent
-        }
+        requires count { All (λ a. a.number ≡ B.number builder → a.faults ≤ B.faults builder) self.old.lent }
         ensures resting { self.new.resting ≡ self.old.resting ++ builder ∷ [] }
         ensures lent { LeavesOne (B.number builder) self.old.lent self.new.lent }
         ensures ids { SameIds B.number self.old self.new }
         ensures faults { faults_of B.faults self.old ≤ faults_of B.faults self.new }
-        ensures rose {
-            All (λ a. a.number ≡ B.number builder → a.faults < B.faults builder) self.old.lent →
-            faults_of B.faults self.old < faults_of B.faults self.new
-        }
+        ensures rose { All (λ a. a.number ≡ B.number builder → a.faults < B.faults builder) self.old.lent →
+            faults_of B.faults self.old < faults_of B.faults self.new }
     {
         take_out(&mut self.lent, builder.id());
         add(&mut self.resting, builder);

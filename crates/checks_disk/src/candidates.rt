@@ -1,10 +1,10 @@
-use visible_set::*;
 use dep_atom::{Atom, Facts};
 use file_tree::{Kind, Object, Path};
 use pms_names::{Category, Name, PackageName};
 use std::alloc::{AllocError, Global};
 use std::test::Fail;
 use tree_mem::MemTree;
+use visible_set::*;
 
 fn file(alloc: Global, tail: &str, kind: Kind, text: &str) -> Result<(Path, Object), Fail> {
     let path = format!(in alloc; "var/db/repos/gentoo/metadata/md5-cache/{tail}")?;

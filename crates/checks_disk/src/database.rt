@@ -38,8 +38,7 @@ fn lines(alloc: Global, files: &[Entry]) -> Result<String, AllocError> {
 #[test]
 fn the_files_of_a_record(rt: HostRuntime) -> Result<(), Fail> {
     // The digest of `abc` is one of RFC 1321's.
-    let wanted =
-        "var/db/pkg/c/p-1/CONTENTS obj /usr/bin/p 900150983cd24fb0d6963f7d28e17f72 0
+    let wanted = "var/db/pkg/c/p-1/CONTENTS obj /usr/bin/p 900150983cd24fb0d6963f7d28e17f72 0
 var/db/pkg/c/p-1/EAPI 8
 var/db/pkg/c/p-1/SLOT 0/2
 ";

@@ -1,8 +1,8 @@
-use tree_mem::{ImageFault, MemFault, MemSink, MemTree};
 use file_tree::{Failed, Kind, Look, Object, Path, Sink, Tree};
 use std::alloc::Global;
 use std::process::Abort;
 use std::test::Fail;
+use tree_mem::{ImageFault, MemFault, MemSink, MemTree};
 
 fn path(alloc: Global, text: &str) -> Result<Path, Fail> {
     Ok(Path::parse(alloc, text)?)

@@ -1,5 +1,5 @@
-use merge_record::*;
 use file_tree::{Kind, Path};
+use merge_record::*;
 use std::alloc::{AllocError, Global};
 use std::test::Fail;
 

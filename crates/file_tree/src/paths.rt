@@ -77,10 +77,8 @@ impl Path {
 
 /// The first fault of a text, if it is no path. Want of memory is none.
 fn first_fault(bytes: &[u8]) -> Option<PathFault>
-    ensures {
-        MatchOption result (is_path bytes.now ≡ true)
-            (λ f. (is_path bytes.now ≡ false) × FirstFault bytes.now f)
-    }
+    ensures { MatchOption result (is_path bytes.now ≡ true)
+        (λ f. (is_path bytes.now ≡ false) × FirstFault bytes.now f) }
 {
     if bytes.is_empty() {
         return Some(PathFault::Empty);
@@ -94,10 +92,8 @@ fn first_fault(bytes: &[u8]) -> Option<PathFault>
 fn first_bad_place(bytes: &[u8]) -> Option<PathFault>
     requires some { 1 ≤ length bytes.now }
     requires short { length bytes.now ≤ 4095 }
-    ensures {
-        MatchOption result (is_path bytes.now ≡ true)
-            (λ f. (is_path bytes.now ≡ false) × FirstFault bytes.now f)
-    }
+    ensures { MatchOption result (is_path bytes.now ≡ true)
+        (λ f. (is_path bytes.now ≡ false) × FirstFault bytes.now f) }
 {
     for at in 0..bytes.len() {
         if let Some(fault) = fault_at(bytes, at) {

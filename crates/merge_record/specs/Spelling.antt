@@ -62,4 +62,4 @@ abbrev pub PassesLimit : Content → Type 0
 PassesLimit r =
     (MOST_RECORD_BYTES < length (spelling r)) ⊎
     ((MOST_GROUP_PATHS < length r.removals + length r.placements) ⊎
-        Any (λ p. MOST_FILE_BYTES < p.length) r.placements)
+    Any (λ p. MOST_FILE_BYTES < p.length) r.placements)

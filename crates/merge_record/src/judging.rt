@@ -34,15 +34,11 @@ fn record_from(alloc: Global, group: u32, bytes: &[u8]) -> Result<Record, JudgeF
 /// The record of a group, whatever object it is.
 #[tactic(auto, unfolding(crate::specs::Judging::record_read, crate::specs::Judging::record_in))]
 fn read_record<T: Tree>(alloc: Global, tree: &mut T, group: u32) -> Result<Record, JudgeFault>
-    ensures answer {
-        IsTrue T.tells → Agrees (λ r. r) result
-            (record_read group (record_in ((T.story tree.old).now.holds (record_path group))))
-    }
+    ensures answer { IsTrue T.tells → Agrees (λ r. r) result
+        (record_read group (record_in ((T.story tree.old).now.holds (record_path group)))) }
     ensures few { IfOk result (λ r. length r.placements < 2 ^ 32) }
     ensures same { IsTrue T.tells → T.story tree.new ≡ T.story tree.old }
-    ensures faults {
-        CountsFault (IsErrOf result JudgeFault.Failed) (T.faults tree.old) (T.faults tree.new)
-    }
+    ensures faults { CountsFault (IsErrOf result JudgeFault.Failed) (T.faults tree.old) (T.faults tree.new) }
 {
     let path = record_path(alloc, group)?;
     match tree.read(&path)? {
@@ -94,10 +90,8 @@ fn take_placements(
 ) -> Result<bool, AllocError>
     requires { journal.now ≡ jobs }
     ensures free { IfOk result (λ free. free ≡ are_free taken.old (map path_of placements.now)) }
-    ensures taken {
-        IfOk result (λ free.
-            OnTrue free (HasSame taken.new (map path_of placements.now ++ taken.old)))
-    }
+    ensures taken { IfOk result (λ free.
+        OnTrue free (HasSame taken.new (map path_of placements.now ++ taken.old))) }
 {
     for placement in placements {
         if !take_free(alloc, journal, &placement.path, taken)? {
@@ -147,14 +141,10 @@ fn judge_stage<T: Tree>(
     index: u32,
     placement: &Placement,
 ) -> Result<(), JudgeFault>
-    ensures answer {
-        IsTrue T.tells → Agrees (λ _. tt) result
-            (stages_judged (T.story tree.old).now.holds group index (placement.now ∷ []))
-    }
+    ensures answer { IsTrue T.tells → Agrees (λ _. tt) result
+        (stages_judged (T.story tree.old).now.holds group index (placement.now ∷ [])) }
     ensures same { IsTrue T.tells → T.story tree.new ≡ T.story tree.old }
-    ensures faults {
-        CountsFault (IsErrOf result JudgeFault.Failed) (T.faults tree.old) (T.faults tree.new)
-    }
+    ensures faults { CountsFault (IsErrOf result JudgeFault.Failed) (T.faults tree.old) (T.faults tree.new) }
 {
     let path = stage_path(alloc, group, index)?;
     match tree.read(&path)? {
@@ -170,14 +160,10 @@ fn judge_stages<T: Tree>(
     placements: &[Placement],
 ) -> Result<(), JudgeFault>
     requires { length placements.now < 2 ^ 32 }
-    ensures answer {
-        IsTrue T.tells → Agrees (λ _. tt) result
-            (stages_judged (T.story tree.old).now.holds group 0 placements.now)
-    }
+    ensures answer { IsTrue T.tells → Agrees (λ _. tt) result
+        (stages_judged (T.story tree.old).now.holds group 0 placements.now) }
     ensures same { IsTrue T.tells → T.story tree.new ≡ T.story tree.old }
-    ensures faults {
-        CountsFault (IsErrOf result JudgeFault.Failed) (T.faults tree.old) (T.faults tree.new)
-    }
+    ensures faults { CountsFault (IsErrOf result JudgeFault.Failed) (T.faults tree.old) (T.faults tree.new) }
 {
     for index in 0..placements.len() {
         judge_stage(alloc, tree, group, index as u32, &placements[index])?;
@@ -193,17 +179,13 @@ pub fn judge<T: Tree>(
     group: u32,
     taken: &mut TakenPaths,
 ) -> Result<Record, JudgeFault>
-    ensures answer {
-        IsTrue T.tells → Agrees (λ r. r) result
-            (judged (T.story tree.old).now.holds taken.old group)
-    }
+    ensures answer { IsTrue T.tells → Agrees (λ r. r) result
+        (judged (T.story tree.old).now.holds taken.old group) }
     ensures taken { IfOk result (λ r. HasSame taken.new (footprint r ++ taken.old)) }
     ensures free { IfOk result (λ r. are_free taken.old (footprint r) ≡ true) }
     ensures few { IfOk result (λ r. length r.placements < 2 ^ 32) }
     ensures same { IsTrue T.tells → T.story tree.new ≡ T.story tree.old }
-    ensures faults {
-        CountsFault (IsErrOf result JudgeFault.Failed) (T.faults tree.old) (T.faults tree.new)
-    }
+    ensures faults { CountsFault (IsErrOf result JudgeFault.Failed) (T.faults tree.old) (T.faults tree.new) }
 {
     let value = read_record(alloc, tree, group)?;
     take_footprint(alloc, group, &value, taken)?;
@@ -217,14 +199,10 @@ pub fn judge_all<T: Tree>(
     tree: &mut T,
     groups: &[u32],
 ) -> Result<Vec<Record>, JudgeFault>
-    ensures answer {
-        IsTrue T.tells → Agrees (λ v. v.items) result
-            (judged_all (T.story tree.old).now.holds [] groups.now)
-    }
+    ensures answer { IsTrue T.tells → Agrees (λ v. v.items) result
+        (judged_all (T.story tree.old).now.holds [] groups.now) }
     ensures same { IsTrue T.tells → T.story tree.new ≡ T.story tree.old }
-    ensures faults {
-        CountsFault (IsErrOf result JudgeFault.Failed) (T.faults tree.old) (T.faults tree.new)
-    }
+    ensures faults { CountsFault (IsErrOf result JudgeFault.Failed) (T.faults tree.old) (T.faults tree.new) }
 {
     let mut taken = TakenPaths::new(alloc);
     let mut records = Vec::new(alloc);

@@ -81,11 +81,9 @@ fn number_in(text: &[u8]) -> Option<u32>
 
 /// The group whose gate the path is, if it is one.
 pub fn group_of_gate(alloc: Global, path: &Path) -> Result<Option<u32>, AllocError>
-    ensures {
-        IfOk result (λ found.
-            MatchOption found ((g : ℕ) → g < 2 ^ 32 → path.now ≡ gate_path g → ⊥)
-                (λ g. (g < 2 ^ 32) × (path.now ≡ gate_path g)))
-    }
+    ensures { IfOk result (λ found.
+        MatchOption found ((g : ℕ) → g < 2 ^ 32 → path.now ≡ gate_path g → ⊥)
+        (λ g. (g < 2 ^ 32) × (path.now ≡ gate_path g))) }
 {
     let text = path.text().as_bytes();
     if text.len() < 29 {
@@ -125,10 +123,8 @@ pub fn stage_path(alloc: Global, group: u32, index: u32) -> Result<Path, AllocEr
 
 /// The files of the journal: no two have one path, each has one, and it is below the folder of all groups.
 pub fn names_differ()
-    ensures apart {
-        (g h : ℕ) (p q : Part) → g < 2 ^ 32 → h < 2 ^ 32 → IsPart p → IsPart q →
-        part_path g p ≡ part_path h q → (g ≡ h) × (p ≡ q)
-    }
+    ensures apart { (g h : ℕ) (p q : Part) → g < 2 ^ 32 → h < 2 ^ 32 → IsPart p → IsPart q →
+        part_path g p ≡ part_path h q → (g ≡ h) × (p ≡ q) }
     ensures paths { (g : ℕ) (p : Part) → is_path (part_path g p) ≡ true }
     ensures below { (g : ℕ) (p : Part) → is_below jobs (part_path g p) ≡ true }
 {}

@@ -199,9 +199,7 @@ fn placements_of(
     count: u32,
     bytes: &[u8],
 ) -> Result<(Vec<Placement>, &[u8]), RecordFault>
-    ensures {
-        Gives (λ x. (x.0.items, x.1.now)) result (many_at (placement_at size) count bytes.now)
-    }
+    ensures { Gives (λ x. (x.0.items, x.1.now)) result (many_at (placement_at size) count bytes.now) }
 {
     let mut placements = Vec::new(alloc);
     let mut rest = bytes;
@@ -228,9 +226,7 @@ fn placed_of(
     before: usize,
     bytes: &[u8],
 ) -> Result<(Vec<Placement>, &[u8]), RecordFault>
-    ensures {
-        Gives (λ x. (x.0.items, x.1.now)) result (counted_at before (placement_at size) bytes.now)
-    }
+    ensures { Gives (λ x. (x.0.items, x.1.now)) result (counted_at before (placement_at size) bytes.now) }
 {
     let (count, rest) = count_of(before, bytes)?;
     placements_of(alloc, size, count, rest)

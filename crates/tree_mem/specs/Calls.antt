@@ -17,8 +17,12 @@ one_more n = min (n + 1) (2 ^ 64 - 1)
 -- the counts after one more call, by whether it failed and whether a growth was refused
 abbrev pub counted : Bool → Bool → Counts → Counts
 counted failed refused c =
-    record { calls = one_more c.calls; faults = cond failed
-        (one_more c.faults) c.faults; refused = cond refused (one_more c.refused) c.refused }
+    record {
+      calls = one_more c.calls;
+      faults = cond failed
+          (one_more c.faults) c.faults;
+      refused = cond refused (one_more c.refused) c.refused;
+    }
 
 -- calls from this one on
 abbrev pub is_from : Option ℕ → ℕ → Bool

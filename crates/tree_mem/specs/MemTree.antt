@@ -50,7 +50,7 @@ CountsCall failed old new =
 abbrev pub FailsAt : MemTree → List ℕ → MemTree → Type 0
 FailsAt old p new =
     (IsTrue (next_fails old) × (mem_counts new ≡ counted true false (mem_counts old)) ×
-        (mem_story new ≡ with_touch (mem_story old) p)) ⊎
+    (mem_story new ≡ with_touch (mem_story old) p)) ⊎
     ((mem_counts new ≡ counted true true (mem_counts old)) × (mem_story new ≡ mem_story old))
 
 -- the failure of a call that touches the path and nothing else

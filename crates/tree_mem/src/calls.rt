@@ -43,9 +43,7 @@ impl Calls {
 
     /// The call of this number is to fail.
     pub fn fail_at(&mut self, call: u64) -> Result<(), AllocError>
-        ensures ok {
-            OnOk result ((n : ℕ) → call_fails self.new n ≡ (n == call) || call_fails self.old n)
-        }
+        ensures ok { OnOk result ((n : ℕ) → call_fails self.new n ≡ (n == call) || call_fails self.old n) }
         ensures err { OnErr result ((n : ℕ) → call_fails self.new n ≡ call_fails self.old n) }
         ensures counts { counts_of self.new ≡ counts_of self.old }
     {
@@ -88,10 +86,8 @@ impl Calls {
 
     /// The call failed for a refused growth.
     pub fn refuse(&mut self)
-        ensures counts {
-            self.new ≡ record self.old
-                { faults = one_more self.old.faults; refused = one_more self.old.refused }
-        }
+        ensures counts { self.new ≡ record self.old
+            { faults = one_more self.old.faults; refused = one_more self.old.refused } }
         ensures grows { self.old.faults ≤ self.new.faults }
         ensures rose { Rose self.old.faults self.new.faults }
     {

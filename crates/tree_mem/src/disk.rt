@@ -67,10 +67,8 @@ impl MemDisk {
 
     /// The disk after a crash that grants the choice: no path is touched, and it has no past.
     pub fn image(&self, choice: &[(Path, Option<Object>)]) -> Result<MemDisk, ImageFault>
-        ensures story {
-            IfOk result (λ d. disk_story d ≡
-                new_story (chosen choice.now (disk_story self.now).now.holds))
-        }
+        ensures story { IfOk result (λ d. disk_story d ≡
+            new_story (chosen choice.now (disk_story self.now).now.holds)) }
         ensures touched { OnOk result (AllTouched (disk_story self.now).now.touched choice.now) }
         ensures fault { IfErr result (IsImageFault (disk_story self.now).now.touched choice.now) }
     {
@@ -97,9 +95,7 @@ impl MemDisk {
 
     /// The paths below this one that hold something, in byte order.
     pub fn list(&self, below: &Path) -> Result<Vec<Path>, AllocError>
-        ensures answer {
-            IfOk result (λ v. Lists (disk_story self.now).now.holds below.now v.items)
-        }
+        ensures answer { IfOk result (λ v. Lists (disk_story self.now).now.holds below.now v.items) }
         ensures rising { IfOk result (λ v. IsStrictlySortedBy (slice_cmp nat_cmp) v.items) }
     {
         items::list(self.alloc, self.objects.as_slice(), below)
@@ -107,10 +103,8 @@ impl MemDisk {
 
     /// Makes `to` hold a copy of what `from` holds, and touches it.
     pub fn copy(&mut self, from: &Path, to: &Path) -> Result<(), AllocError>
-        ensures ok {
-            OnOk result (disk_story self.new ≡
-                with_write (disk_story self.old) to.now ((disk_story self.old).now.holds from.now))
-        }
+        ensures ok { OnOk result (disk_story self.new ≡
+            with_write (disk_story self.old) to.now ((disk_story self.old).now.holds from.now)) }
         ensures err { OnErr result (disk_story self.new ≡ disk_story self.old) }
     {
         match self.read(from)? {
@@ -121,10 +115,8 @@ impl MemDisk {
 
     /// Makes the path hold the object, and touches it.
     pub fn store(&mut self, path: &Path, object: Object) -> Result<(), AllocError>
-        ensures ok {
-            OnOk result (disk_story self.new ≡
-                with_write (disk_story self.old) path.now (Some object))
-        }
+        ensures ok { OnOk result (disk_story self.new ≡
+            with_write (disk_story self.old) path.now (Some object)) }
         ensures err { OnErr result (disk_story self.new ≡ disk_story self.old) }
     {
         self.changes.reserve(1)?;
@@ -144,9 +136,7 @@ impl MemDisk {
 
     /// Makes the path hold nothing, and touches it.
     pub fn clear(&mut self, path: &Path) -> Result<(), AllocError>
-        ensures ok {
-            OnOk result (disk_story self.new ≡ with_write (disk_story self.old) path.now None)
-        }
+        ensures ok { OnOk result (disk_story self.new ≡ with_write (disk_story self.old) path.now None) }
         ensures err { OnErr result (disk_story self.new ≡ disk_story self.old) }
     {
         self.changes.reserve(1)?;

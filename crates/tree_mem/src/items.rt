@@ -17,9 +17,7 @@ use std::mem;
 /// The place of the item with this path, or the place where it belongs.
 pub fn find(items: &[(Path, Object)], text: &str) -> Result<usize, usize>
     requires rising { IsRising items.now }
-    ensures {
-        MatchResult result (λ i. StandsAt items.now text.now i) (λ i. GoesAt items.now text.now i)
-    }
+    ensures { MatchResult result (λ i. StandsAt items.now text.now i) (λ i. GoesAt items.now text.now i) }
 {
     let mut low = 0;
     let mut high = items.len();
@@ -120,10 +118,8 @@ fn begins(path: &Path, text: &str) -> bool
 /// Whether the first item that doesn't come before the text begins with it.
 fn has_under(items: &[(Path, Object)], text: &str) -> bool
     requires rising { IsRising items.now }
-    ensures {
-        IsTrue result ↔ ((q : List ℕ) × (starts_with nat_eq q text.now ≡ true) ×
-            IsSome (held items.now q))
-    }
+    ensures { IsTrue result ↔ ((q : List ℕ) × (starts_with nat_eq q text.now ≡ true) ×
+        IsSome (held items.now q)) }
 {
     let at = start(items, text);
     at < items.len() && begins(&items[at].0, text)

@@ -31,16 +31,12 @@ impl MemTree {
 
     /// A tree that holds these objects. Nothing is touched, no call was made, and none is to fail.
     pub fn new(alloc: Global, objects: Vec<(Path, Object)>) -> Result<MemTree, MemFault>
-        ensures held {
-            IfOk result (λ t. (p : List ℕ) (x : Thing) →
-                Contains objects.items (p, x) ↔ (mem_holds t p ≡ Some x))
-        }
+        ensures held { IfOk result (λ t. (p : List ℕ) (x : Thing) →
+            Contains objects.items (p, x) ↔ (mem_holds t p ≡ Some x)) }
         ensures distinct { IfOk result (λ t. AreDistinct (paths objects.items)) }
         ensures untouched { IfOk result (λ t. IsUntouched (mem_story t).now) }
         ensures past { IfOk result (λ t. (mem_story t).past ≡ []) }
-        ensures counts {
-            IfOk result (λ t. mem_counts t ≡ record { calls = 0; faults = 0; refused = 0 })
-        }
+        ensures counts { IfOk result (λ t. mem_counts t ≡ record { calls = 0; faults = 0; refused = 0 }) }
         ensures fails { IfOk result (λ t. (n : ℕ) → mem_fails t n ≡ false) }
         ensures fault { IfErr result (IsMemFault (paths objects.items)) }
     {
@@ -53,9 +49,7 @@ impl MemTree {
 
     /// Makes the call of this number, counted from 1, fail.
     pub fn fail_at(&mut self, call: u64) -> Result<(), AllocError>
-        ensures ok {
-            OnOk result ((n : ℕ) → mem_fails self.new n ≡ (n == call) || mem_fails self.old n)
-        }
+        ensures ok { OnOk result ((n : ℕ) → mem_fails self.new n ≡ (n == call) || mem_fails self.old n) }
         ensures err { OnErr result (SameFailures self.old self.new) }
         ensures story { mem_story self.new ≡ mem_story self.old }
         ensures counts { mem_counts self.new ≡ mem_counts self.old }
@@ -89,9 +83,7 @@ impl MemTree {
     /// All objects, in byte order of their paths.
     pub fn objects(&self) -> &[(Path, Object)]
         ensures rising { IsStrictlySortedBy (slice_cmp nat_cmp) (paths result.now) }
-        ensures held {
-            (p : List ℕ) (x : Thing) → Contains result.now (p, x) ↔ (mem_holds self.now p ≡ Some x)
-        }
+        ensures held { (p : List ℕ) (x : Thing) → Contains result.now (p, x) ↔ (mem_holds self.now p ≡ Some x) }
     {
         self.disk.objects()
     }
@@ -105,9 +97,7 @@ impl MemTree {
         ensures touched { OnOk result (AllTouched (mem_story self.now).now.touched choice.now) }
         ensures untouched { IfOk result (λ t. IsUntouched (mem_story t).now) }
         ensures past { IfOk result (λ t. (mem_story t).past ≡ []) }
-        ensures counts {
-            IfOk result (λ t. mem_counts t ≡ record { calls = 0; faults = 0; refused = 0 })
-        }
+        ensures counts { IfOk result (λ t. mem_counts t ≡ record { calls = 0; faults = 0; refused = 0 }) }
         ensures fails { IfOk result (λ t. (n : ℕ) → mem_fails t n ≡ false) }
         ensures fault { IfErr result (IsImageFault (mem_story self.now).now.touched choice.now) }
     {
@@ -175,10 +165,8 @@ impl Tree for MemTree {
         ensures listed { IsTrue (next_fails self.old) → IsErrOf result TreeFault.Failed }
         ensures counts { CountsListed self.old self.new }
         ensures plan { SameFailures self.old self.new }
-        ensures faults {
-            CountsFault (IsErrOf result TreeFault.Failed) (fault_count self.old)
-                (fault_count self.new)
-        }
+        ensures faults { CountsFault (IsErrOf result TreeFault.Failed) (fault_count self.old)
+            (fault_count self.new) }
     {
         if self.calls.begin() {
             self.calls.fail();
@@ -195,10 +183,8 @@ impl Tree for MemTree {
         ensures listed { IsTrue (next_fails self.old) → IsErrOf result TreeFault.Failed }
         ensures counts { CountsListed self.old self.new }
         ensures plan { SameFailures self.old self.new }
-        ensures faults {
-            CountsFault (IsErrOf result TreeFault.Failed) (fault_count self.old)
-                (fault_count self.new)
-        }
+        ensures faults { CountsFault (IsErrOf result TreeFault.Failed) (fault_count self.old)
+            (fault_count self.new) }
     {
         if self.calls.begin() {
             self.calls.fail();
@@ -209,20 +195,16 @@ impl Tree for MemTree {
     }
 
     fn put(&mut self, path: &Path, object: &Object) -> Result<(), TreeFault>
-        ensures ok {
-            OnOk result (mem_story self.new ≡
-                with_write (mem_story self.old) path.now (Some object.now))
-        }
+        ensures ok { OnOk result (mem_story self.new ≡
+            with_write (mem_story self.old) path.now (Some object.now)) }
         ensures moved { Moves (mem_story self.old) path.now (mem_story self.new) }
         ensures listed { IsTrue (next_fails self.old) → IsErrOf result TreeFault.Failed }
         ensures failed { IsErrOf result TreeFault.Failed → FailsAt self.old path.now self.new }
         ensures memory { IsErrOf result TreeFault.Memory → mem_story self.new ≡ mem_story self.old }
         ensures counts { (IsErrOf result TreeFault.Failed → ⊥) → CountsOk self.old self.new }
         ensures plan { SameFailures self.old self.new }
-        ensures faults {
-            CountsFault (IsErrOf result TreeFault.Failed) (fault_count self.old)
-                (fault_count self.new)
-        }
+        ensures faults { CountsFault (IsErrOf result TreeFault.Failed) (fault_count self.old)
+            (fault_count self.new) }
     {
         if self.calls.begin() {
             let failed = self.fail_touching(path);
@@ -236,10 +218,8 @@ impl Tree for MemTree {
     fn place(&mut self, from: &Path, to: &Path) -> Result<(), Failed>
         requires differ { from.now ≡ to.now → ⊥ }
         requires there { IsSome (mem_holds self.old from.now) }
-        ensures ok {
-            OnOk result (mem_story self.new ≡
-                with_write (mem_story self.old) to.now (mem_holds self.old from.now))
-        }
+        ensures ok { OnOk result (mem_story self.new ≡
+            with_write (mem_story self.old) to.now (mem_holds self.old from.now)) }
         ensures moved { Moves (mem_story self.old) to.now (mem_story self.new) }
         ensures listed { IsTrue (next_fails self.old) → IsErr result }
         ensures err { OnErr result (FailsAt self.old to.now self.new) }
@@ -260,9 +240,7 @@ impl Tree for MemTree {
     }
 
     fn remove(&mut self, path: &Path) -> Result<(), Failed>
-        ensures ok {
-            OnOk result (mem_story self.new ≡ with_write (mem_story self.old) path.now None)
-        }
+        ensures ok { OnOk result (mem_story self.new ≡ with_write (mem_story self.old) path.now None) }
         ensures moved { Moves (mem_story self.old) path.now (mem_story self.new) }
         ensures listed { IsTrue (next_fails self.old) → IsErr result }
         ensures err { OnErr result (FailsAt self.old path.now self.new) }

@@ -38,10 +38,8 @@ fn is_hex(byte: u8) -> bool
 
 /// The path and the digest of a line for a plain file.
 fn line_parts(text: &[u8]) -> Option<(&[u8], &[u8])>
-    ensures {
-        MatchOption result ((p d : List ℕ) → length d ≡ 32 → text.now ≡ obj_line p d → ⊥)
-            (λ x. (length x.1.now ≡ 32) × (text.now ≡ obj_line x.0.now x.1.now))
-    }
+    ensures { MatchOption result ((p d : List ℕ) → length d ≡ 32 → text.now ≡ obj_line p d → ⊥)
+        (λ x. (length x.1.now ≡ 32) × (text.now ≡ obj_line x.0.now x.1.now)) }
 {
     let Some(rest) = text.strip_prefix(b"obj /") else {
         return None;

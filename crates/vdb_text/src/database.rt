@@ -26,9 +26,7 @@ pub enum Database {
 pub fn read_database<T: Tree>(alloc: Global, tree: &mut T) -> Result<Database, TreeFault>
     ensures stands { IsTrue T.tells → IfOk result (Stands (T.story tree.old).now.holds) }
     ensures same { IsTrue T.tells → T.story tree.new ≡ T.story tree.old }
-    ensures faults {
-        CountsFault (IsErrOf result TreeFault.Failed) (T.faults tree.old) (T.faults tree.new)
-    }
+    ensures faults { CountsFault (IsErrOf result TreeFault.Failed) (T.faults tree.old) (T.faults tree.new) }
 {
     let database = path_of_database(alloc)?;
     let listed = tree.list(&database)?;
@@ -52,10 +50,8 @@ pub fn read_database<T: Tree>(alloc: Global, tree: &mut T) -> Result<Database, T
 
 /// The one package in whose folder the path is.
 fn package_of(alloc: Global, path: &Path) -> Result<Option<PackageId>, AllocError>
-    ensures {
-        IfOk result (λ r. MatchOption r ((id : Id) → IsInFolder id path.now → ⊥)
-            (λ id. IsId id × ((other : Id) → IsInFolder other path.now → other ≡ id)))
-    }
+    ensures { IfOk result (λ r. MatchOption r ((id : Id) → IsInFolder id path.now → ⊥)
+        (λ id. IsId id × ((other : Id) → IsInFolder other path.now → other ≡ id))) }
 {
     let Some((category, pf)) = folder_of(path.text()) else {
         return Ok(None);
@@ -70,11 +66,9 @@ fn package_of(alloc: Global, path: &Path) -> Result<Option<PackageId>, AllocErro
 /// The category, and the package's name with its version, of the folder in which a path is.
 #[tactic(auto, unfolding(crate::specs::Files::record_path))]
 fn folder_of(path: &str) -> Option<(&str, &str)>
-    ensures {
-        MatchOption result ((id : Id) → IsInFolder id path.now → ⊥)
-            (λ x. (id : Id) → IsInFolder id path.now →
-                (x.0.now ≡ id.name.category) × (x.1.now ≡ name_and_version id))
-    }
+    ensures { MatchOption result ((id : Id) → IsInFolder id path.now → ⊥)
+        (λ x. (id : Id) → IsInFolder id path.now →
+        (x.0.now ≡ id.name.category) × (x.1.now ≡ name_and_version id)) }
 {
     let rest = path.strip_prefix("var/db/pkg/")?;
     let (category, behind) = rest.split_once('/')?;

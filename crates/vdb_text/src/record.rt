@@ -23,16 +23,12 @@ pub(crate) fn read_record<T: Tree>(
     listed: &[Path],
 ) -> Result<Option<SlotValue>, TreeFault>
     requires listed { IsTrue T.tells → Lists (T.story tree.old).now.holds database_path listed.now }
-    ensures recorded {
-        IsTrue T.tells → IfOk result
-            (λ r. MatchOption r ((slot subslot : List ℕ) →
-                IsRecorded (T.story tree.old).now.holds id.now slot subslot → ⊥)
-                    (λ v. IsRecorded (T.story tree.old).now.holds id.now v.slot v.subslot))
-    }
+    ensures recorded { IsTrue T.tells → IfOk result
+        (λ r. MatchOption r ((slot subslot : List ℕ) →
+        IsRecorded (T.story tree.old).now.holds id.now slot subslot → ⊥)
+        (λ v. IsRecorded (T.story tree.old).now.holds id.now v.slot v.subslot)) }
     ensures same { IsTrue T.tells → T.story tree.new ≡ T.story tree.old }
-    ensures faults {
-        CountsFault (IsErrOf result TreeFault.Failed) (T.faults tree.old) (T.faults tree.new)
-    }
+    ensures faults { CountsFault (IsErrOf result TreeFault.Failed) (T.faults tree.old) (T.faults tree.new) }
 {
     let contents = path_of_record(alloc, id, "CONTENTS")?;
     let eapi = path_of_record(alloc, id, "EAPI")?;
@@ -60,14 +56,10 @@ fn are_among(listed: &[Path], first: &Path, second: &Path, third: &Path) -> bool
 
 /// Whether a path holds a plain file of this text.
 fn holds_text<T: Tree>(tree: &mut T, path: &Path, text: &str) -> Result<bool, TreeFault>
-    ensures holds {
-        IsTrue T.tells → IfOk result
-            (λ b. IsTrue b ↔ ((T.story tree.old).now.holds path.now ≡ Some (plain text.now)))
-    }
+    ensures holds { IsTrue T.tells → IfOk result
+        (λ b. IsTrue b ↔ ((T.story tree.old).now.holds path.now ≡ Some (plain text.now))) }
     ensures same { IsTrue T.tells → T.story tree.new ≡ T.story tree.old }
-    ensures faults {
-        CountsFault (IsErrOf result TreeFault.Failed) (T.faults tree.old) (T.faults tree.new)
-    }
+    ensures faults { CountsFault (IsErrOf result TreeFault.Failed) (T.faults tree.old) (T.faults tree.new) }
 {
     match tree.read(path)? {
         Some(object) => Ok(is_plain(&object, text)),
@@ -83,15 +75,11 @@ fn is_plain(object: &Object, text: &str) -> bool
 
 /// Whether a path holds one line of CONTENTS with the time 0.
 fn holds_contents<T: Tree>(alloc: Global, tree: &mut T, path: &Path) -> Result<bool, TreeFault>
-    ensures holds {
-        IsTrue T.tells → IfOk result
-            (λ b. MatchBool b (HasContents ((T.story tree.old).now.holds path.now))
-                (HasContents ((T.story tree.old).now.holds path.now) → ⊥))
-    }
+    ensures holds { IsTrue T.tells → IfOk result
+        (λ b. MatchBool b (HasContents ((T.story tree.old).now.holds path.now))
+        (HasContents ((T.story tree.old).now.holds path.now) → ⊥)) }
     ensures same { IsTrue T.tells → T.story tree.new ≡ T.story tree.old }
-    ensures faults {
-        CountsFault (IsErrOf result TreeFault.Failed) (T.faults tree.old) (T.faults tree.new)
-    }
+    ensures faults { CountsFault (IsErrOf result TreeFault.Failed) (T.faults tree.old) (T.faults tree.new) }
 {
     match tree.read(path)? {
         Some(object) => Ok(object.kind == Kind::Plain && is_contents(alloc, &object.bytes)?),
@@ -105,16 +93,12 @@ fn read_slots<T: Tree>(
     tree: &mut T,
     path: &Path,
 ) -> Result<Option<SlotValue>, TreeFault>
-    ensures slots {
-        IsTrue T.tells → IfOk result
-            (λ r. MatchOption r ((slot subslot : List ℕ) →
-                HasSlots ((T.story tree.old).now.holds path.now) slot subslot → ⊥)
-                    (λ v. HasSlots ((T.story tree.old).now.holds path.now) v.slot v.subslot))
-    }
+    ensures slots { IsTrue T.tells → IfOk result
+        (λ r. MatchOption r ((slot subslot : List ℕ) →
+        HasSlots ((T.story tree.old).now.holds path.now) slot subslot → ⊥)
+        (λ v. HasSlots ((T.story tree.old).now.holds path.now) v.slot v.subslot)) }
     ensures same { IsTrue T.tells → T.story tree.new ≡ T.story tree.old }
-    ensures faults {
-        CountsFault (IsErrOf result TreeFault.Failed) (T.faults tree.old) (T.faults tree.new)
-    }
+    ensures faults { CountsFault (IsErrOf result TreeFault.Failed) (T.faults tree.old) (T.faults tree.new) }
 {
     match tree.read(path)? {
         Some(object) => Ok(slots_of(alloc, &object)?),
@@ -123,11 +107,9 @@ fn read_slots<T: Tree>(
 }
 
 fn slots_of(alloc: Global, object: &Object) -> Result<Option<SlotValue>, AllocError>
-    ensures {
-        IfOk result (λ r. MatchOption r
-            ((slot subslot : List ℕ) → HasSlots (Some object.now) slot subslot → ⊥)
-                (λ v. HasSlots (Some object.now) v.slot v.subslot))
-    }
+    ensures { IfOk result (λ r. MatchOption r
+        ((slot subslot : List ℕ) → HasSlots (Some object.now) slot subslot → ⊥)
+        (λ v. HasSlots (Some object.now) v.slot v.subslot)) }
 {
     if object.kind != Kind::Plain {
         return Ok(None);

@@ -27,9 +27,9 @@ cache_path id = codes "var/db/repos/gentoo/metadata/md5-cache/" ++ id_text id
 unfoldable pub entry_text : List ℕ → List ℕ
 entry_text value =
     codes "EAPI=8" ++ (10 ∷
-        (codes "KEYWORDS=amd64" ++
-            (10 ∷ (codes "SLOT=" ++
-                (value ++ (10 ∷ (codes "_md5_=d41d8cd98f00b204e9800998ecf8427e" ++ (10 ∷ []))))))))
+    (codes "KEYWORDS=amd64" ++
+    (10 ∷ (codes "SLOT=" ++
+    (value ++ (10 ∷ (codes "_md5_=d41d8cd98f00b204e9800998ecf8427e" ++ (10 ∷ []))))))))
 
 -- an object is a plain file of an entry that says this slot and subslot
 pub record IsEntry (x : Option Thing) (slot subslot : List ℕ) : Type 0 where

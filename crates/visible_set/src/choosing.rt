@@ -13,15 +13,11 @@ use std::alloc::Global;
 /// The first of the candidates that the atom matches, for an asker without flags; or the candidates
 /// back, where it matches none.
 pub fn choose(alloc: Global, atom: &Atom, offers: Vec<Facts>) -> Result<Facts, Vec<Facts>>
-    ensures chosen {
-        (m : Map) → AreOffers m atom.now.name offers.items →
-        IfOk result (IsChosen m (atom_value atom.now))
-    }
+    ensures chosen { (m : Map) → AreOffers m atom.now.name offers.items →
+        IfOk result (IsChosen m (atom_value atom.now)) }
     ensures matched { IfOk result (λ f. value_matches (atom_value atom.now) f [] ≡ true) }
-    ensures none {
-        IfErr result (λ back.
-            AllByRecursion (λ f. value_matches (atom_value atom.now) f [] ≡ false) back.items)
-    }
+    ensures none { IfErr result (λ back.
+        AllByRecursion (λ f. value_matches (atom_value atom.now) f [] ≡ false) back.items) }
     ensures back { IfErr result (λ back. back.items ≡ offers.items) }
 {
     pms_version::order_is_total();

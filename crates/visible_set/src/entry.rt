@@ -17,20 +17,14 @@ pub fn read_entry<T: Tree>(
     path: &Path,
 ) -> Result<Facts, CandidateFault>
     ensures named { IfOk result (λ f. f.id ≡ id) }
-    ensures entry {
-        IsTrue T.tells → IfOk result
-            (λ f. IsEntry ((T.story tree.old).now.holds path.now) f.slot f.subslot)
-    }
+    ensures entry { IsTrue T.tells → IfOk result
+        (λ f. IsEntry ((T.story tree.old).now.holds path.now) f.slot f.subslot) }
     ensures iuse { IfOk result (λ f. f.iuse ≡ []) }
     ensures enabled { IfOk result (λ f. f.enabled ≡ []) }
-    ensures odd {
-        IsTrue T.tells → IsErrOf result CandidateFault.OddEntry → (slot subslot : List ℕ) →
-        IsEntry ((T.story tree.old).now.holds path.now) slot subslot → ⊥
-    }
+    ensures odd { IsTrue T.tells → IsErrOf result CandidateFault.OddEntry → (slot subslot : List ℕ) →
+        IsEntry ((T.story tree.old).now.holds path.now) slot subslot → ⊥ }
     ensures same { IsTrue T.tells → T.story tree.new ≡ T.story tree.old }
-    ensures faults {
-        CountsFault (IsErrOf result CandidateFault.Failed) (T.faults tree.old) (T.faults tree.new)
-    }
+    ensures faults { CountsFault (IsErrOf result CandidateFault.Failed) (T.faults tree.old) (T.faults tree.new) }
 {
     let Some(object) = tree.read(path)? else {
         return Err(CandidateFault::OddEntry);
@@ -49,11 +43,9 @@ pub fn read_entry<T: Tree>(
 
 /// The slot and the subslot that an entry says, if it is in the one form.
 fn entry_slots(alloc: Global, object: &Object) -> Result<Option<SlotValue>, AllocError>
-    ensures {
-        IfOk result (λ r. MatchOption r
-            ((slot subslot : List ℕ) → IsEntry (Some object.now) slot subslot → ⊥)
-                (λ v. IsEntry (Some object.now) v.slot v.subslot))
-    }
+    ensures { IfOk result (λ r. MatchOption r
+        ((slot subslot : List ℕ) → IsEntry (Some object.now) slot subslot → ⊥)
+        (λ v. IsEntry (Some object.now) v.slot v.subslot)) }
 {
     if object.kind != Kind::Plain {
         return Ok(None);
@@ -66,10 +58,8 @@ fn entry_slots(alloc: Global, object: &Object) -> Result<Option<SlotValue>, Allo
 
 /// The value of SLOT in a text of the one form.
 fn slot_line(text: &[u8]) -> Option<&[u8]>
-    ensures {
-        MatchOption result ((value : List ℕ) → text.now ≡ entry_text value → ⊥)
-            (λ value. text.now ≡ entry_text value.now)
-    }
+    ensures { MatchOption result ((value : List ℕ) → text.now ≡ entry_text value → ⊥)
+        (λ value. text.now ≡ entry_text value.now) }
 {
     let Some(rest) = text.strip_prefix(b"EAPI=8\nKEYWORDS=amd64\nSLOT=") else {
         return None;
