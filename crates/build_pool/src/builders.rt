@@ -50,7 +50,8 @@ pub trait Builder: Drop {
         ensures image { IsTrue tells → IfOk result
             (λ n. (image self.new ≡ told self.old order.now) ×
             (length (told self.old order.now) ≡ n)) }
-        ensures faults { CountsFault (IsErrOf result BuildStop.Failed) (faults self.old) (faults self.new) };
+        ensures faults { CountsFault (IsErrOf result BuildStop.Failed) (faults self.old)
+            (faults self.new) };
 
     /// The entry at this place of the image, counted from 0.
     fn entry(&mut self, index: u32) -> Result<Entry, BuildStop>
@@ -59,6 +60,8 @@ pub trait Builder: Drop {
         ensures same_told { told self.new ≡ told self.old }
         ensures same_started { started self.new ≡ started self.old }
         ensures same_image { image self.new ≡ image self.old }
-        ensures entry { IsTrue tells → IfOk result (λ e. slice_get (image self.old) index ≡ Some e) }
-        ensures faults { CountsFault (IsErrOf result BuildStop.Failed) (faults self.old) (faults self.new) };
+        ensures entry { IsTrue tells → IfOk result
+            (λ e. slice_get (image self.old) index ≡ Some e) }
+        ensures faults { CountsFault (IsErrOf result BuildStop.Failed) (faults self.old)
+            (faults self.new) };
 }

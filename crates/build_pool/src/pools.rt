@@ -30,8 +30,10 @@ impl<B: Builder> Model for BuildPool<B> {
 
     ghost view = { λ p. record { resting = p.resting.items; lent = p.lent.items } };
 
-    ghost invariant = { λ p. (vec_len p.resting + vec_len p.lent ≤ vec_capacity p.resting) × (vec_len p.resting + vec_len p.lent ≤ vec_capacity p.lent)
-        × ((n : ℕ) → id_times B.number n (record { resting = p.resting.items; lent = p.lent.items }) ≤ 1) };
+    ghost invariant = { λ p. (vec_len p.resting + vec_len p.lent ≤ vec_capacity p.resting) ×
+        (vec_len p.resting + vec_len p.lent ≤ vec_capacity p.lent) ×
+        ((n : ℕ) → id_times B.number n
+        (record { resting = p.resting.items; lent = p.lent.items }) ≤ 1) };
 }
 
 impl<B: Builder> BuildPool<B> {
@@ -81,12 +83,14 @@ impl<B: Builder> BuildPool<B> {
     /// Takes a builder back that was lent; from now on it counts with what it has.
     pub fn take_back(&mut self, builder: B)
         requires lent { Any (λ a. a.number ≡ B.number builder) self.old.lent }
-        requires count { All (λ a. a.number ≡ B.number builder → a.faults ≤ B.faults builder) self.old.lent }
+        requires count { All (λ a. a.number ≡ B.number builder →
+            a.faults ≤ B.faults builder) self.old.lent }
         ensures resting { self.new.resting ≡ self.old.resting ++ builder ∷ [] }
         ensures lent { LeavesOne (B.number builder) self.old.lent self.new.lent }
         ensures ids { SameIds B.number self.old self.new }
         ensures faults { faults_of B.faults self.old ≤ faults_of B.faults self.new }
-        ensures rose { All (λ a. a.number ≡ B.number builder → a.faults < B.faults builder) self.old.lent →
+        ensures rose { All (λ a. a.number ≡ B.number builder →
+            a.faults < B.faults builder) self.old.lent →
             faults_of B.faults self.old < faults_of B.faults self.new }
     {
         take_out(&mut self.lent, builder.id());

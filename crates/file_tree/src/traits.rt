@@ -28,7 +28,8 @@ pub trait Tree {
 
     /// What stands at the path.
     fn look(&mut self, path: &Path) -> Result<Look, Failed>
-        ensures answer { IsTrue tells → IfOk result (λ l. Looks (story self.old).now.holds path.now l) }
+        ensures answer { IsTrue tells → IfOk result
+            (λ l. Looks (story self.old).now.holds path.now l) }
         ensures same { IsTrue tells → story self.new ≡ story self.old }
         ensures faults { CountsFault (IsErr result) (faults self.old) (faults self.new) };
 
@@ -36,22 +37,27 @@ pub trait Tree {
     fn read(&mut self, path: &Path) -> Result<Option<Object>, TreeFault>
         ensures answer { IsTrue tells → IfOk result (λ o. o ≡ (story self.old).now.holds path.now) }
         ensures same { IsTrue tells → story self.new ≡ story self.old }
-        ensures faults { CountsFault (IsErrOf result TreeFault.Failed) (faults self.old) (faults self.new) };
+        ensures faults { CountsFault (IsErrOf result TreeFault.Failed) (faults self.old)
+            (faults self.new) };
 
     /// The paths strictly below, in byte order.
     fn list(&mut self, below: &Path) -> Result<Vec<Path>, TreeFault>
-        ensures answer { IsTrue tells → IfOk result (λ v. Lists (story self.old).now.holds below.now v.items) }
+        ensures answer { IsTrue tells → IfOk result
+            (λ v. Lists (story self.old).now.holds below.now v.items) }
         ensures rising { IfOk result (λ v. IsStrictlySortedBy (slice_cmp nat_cmp) v.items) }
         ensures same { IsTrue tells → story self.new ≡ story self.old }
-        ensures faults { CountsFault (IsErrOf result TreeFault.Failed) (faults self.old) (faults self.new) };
+        ensures faults { CountsFault (IsErrOf result TreeFault.Failed) (faults self.old)
+            (faults self.new) };
 
     /// Makes the path hold a copy of the object.
     fn put(&mut self, path: &Path, object: &Object) -> Result<(), TreeFault>
         ensures ok { IsTrue tells → OnOk result
             (story self.new ≡ with_write (story self.old) path.now (Some object.now)) }
         ensures moved { IsTrue tells → Moves (story self.old) path.now (story self.new) }
-        ensures memory { IsTrue tells → IsErrOf result TreeFault.Memory → story self.new ≡ story self.old }
-        ensures faults { CountsFault (IsErrOf result TreeFault.Failed) (faults self.old) (faults self.new) };
+        ensures memory { IsTrue tells → IsErrOf result TreeFault.Memory →
+            story self.new ≡ story self.old }
+        ensures faults { CountsFault (IsErrOf result TreeFault.Failed) (faults self.old)
+            (faults self.new) };
 
     /// Makes `to` hold what `from` holds, which stays there.
     fn place(&mut self, from: &Path, to: &Path) -> Result<(), Failed>
@@ -65,7 +71,8 @@ pub trait Tree {
 
     /// Makes the path hold nothing. A path that holds nothing already is no fault.
     fn remove(&mut self, path: &Path) -> Result<(), Failed>
-        ensures ok { IsTrue tells → OnOk result (story self.new ≡ with_write (story self.old) path.now None) }
+        ensures ok { IsTrue tells → OnOk result
+            (story self.new ≡ with_write (story self.old) path.now None) }
         ensures moved { IsTrue tells → Moves (story self.old) path.now (story self.new) }
         ensures faults { CountsFault (IsErr result) (faults self.old) (faults self.new) };
 
@@ -91,6 +98,7 @@ pub trait Sink {
     /// Writes the whole piece; after `Failed` the sink has some prefix of it.
     fn write(&mut self, bytes: &[u8]) -> Result<(), Failed>
         ensures ok { IsTrue tells → OnOk result (written self.new ≡ written self.old ++ bytes.now) }
-        ensures moved { IsTrue tells → (n : ℕ) × (written self.new ≡ written self.old ++ take n bytes.now) }
+        ensures moved { IsTrue tells → (n : ℕ) ×
+            (written self.new ≡ written self.old ++ take n bytes.now) }
         ensures faults { CountsFault (IsErr result) (faults self.old) (faults self.new) };
 }

@@ -24,7 +24,8 @@ staged g i (o ∷ os) d = staged g (suc i) os (write d (stage_path g i) (Some o)
 
 -- the record and the token are put, and all is synced
 abbrev pub sealed : ℕ → List ℕ → Disk → Disk
-sealed g bytes d = settled (write (write d (record_path g) (Some (plain bytes))) (token_path g) (Some token))
+sealed g bytes d =
+    settled (write (write d (record_path g) (Some (plain bytes))) (token_path g) (Some token))
 
 -- the token is placed on the gate, and that is synced
 abbrev pub opened : ℕ → Disk → Disk

@@ -20,7 +20,8 @@ AreStaged [] (o ∷ os) = ⊥
 AreStaged (p ∷ ps) [] = ⊥
 AreStaged (p ∷ ps) (o ∷ os) = IsStaged (Some o) p × AreStaged ps os
 
--- a group: its record has a spelling, its paths are apart and outside the journal, and each placement has its object
+-- a group: its record has a spelling, its paths are apart and outside the journal, and each
+-- placement has its object
 pub record IsGroup (r : Content) (os : List Thing) : Type 0 where
   pub fits : Fits r
   pub free : are_free [] (footprint r) ≡ true

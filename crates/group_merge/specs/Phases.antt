@@ -26,9 +26,11 @@ pub record IsShut (m : Map) (d : Disk) : Type 0 where
 -- the record and the stages are there for good
 pub record IsKept (r : Content) (os : List Thing) (d : Disk) : Type 0 where
   pub filed : Fixed d (record_path r.group) (Some (plain (spelling r)))
-  pub stages : (i : ℕ) (o : Thing) → slice_get os i ≡ Some o → Fixed d (stage_path r.group i) (Some o)
+  pub stages : (i : ℕ) (o : Thing) → slice_get os i ≡ Some o →
+      Fixed d (stage_path r.group i) (Some o)
 
--- all is sealed, and the gate may be anything: recovery clears the journal, or applies the group first
+-- all is sealed, and the gate may be anything: recovery clears the journal, or applies the group
+-- first
 pub record IsSealed (r : Content) (os : List Thing) (m : Map) (d : Disk) : Type 0 where
   pub outside : IsQuiet m d
   pub others : OthersShut r.group d
@@ -36,7 +38,8 @@ pub record IsSealed (r : Content) (os : List Thing) (m : Map) (d : Disk) : Type 
 
 -- the gate is open for good, and the group's own paths may hold anything
 pub record IsOpened (r : Content) (os : List Thing) (m : Map) (d : Disk) : Type 0 where
-  pub outside : (q : List ℕ) → is_below jobs q ≡ false → is_in (footprint r) q ≡ false → Fixed d q (m q)
+  pub outside : (q : List ℕ) → is_below jobs q ≡ false → is_in (footprint r) q ≡ false →
+      Fixed d q (m q)
   pub others : OthersShut r.group d
   pub gate : Fixed d (gate_path r.group) (Some token)
   pub kept : IsKept r os d

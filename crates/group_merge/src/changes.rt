@@ -1,4 +1,5 @@
-ghost use Rattle.std.specs.Prelude.{◌≡◌, ◌≤◌, ◌<◌, ◌⊎◌, ℕ, List, false, IsErr, IsSome, IsTrue, OnOk, length, map};
+ghost use Rattle.std.specs.Prelude.{◌≡◌, ◌≤◌, ◌<◌, ◌⊎◌, ℕ, List, false, IsErr, IsSome, IsTrue};
+ghost use Rattle.std.specs.Prelude.{OnOk, length, map};
 ghost use Rattle.basics.specs.Members.{Has};
 ghost use Rattle.file_tree.specs.Disk.{Map, Rose};
 ghost use Rattle.file_tree.specs.Moments.{Since};
@@ -19,10 +20,13 @@ use merge_record::Placement;
 
 /// Makes each path hold nothing.
 pub fn remove_all<T: Tree>(tree: &mut T, removals: &[Path]) -> Result<(), Failed>
-    ensures moments { IsTrue T.tells → (r : Content) (os : List Thing) (m : Map) → removals.now ≡ r.removals → IsGroup r os → IsOpened r os m (T.story tree.old).now
-        → Since (λ c. IsRecovered c (applied r os m)) (T.story tree.old) (T.story tree.new) × IsOpened r os m (T.story tree.new).now }
+    ensures moments { IsTrue T.tells → (r : Content) (os : List Thing) (m : Map) →
+        removals.now ≡ r.removals → IsGroup r os → IsOpened r os m (T.story tree.old).now →
+        Since (λ c. IsRecovered c (applied r os m)) (T.story tree.old) (T.story tree.new) ×
+        IsOpened r os m (T.story tree.new).now }
     ensures asked { IsTrue T.tells → Asked removals.now (T.story tree.old) (T.story tree.new) }
-    ensures ok { IsTrue T.tells → OnOk result ((T.story tree.new).now ≡ removed removals.now (T.story tree.old).now) }
+    ensures ok { IsTrue T.tells → OnOk result
+        ((T.story tree.new).now ≡ removed removals.now (T.story tree.old).now) }
     ensures count { T.faults tree.old ≤ T.faults tree.new }
     ensures cause { IsErr result → Rose (T.faults tree.old) (T.faults tree.new) }
 {
@@ -40,11 +44,16 @@ pub fn place_all<T: Tree>(
 ) -> Result<(), Failed>
     requires count { paths.now.count ≡ length placements.now }
     requires apart { (p : Placement) → Has placements.now p → is_below jobs p.path ≡ false }
-    requires there { IsTrue T.tells → (i : ℕ) → i < length placements.now → IsSome ((T.story tree.old).now.holds (stage_path paths.now.group i)) }
-    ensures moments { IsTrue T.tells → (r : Content) (os : List Thing) (m : Map) → placements.now ≡ r.placements → IsGroup r os → IsOpened r os m (T.story tree.old).now
-        → Since (λ c. IsRecovered c (applied r os m)) (T.story tree.old) (T.story tree.new) × IsOpened r os m (T.story tree.new).now }
-    ensures asked { IsTrue T.tells → Asked (map path_of placements.now) (T.story tree.old) (T.story tree.new) }
-    ensures ok { IsTrue T.tells → OnOk result ((T.story tree.new).now ≡ placed paths.now.group 0 placements.now (T.story tree.old).now) }
+    requires there { IsTrue T.tells → (i : ℕ) → i < length placements.now →
+        IsSome ((T.story tree.old).now.holds (stage_path paths.now.group i)) }
+    ensures moments { IsTrue T.tells → (r : Content) (os : List Thing) (m : Map) →
+        placements.now ≡ r.placements → IsGroup r os → IsOpened r os m (T.story tree.old).now →
+        Since (λ c. IsRecovered c (applied r os m)) (T.story tree.old) (T.story tree.new) ×
+        IsOpened r os m (T.story tree.new).now }
+    ensures asked { IsTrue T.tells → Asked (map path_of placements.now) (T.story tree.old)
+        (T.story tree.new) }
+    ensures ok { IsTrue T.tells → OnOk result
+        ((T.story tree.new).now ≡ placed paths.now.group 0 placements.now (T.story tree.old).now) }
     ensures count { T.faults tree.old ≤ T.faults tree.new }
     ensures cause { IsErr result → Rose (T.faults tree.old) (T.faults tree.new) }
 {

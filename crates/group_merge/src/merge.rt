@@ -1,4 +1,5 @@
-ghost use Rattle.std.specs.Prelude.{◌≡◌, ◌≤◌, ◌<◌, ◌⊎◌, ℕ, List, false, IsErr, IsErrOf, IsSome, IsTrue, OnOk, Some, length};
+ghost use Rattle.std.specs.Prelude.{◌≡◌, ◌≤◌, ◌<◌, ◌⊎◌, ℕ, List, false, IsErr, IsErrOf, IsSome};
+ghost use Rattle.std.specs.Prelude.{IsTrue, OnOk, Some, length};
 ghost use Rattle.basics.specs.Members.{Has};
 ghost use Rattle.file_tree.specs.Disk.{Map, Rose};
 ghost use Rattle.file_tree.specs.Moments.{Since};
@@ -39,13 +40,16 @@ pub fn merge_group<T: Tree>(
     requires sign { sign.now ≡ token }
 
     // Where no gate was open, a crash at any moment recovers to the map without the group, or to the map with it.
-    ensures moments { IsTrue T.tells → (m : Map) → IsShut m (T.story tree.old).now → Since (IsBeforeOrAfter what.now objects.now m) (T.story tree.old) (T.story tree.new) }
+    ensures moments { IsTrue T.tells → (m : Map) → IsShut m (T.story tree.old).now →
+        Since (IsBeforeOrAfter what.now objects.now m) (T.story tree.old) (T.story tree.new) }
 
     // Memory can run out only while no gate is open.
-    ensures memory { IsTrue T.tells → (m : Map) → IsShut m (T.story tree.old).now → IsErrOf result TreeFault.Memory → IsShut m (T.story tree.new).now }
+    ensures memory { IsTrue T.tells → (m : Map) → IsShut m (T.story tree.old).now →
+        IsErrOf result TreeFault.Memory → IsShut m (T.story tree.new).now }
 
     // After Ok a crash leaves the map with the group, and no gate is open.
-    ensures merged { IsTrue T.tells → (m : Map) → IsShut m (T.story tree.old).now → OnOk result (IsShut (λ q. changed what.now objects.now q (m q)) (T.story tree.new).now) }
+    ensures merged { IsTrue T.tells → (m : Map) → IsShut m (T.story tree.old).now →
+        OnOk result (IsShut (λ q. changed what.now objects.now q (m q)) (T.story tree.new).now) }
     ensures count { T.faults tree.old ≤ T.faults tree.new }
     ensures cause { IsErrOf result TreeFault.Failed → Rose (T.faults tree.old) (T.faults tree.new) }
 {
@@ -70,10 +74,15 @@ fn seal_group<T: Tree>(
     requires group { IsGroup what.now objects.now }
     requires filed { filed.now ≡ plain (spelling what.now) }
     requires sign { sign.now ≡ token }
-    ensures moments { IsTrue T.tells → (m : Map) → IsShut m (T.story tree.old).now → Since (λ c. IsRecovered c (cleared m)) (T.story tree.old) (T.story tree.new) × IsShut m (T.story tree.new).now }
-    ensures sealed { IsTrue T.tells → (m : Map) → IsShut m (T.story tree.old).now → OnOk result (IsSealed what.now objects.now m (T.story tree.new).now) }
-    ensures kept { IsTrue T.tells → OnOk result (IsKept what.now objects.now (T.story tree.new).now) }
-    ensures token { IsTrue T.tells → OnOk result ((T.story tree.new).now.holds (token_path paths.now.group) ≡ Some token) }
+    ensures moments { IsTrue T.tells → (m : Map) → IsShut m (T.story tree.old).now →
+        Since (λ c. IsRecovered c (cleared m)) (T.story tree.old) (T.story tree.new) ×
+        IsShut m (T.story tree.new).now }
+    ensures sealed { IsTrue T.tells → (m : Map) → IsShut m (T.story tree.old).now →
+        OnOk result (IsSealed what.now objects.now m (T.story tree.new).now) }
+    ensures kept { IsTrue T.tells → OnOk result
+        (IsKept what.now objects.now (T.story tree.new).now) }
+    ensures token { IsTrue T.tells → OnOk result
+        ((T.story tree.new).now.holds (token_path paths.now.group) ≡ Some token) }
     ensures count { T.faults tree.old ≤ T.faults tree.new }
     ensures cause { IsErrOf result TreeFault.Failed → Rose (T.faults tree.old) (T.faults tree.new) }
 {
@@ -87,11 +96,16 @@ fn change_paths<T: Tree>(tree: &mut T, paths: &JournalPaths, what: &Record) -> R
     requires number { what.now.group ≡ paths.now.group }
     requires count { paths.now.count ≡ length what.now.placements }
     requires removals { (q : List ℕ) → Has what.now.removals q → is_below jobs q ≡ false }
-    requires placements { (p : Placement) → Has what.now.placements p → is_below jobs p.path ≡ false }
-    requires there { IsTrue T.tells → (i : ℕ) → i < length what.now.placements → IsSome ((T.story tree.old).now.holds (stage_path paths.now.group i)) }
-    ensures moments { IsTrue T.tells → (os : List Thing) (m : Map) → IsGroup what.now os → IsOpened what.now os m (T.story tree.old).now
-        → Since (λ c. IsRecovered c (applied what.now os m)) (T.story tree.old) (T.story tree.new) × IsOpened what.now os m (T.story tree.new).now }
-    ensures ok { IsTrue T.tells → OnOk result ((T.story tree.new).now ≡ merged what.now (T.story tree.old).now) }
+    requires placements { (p : Placement) → Has what.now.placements p →
+        is_below jobs p.path ≡ false }
+    requires there { IsTrue T.tells → (i : ℕ) → i < length what.now.placements →
+        IsSome ((T.story tree.old).now.holds (stage_path paths.now.group i)) }
+    ensures moments { IsTrue T.tells → (os : List Thing) (m : Map) → IsGroup what.now os →
+        IsOpened what.now os m (T.story tree.old).now →
+        Since (λ c. IsRecovered c (applied what.now os m)) (T.story tree.old) (T.story tree.new) ×
+        IsOpened what.now os m (T.story tree.new).now }
+    ensures ok { IsTrue T.tells → OnOk result
+        ((T.story tree.new).now ≡ merged what.now (T.story tree.old).now) }
     ensures count { T.faults tree.old ≤ T.faults tree.new }
     ensures cause { IsErr result → Rose (T.faults tree.old) (T.faults tree.new) }
 {

@@ -26,8 +26,10 @@ impl Model for JournalPaths {
 
     ghost view = { λ j. record { group = j.group; count = length j.stages.items } };
 
-    ghost invariant = { λ j. (j.group < 2 ^ 32) × (length j.stages.items < 2 ^ 32) × (j.gate ≡ gate_path j.group) × (j.changes ≡ record_path j.group) × (j.token ≡ token_path j.group)
-        × (j.stages.items ≡ stages_from j.group 0 (length j.stages.items)) };
+    ghost invariant = { λ j. (j.group < 2 ^ 32) × (length j.stages.items < 2 ^ 32) ×
+        (j.gate ≡ gate_path j.group) × (j.changes ≡ record_path j.group) ×
+        (j.token ≡ token_path j.group) × (j.stages.items ≡
+        stages_from j.group 0 (length j.stages.items)) };
 }
 
 impl JournalPaths {

@@ -1,4 +1,5 @@
-ghost use Rattle.std.specs.Prelude.{◌≡◌, ◌≤◌, ◌⊎◌, ℕ, List, IsErr, IsErrOf, IsTrue, OnOk, Some, length};
+ghost use Rattle.std.specs.Prelude.{◌≡◌, ◌≤◌, ◌⊎◌, ℕ, List, IsErr, IsErrOf, IsTrue, OnOk, Some};
+ghost use Rattle.std.specs.Prelude.{length};
 ghost use Rattle.file_tree.specs.Disk.{Map, Rose};
 ghost use Rattle.file_tree.specs.Moments.{Since};
 ghost use Rattle.file_tree.specs.Thing.{Thing, plain};
@@ -19,8 +20,11 @@ pub fn stage_all<T: Tree>(
     objects: &[Object],
 ) -> Result<(), TreeFault>
     requires count { paths.now.count ≡ length objects.now }
-    ensures moments { IsTrue T.tells → (m : Map) → IsShut m (T.story tree.old).now → Since (λ c. IsRecovered c (cleared m)) (T.story tree.old) (T.story tree.new) × IsShut m (T.story tree.new).now }
-    ensures ok { IsTrue T.tells → OnOk result ((T.story tree.new).now ≡ staged paths.now.group 0 objects.now (T.story tree.old).now) }
+    ensures moments { IsTrue T.tells → (m : Map) → IsShut m (T.story tree.old).now →
+        Since (λ c. IsRecovered c (cleared m)) (T.story tree.old) (T.story tree.new) ×
+        IsShut m (T.story tree.new).now }
+    ensures ok { IsTrue T.tells → OnOk result
+        ((T.story tree.new).now ≡ staged paths.now.group 0 objects.now (T.story tree.old).now) }
     ensures count { T.faults tree.old ≤ T.faults tree.new }
     ensures cause { IsErrOf result TreeFault.Failed → Rose (T.faults tree.old) (T.faults tree.new) }
 {
@@ -39,8 +43,11 @@ pub fn seal<T: Tree>(
     sign: &Object,
 ) -> Result<(), TreeFault>
     requires sign { sign.now ≡ token }
-    ensures moments { IsTrue T.tells → (m : Map) → IsShut m (T.story tree.old).now → Since (λ c. IsRecovered c (cleared m)) (T.story tree.old) (T.story tree.new) × IsShut m (T.story tree.new).now }
-    ensures ok { IsTrue T.tells → (bytes : List ℕ) → filed.now ≡ plain bytes → OnOk result ((T.story tree.new).now ≡ sealed paths.now.group bytes (T.story tree.old).now) }
+    ensures moments { IsTrue T.tells → (m : Map) → IsShut m (T.story tree.old).now →
+        Since (λ c. IsRecovered c (cleared m)) (T.story tree.old) (T.story tree.new) ×
+        IsShut m (T.story tree.new).now }
+    ensures ok { IsTrue T.tells → (bytes : List ℕ) → filed.now ≡ plain bytes →
+        OnOk result ((T.story tree.new).now ≡ sealed paths.now.group bytes (T.story tree.old).now) }
     ensures count { T.faults tree.old ≤ T.faults tree.new }
     ensures cause { IsErrOf result TreeFault.Failed → Rose (T.faults tree.old) (T.faults tree.new) }
 {
@@ -52,10 +59,14 @@ pub fn seal<T: Tree>(
 
 /// Opens the gate, and syncs: from then on recovery applies the group.
 pub fn open_gate<T: Tree>(tree: &mut T, paths: &JournalPaths) -> Result<(), Failed>
-    requires there { IsTrue T.tells → (T.story tree.old).now.holds (token_path paths.now.group) ≡ Some token }
-    ensures moments { IsTrue T.tells → (r : Content) (os : List Thing) (m : Map) → IsGroup r os → r.group ≡ paths.now.group → IsSealed r os m (T.story tree.old).now
-        → Since (IsBeforeOrAfter r os m) (T.story tree.old) (T.story tree.new) × IsSealed r os m (T.story tree.new).now }
-    ensures ok { IsTrue T.tells → OnOk result ((T.story tree.new).now ≡ opened paths.now.group (T.story tree.old).now) }
+    requires there { IsTrue T.tells → (T.story tree.old).now.holds (token_path paths.now.group) ≡
+        Some token }
+    ensures moments { IsTrue T.tells → (r : Content) (os : List Thing) (m : Map) → IsGroup r os →
+        r.group ≡ paths.now.group → IsSealed r os m (T.story tree.old).now →
+        Since (IsBeforeOrAfter r os m) (T.story tree.old) (T.story tree.new) ×
+        IsSealed r os m (T.story tree.new).now }
+    ensures ok { IsTrue T.tells → OnOk result
+        ((T.story tree.new).now ≡ opened paths.now.group (T.story tree.old).now) }
     ensures count { T.faults tree.old ≤ T.faults tree.new }
     ensures cause { IsErr result → Rose (T.faults tree.old) (T.faults tree.new) }
 {
@@ -66,9 +77,12 @@ pub fn open_gate<T: Tree>(tree: &mut T, paths: &JournalPaths) -> Result<(), Fail
 
 /// Removes the gate once the group's paths are synced, and syncs.
 pub fn close_gate<T: Tree>(tree: &mut T, paths: &JournalPaths) -> Result<(), Failed>
-    ensures moments { IsTrue T.tells → (r : Content) (os : List Thing) (m : Map) → IsGroup r os → r.group ≡ paths.now.group → IsSealed r os (λ q. changed r os q (m q)) (T.story tree.old).now
-        → Since (λ c. IsRecovered c (applied r os m)) (T.story tree.old) (T.story tree.new) × IsSealed r os (λ q. changed r os q (m q)) (T.story tree.new).now }
-    ensures ok { IsTrue T.tells → OnOk result ((T.story tree.new).now ≡ closed paths.now.group (T.story tree.old).now) }
+    ensures moments { IsTrue T.tells → (r : Content) (os : List Thing) (m : Map) → IsGroup r os →
+        r.group ≡ paths.now.group → IsSealed r os (λ q. changed r os q (m q))
+        (T.story tree.old).now → Since (λ c. IsRecovered c (applied r os m)) (T.story tree.old)
+        (T.story tree.new) × IsSealed r os (λ q. changed r os q (m q)) (T.story tree.new).now }
+    ensures ok { IsTrue T.tells → OnOk result
+        ((T.story tree.new).now ≡ closed paths.now.group (T.story tree.old).now) }
     ensures count { T.faults tree.old ≤ T.faults tree.new }
     ensures cause { IsErr result → Rose (T.faults tree.old) (T.faults tree.new) }
 {

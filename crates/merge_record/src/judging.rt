@@ -38,7 +38,8 @@ fn read_record<T: Tree>(alloc: Global, tree: &mut T, group: u32) -> Result<Recor
         (record_read group (record_in ((T.story tree.old).now.holds (record_path group)))) }
     ensures few { IfOk result (λ r. length r.placements < 2 ^ 32) }
     ensures same { IsTrue T.tells → T.story tree.new ≡ T.story tree.old }
-    ensures faults { CountsFault (IsErrOf result JudgeFault.Failed) (T.faults tree.old) (T.faults tree.new) }
+    ensures faults { CountsFault (IsErrOf result JudgeFault.Failed) (T.faults tree.old)
+        (T.faults tree.new) }
 {
     let path = record_path(alloc, group)?;
     match tree.read(&path)? {
@@ -144,7 +145,8 @@ fn judge_stage<T: Tree>(
     ensures answer { IsTrue T.tells → Agrees (λ _. tt) result
         (stages_judged (T.story tree.old).now.holds group index (placement.now ∷ [])) }
     ensures same { IsTrue T.tells → T.story tree.new ≡ T.story tree.old }
-    ensures faults { CountsFault (IsErrOf result JudgeFault.Failed) (T.faults tree.old) (T.faults tree.new) }
+    ensures faults { CountsFault (IsErrOf result JudgeFault.Failed) (T.faults tree.old)
+        (T.faults tree.new) }
 {
     let path = stage_path(alloc, group, index)?;
     match tree.read(&path)? {
@@ -163,7 +165,8 @@ fn judge_stages<T: Tree>(
     ensures answer { IsTrue T.tells → Agrees (λ _. tt) result
         (stages_judged (T.story tree.old).now.holds group 0 placements.now) }
     ensures same { IsTrue T.tells → T.story tree.new ≡ T.story tree.old }
-    ensures faults { CountsFault (IsErrOf result JudgeFault.Failed) (T.faults tree.old) (T.faults tree.new) }
+    ensures faults { CountsFault (IsErrOf result JudgeFault.Failed) (T.faults tree.old)
+        (T.faults tree.new) }
 {
     for index in 0..placements.len() {
         judge_stage(alloc, tree, group, index as u32, &placements[index])?;
@@ -185,7 +188,8 @@ pub fn judge<T: Tree>(
     ensures free { IfOk result (λ r. are_free taken.old (footprint r) ≡ true) }
     ensures few { IfOk result (λ r. length r.placements < 2 ^ 32) }
     ensures same { IsTrue T.tells → T.story tree.new ≡ T.story tree.old }
-    ensures faults { CountsFault (IsErrOf result JudgeFault.Failed) (T.faults tree.old) (T.faults tree.new) }
+    ensures faults { CountsFault (IsErrOf result JudgeFault.Failed) (T.faults tree.old)
+        (T.faults tree.new) }
 {
     let value = read_record(alloc, tree, group)?;
     take_footprint(alloc, group, &value, taken)?;
@@ -202,7 +206,8 @@ pub fn judge_all<T: Tree>(
     ensures answer { IsTrue T.tells → Agrees (λ v. v.items) result
         (judged_all (T.story tree.old).now.holds [] groups.now) }
     ensures same { IsTrue T.tells → T.story tree.new ≡ T.story tree.old }
-    ensures faults { CountsFault (IsErrOf result JudgeFault.Failed) (T.faults tree.old) (T.faults tree.new) }
+    ensures faults { CountsFault (IsErrOf result JudgeFault.Failed) (T.faults tree.old)
+        (T.faults tree.new) }
 {
     let mut taken = TakenPaths::new(alloc);
     let mut records = Vec::new(alloc);

@@ -30,8 +30,9 @@ pub fn open_groups_rise()
 pub fn judged_in_form()
     ensures form { (c : Map) (taken : List (List ℕ)) (g : ℕ) (r : Content) →
         (judged c taken g ≡ Ok r) ↔ IsInForm c taken g r }
-    ensures alike { (c d : Map) (taken : List (List ℕ)) (g : ℕ) → c (record_path g) ≡ d (record_path g)
-        → ((i : ℕ) → c (stage_path g i) ≡ d (stage_path g i)) → judged c taken g ≡ judged d taken g }
+    ensures alike { (c d : Map) (taken : List (List ℕ)) (g : ℕ) →
+        c (record_path g) ≡ d (record_path g) →
+        ((i : ℕ) → c (stage_path g i) ≡ d (stage_path g i)) → judged c taken g ≡ judged d taken g }
 {}
 
 /// An image whose open groups are in form recovers to one map, that of its records.

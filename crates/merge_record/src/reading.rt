@@ -131,7 +131,8 @@ fn kind_of(size: usize, bytes: &[u8]) -> Result<(Kind, &[u8]), RecordFault>
 
 /// The path that the bytes spell, if they spell one.
 pub fn path_from(alloc: Global, text: &[u8]) -> Result<Option<Path>, AllocError>
-    ensures { IfOk result (λ found. MatchOption found (is_utf8 text.now && is_path text.now ≡ false)
+    ensures { IfOk result (λ found.
+        MatchOption found (is_utf8 text.now && is_path text.now ≡ false)
         (λ p. (p ≡ text.now) × (is_utf8 text.now && is_path text.now ≡ true))) }
 {
     let Ok(text) = from_utf8(text) else {
@@ -199,7 +200,8 @@ fn placements_of(
     count: u32,
     bytes: &[u8],
 ) -> Result<(Vec<Placement>, &[u8]), RecordFault>
-    ensures { Gives (λ x. (x.0.items, x.1.now)) result (many_at (placement_at size) count bytes.now) }
+    ensures { Gives (λ x. (x.0.items, x.1.now)) result
+        (many_at (placement_at size) count bytes.now) }
 {
     let mut placements = Vec::new(alloc);
     let mut rest = bytes;
@@ -226,7 +228,8 @@ fn placed_of(
     before: usize,
     bytes: &[u8],
 ) -> Result<(Vec<Placement>, &[u8]), RecordFault>
-    ensures { Gives (λ x. (x.0.items, x.1.now)) result (counted_at before (placement_at size) bytes.now) }
+    ensures { Gives (λ x. (x.0.items, x.1.now)) result
+        (counted_at before (placement_at size) bytes.now) }
 {
     let (count, rest) = count_of(before, bytes)?;
     placements_of(alloc, size, count, rest)

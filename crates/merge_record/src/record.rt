@@ -31,5 +31,6 @@ impl Model for Record {
 
     ghost Value = { Content };
 
-    ghost view = { λ r. record { group = r.group; removals = r.removals.items; placements = r.placements.items } };
+    ghost view = { λ r. record
+        { group = r.group; removals = r.removals.items; placements = r.placements.items } };
 }

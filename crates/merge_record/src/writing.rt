@@ -79,8 +79,10 @@ fn put_paths(out: &mut Vec<u8>, paths: &[Path]) -> Result<(), AllocError>
 }
 
 fn put_placements(out: &mut Vec<u8>, placements: &[Placement]) -> Result<(), AllocError>
-    ensures text { OnOk result (out.new.items ≡ out.old.items ++ flat_map placement_text placements.now) }
-    ensures form { OnOk result (AllByRecursion (λ p. IsPathText p.path × (length p.md5 ≡ 16)) placements.now) }
+    ensures text { OnOk result (out.new.items ≡
+        out.old.items ++ flat_map placement_text placements.now) }
+    ensures form { OnOk result (AllByRecursion
+        (λ p. IsPathText p.path × (length p.md5 ≡ 16)) placements.now) }
 {
     for placement in placements {
         put_placement(out, placement)?;
@@ -98,11 +100,12 @@ fn spelled(
     requires removed { length removals.now < 2 ^ 32 }
     requires placed { length placements.now < 2 ^ 32 }
     ensures text { IfOk result (λ v. v.items ≡
-        lead ++ (number_text 4 group ++
-        (counted path_text removals.now ++ counted placement_text placements.now))) }
+        lead ++ (number_text 4 group ++ (counted path_text removals.now ++
+        counted placement_text placements.now))) }
     ensures group { group < 2 ^ 32 }
     ensures removals { OnOk result (AllByRecursion IsPathText removals.now) }
-    ensures placements { OnOk result (AllByRecursion (λ p. IsPathText p.path × (length p.md5 ≡ 16)) placements.now) }
+    ensures placements { OnOk result (AllByRecursion
+        (λ p. IsPathText p.path × (length p.md5 ≡ 16)) placements.now) }
 {
     let mut out = Vec::new(alloc);
     out.extend_from_slice(&LEAD)?;

@@ -8,16 +8,19 @@ use Rattle.merge_record.specs.Names.{gate_path}
 use Rattle.merge_record.specs.Open.{is_open}
 use Rattle.recovery.specs.Calls.{nothing}
 
--- the record of the open group, or of one without paths; the groups whose gate holds an object; and those of them that aren't open
+-- the record of the open group, or of one without paths; the groups whose gate holds an object; and
+-- those of them that aren't open
 pub record Found : Type 0 where
   pub what : Content
   pub gates : List ℕ
   pub closed : List ℕ
 
--- the record is that of the one open group, which is in form; where no group is open, it has no paths
+-- the record is that of the one open group, which is in form; where no group is open, it has no
+-- paths
 pub record IsWork (a : Map) (r : Content) : Type 0 where
   pub small : r.group < 2 ^ 32
-  pub live : (h : ℕ) → h < 2 ^ 32 → is_open (a (gate_path h)) ≡ true → (h ≡ r.group) × (judged a [] h ≡ Ok r)
+  pub live : (h : ℕ) → h < 2 ^ 32 → is_open (a (gate_path h)) ≡ true →
+      (h ≡ r.group) × (judged a [] h ≡ Ok r)
   pub none : is_open (a (gate_path r.group)) ≡ false → r ≡ nothing r.group
 
 -- the groups whose gate holds an object
@@ -26,7 +29,8 @@ AreGates a gs = (h : ℕ) → Has gs h ↔ ((h < 2 ^ 32) × IsSome (a (gate_path
 
 -- the groups whose gate holds an object that isn't open
 abbrev pub AreClosed : Map → List ℕ → Type 0
-AreClosed a gs = (h : ℕ) → Has gs h ↔ ((h < 2 ^ 32) × IsSome (a (gate_path h)) × (is_open (a (gate_path h)) ≡ false))
+AreClosed a gs = (h : ℕ) → Has gs h ↔
+    ((h < 2 ^ 32) × IsSome (a (gate_path h)) × (is_open (a (gate_path h)) ≡ false))
 
 -- what was found is so in this map
 pub record IsFound (a : Map) (f : Found) : Type 0 where

@@ -12,7 +12,8 @@ RecoversAlike a c = (m : Map) × IsRecovered a m × IsRecovered c m
 
 -- no group is open, or just one, and it is in form
 abbrev pub IsMendable : Map → Type 0
-IsMendable m = (open_groups m ≡ []) ⊎ ((r : Content) × (open_groups m ≡ r.group ∷ []) × (judged m [] r.group ≡ Ok r))
+IsMendable m = (open_groups m ≡ []) ⊎ ((r : Content) × (open_groups m ≡ r.group ∷ []) ×
+    (judged m [] r.group ≡ Ok r))
 
 abbrev pub IsBroken : Map → Type 0
 IsBroken m = IsMendable m → ⊥

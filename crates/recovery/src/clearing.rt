@@ -31,10 +31,12 @@ pub(crate) fn remove_gates<T: Tree>(
     tree: &mut T,
     groups: &[u32],
 ) -> Result<(), TreeFault>
-    ensures moments { IsTrue T.tells → (a : Map) (r : Content) → IsWork a r → AreGates a groups.now → IsMended a r (T.story tree.old).now
-        → Since (λ c. IsRecovered c (mended a r)) (T.story tree.old) (T.story tree.new) }
-    ensures ok { IsTrue T.tells → (a : Map) (r : Content) → IsWork a r → AreGates a groups.now → IsMended a r (T.story tree.old).now
-        → OnOk result (IsShut (mended a r) (T.story tree.new).now) }
+    ensures moments { IsTrue T.tells → (a : Map) (r : Content) → IsWork a r →
+        AreGates a groups.now → IsMended a r (T.story tree.old).now →
+        Since (λ c. IsRecovered c (mended a r)) (T.story tree.old) (T.story tree.new) }
+    ensures ok { IsTrue T.tells → (a : Map) (r : Content) → IsWork a r → AreGates a groups.now →
+        IsMended a r (T.story tree.old).now →
+        OnOk result (IsShut (mended a r) (T.story tree.new).now) }
     ensures count { T.faults tree.old ≤ T.faults tree.new }
     ensures cause { IsErrOf result TreeFault.Failed → Rose (T.faults tree.old) (T.faults tree.new) }
 {
@@ -46,8 +48,10 @@ pub(crate) fn remove_gates<T: Tree>(
 
 /// Removes all that is below the journal's folder, and syncs.
 pub fn clear_journal<T: Tree>(alloc: Global, tree: &mut T) -> Result<(), TreeFault>
-    ensures moments { IsTrue T.tells → (m : Map) → IsShut m (T.story tree.old).now → Since (λ c. IsRecovered c (cleared m)) (T.story tree.old) (T.story tree.new) }
-    ensures cleared { IsTrue T.tells → (m : Map) → IsShut m (T.story tree.old).now → OnOk result ((q : List ℕ) → (T.story tree.new).now.holds q ≡ cleared m q) }
+    ensures moments { IsTrue T.tells → (m : Map) → IsShut m (T.story tree.old).now →
+        Since (λ c. IsRecovered c (cleared m)) (T.story tree.old) (T.story tree.new) }
+    ensures cleared { IsTrue T.tells → (m : Map) → IsShut m (T.story tree.old).now →
+        OnOk result ((q : List ℕ) → (T.story tree.new).now.holds q ≡ cleared m q) }
     ensures settled { IsTrue T.tells → OnOk result (IsUntouched (T.story tree.new).now) }
     ensures count { T.faults tree.old ≤ T.faults tree.new }
     ensures cause { IsErrOf result TreeFault.Failed → Rose (T.faults tree.old) (T.faults tree.new) }

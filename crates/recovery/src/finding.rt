@@ -1,4 +1,5 @@
-ghost use Rattle.std.specs.Prelude.{◌≡◌, ◌≤◌, ◌<◌, ◌^◌, ◌↔◌, ◌⊎◌, ◌∷◌, [], ℕ, List, Ok, false, true, filter, length, not, IfOk, IsErrOf, IsTrue, OnOk};
+ghost use Rattle.std.specs.Prelude.{◌≡◌, ◌≤◌, ◌<◌, ◌^◌, ◌↔◌, ◌⊎◌, ◌∷◌, [], ℕ, List, Ok, false};
+ghost use Rattle.std.specs.Prelude.{true, filter, length, not, IfOk, IsErrOf, IsTrue, OnOk};
 ghost use Rattle.basics.specs.Members.{AreDistinct, Has};
 ghost use Rattle.file_tree.specs.Disk.{Rose};
 ghost use Rattle.merge_record.specs.Content.{Content};
@@ -20,7 +21,8 @@ use std::alloc::{AllocError, Global};
 /// The groups whose gate is among the paths.
 fn gates_among(alloc: Global, paths: &[Path]) -> Result<Vec<u32>, AllocError>
     requires { AreDistinct paths.now }
-    ensures gates { IfOk result (λ v. (h : ℕ) → Has v.items h ↔ ((h < 2 ^ 32) × Has paths.now (gate_path h))) }
+    ensures gates { IfOk result (λ v. (h : ℕ) →
+        Has v.items h ↔ ((h < 2 ^ 32) × Has paths.now (gate_path h))) }
     ensures distinct { IfOk result (λ v. AreDistinct v.items) }
 {
     let mut groups = Vec::new(alloc);
@@ -34,7 +36,8 @@ fn gates_among(alloc: Global, paths: &[Path]) -> Result<Vec<u32>, AllocError>
 
 /// The groups whose gate holds an object.
 fn find_gates<T: Tree>(alloc: Global, tree: &mut T) -> Result<Vec<u32>, TreeFault>
-    ensures gates { IsTrue T.tells → IfOk result (λ v. AreGates (T.story tree.old).now.holds v.items) }
+    ensures gates { IsTrue T.tells → IfOk result
+        (λ v. AreGates (T.story tree.old).now.holds v.items) }
     ensures distinct { IfOk result (λ v. AreDistinct v.items) }
     ensures same { IsTrue T.tells → T.story tree.new ≡ T.story tree.old }
     ensures count { T.faults tree.old ≤ T.faults tree.new }
@@ -47,7 +50,8 @@ fn find_gates<T: Tree>(alloc: Global, tree: &mut T) -> Result<Vec<u32>, TreeFaul
 
 /// Whether the group is open.
 fn is_group_open<T: Tree>(alloc: Global, tree: &mut T, group: u32) -> Result<bool, TreeFault>
-    ensures answer { IsTrue T.tells → IfOk result (λ is_it. is_it ≡ is_open ((T.story tree.old).now.holds (gate_path group))) }
+    ensures answer { IsTrue T.tells → IfOk result
+        (λ is_it. is_it ≡ is_open ((T.story tree.old).now.holds (gate_path group))) }
     ensures same { IsTrue T.tells → T.story tree.new ≡ T.story tree.old }
     ensures count { T.faults tree.old ≤ T.faults tree.new }
     ensures cause { IsErrOf result TreeFault.Failed → Rose (T.faults tree.old) (T.faults tree.new) }
@@ -65,8 +69,12 @@ fn parted<T: Tree>(
     tree: &mut T,
     groups: &[u32],
 ) -> Result<(Vec<u32>, Vec<u32>), TreeFault>
-    ensures open { IsTrue T.tells → IfOk result (λ x. x.0.items ≡ filter (λ h. is_open ((T.story tree.old).now.holds (gate_path h))) groups.now) }
-    ensures shut { IsTrue T.tells → IfOk result (λ x. x.1.items ≡ filter (λ h. not (is_open ((T.story tree.old).now.holds (gate_path h)))) groups.now) }
+    ensures open { IsTrue T.tells → IfOk result
+        (λ x. x.0.items ≡ filter
+        (λ h. is_open ((T.story tree.old).now.holds (gate_path h))) groups.now) }
+    ensures shut { IsTrue T.tells → IfOk result
+        (λ x. x.1.items ≡ filter
+        (λ h. not (is_open ((T.story tree.old).now.holds (gate_path h)))) groups.now) }
     ensures same { IsTrue T.tells → T.story tree.new ≡ T.story tree.old }
     ensures count { T.faults tree.old ≤ T.faults tree.new }
     ensures cause { IsErrOf result TreeFault.Failed → Rose (T.faults tree.old) (T.faults tree.new) }
@@ -86,14 +94,18 @@ fn parted<T: Tree>(
 /// The record of the one group that is open, or one without paths where none is.
 fn judge_open<T: Tree>(alloc: Global, tree: &mut T, groups: &[u32]) -> Result<Record, RecoverFault>
     ensures none { groups.now ≡ [] → IfOk result (λ r. r ≡ nothing 0) }
-    ensures one { IsTrue T.tells → (g : ℕ) → groups.now ≡ g ∷ [] → IfOk result (λ r. judged (T.story tree.old).now.holds [] g ≡ Ok r) }
+    ensures one { IsTrue T.tells → (g : ℕ) → groups.now ≡ g ∷ [] →
+        IfOk result (λ r. judged (T.story tree.old).now.holds [] g ≡ Ok r) }
     ensures few { OnOk result (length groups.now < 2) }
     ensures free { IfOk result (λ r. are_free [] (footprint r) ≡ true) }
     ensures short { IfOk result (λ r. length r.placements < 2 ^ 32) }
-    ensures refused { IsTrue T.tells → IsErrOf result RecoverFault.Journal → (1 < length groups.now) ⊎ ((g : ℕ) × (groups.now ≡ g ∷ []) × ((r : Content) → judged (T.story tree.old).now.holds [] g ≡ Ok r → ⊥)) }
+    ensures refused { IsTrue T.tells → IsErrOf result RecoverFault.Journal →
+        (1 < length groups.now) ⊎ ((g : ℕ) × (groups.now ≡ g ∷ []) ×
+        ((r : Content) → judged (T.story tree.old).now.holds [] g ≡ Ok r → ⊥)) }
     ensures same { IsTrue T.tells → T.story tree.new ≡ T.story tree.old }
     ensures count { T.faults tree.old ≤ T.faults tree.new }
-    ensures cause { IsErrOf result RecoverFault.Failed → Rose (T.faults tree.old) (T.faults tree.new) }
+    ensures cause { IsErrOf result RecoverFault.Failed →
+        Rose (T.faults tree.old) (T.faults tree.new) }
 {
     match groups {
         [] => Ok(Record {
@@ -114,10 +126,12 @@ pub(crate) fn read_journal<T: Tree>(alloc: Global, tree: &mut T) -> Result<Journ
     ensures found { IsTrue T.tells → IfOk result (IsFound (T.story tree.old).now.holds) }
     ensures free { IfOk result (λ f. are_free [] (footprint f.what) ≡ true) }
     ensures short { IfOk result (λ f. length f.what.placements < 2 ^ 32) }
-    ensures refused { IsTrue T.tells → IsErrOf result RecoverFault.Journal → IsBroken (T.story tree.old).now.holds }
+    ensures refused { IsTrue T.tells → IsErrOf result RecoverFault.Journal →
+        IsBroken (T.story tree.old).now.holds }
     ensures same { IsTrue T.tells → T.story tree.new ≡ T.story tree.old }
     ensures count { T.faults tree.old ≤ T.faults tree.new }
-    ensures cause { IsErrOf result RecoverFault.Failed → Rose (T.faults tree.old) (T.faults tree.new) }
+    ensures cause { IsErrOf result RecoverFault.Failed →
+        Rose (T.faults tree.old) (T.faults tree.new) }
 {
     let gates = find_gates(alloc, tree)?;
     let (opened, closed) = parted(alloc, tree, &gates)?;

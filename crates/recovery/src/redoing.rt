@@ -1,4 +1,5 @@
-ghost use Rattle.std.specs.Prelude.{◌≡◌, ◌≤◌, ◌<◌, ◌^◌, [], ℕ, true, length, map, IfOk, IsErrOf, IsSome, IsTrue, OnOk};
+ghost use Rattle.std.specs.Prelude.{◌≡◌, ◌≤◌, ◌<◌, ◌^◌, [], ℕ, true, length, map, IfOk, IsErrOf};
+ghost use Rattle.std.specs.Prelude.{IsSome, IsTrue, OnOk};
 ghost use Rattle.file_tree.specs.Disk.{IsUntouched, Rose};
 ghost use Rattle.file_tree.specs.Moments.{Since};
 ghost use Rattle.merge_record.specs.Judging.{are_free, footprint};
@@ -20,12 +21,17 @@ use std::alloc::{AllocError, Global};
 fn apply<T: Tree>(alloc: Global, tree: &mut T, what: &Record) -> Result<(), RecoverFault>
     requires free { are_free [] (footprint what.now) ≡ true }
     requires short { length what.now.placements < 2 ^ 32 }
-    requires there { IsTrue T.tells → (i : ℕ) → i < length what.now.placements → IsSome ((T.story tree.old).now.holds (stage_path what.now.group i)) }
-    ensures asked { IsTrue T.tells → Asked (footprint what.now) (T.story tree.old) (T.story tree.new) }
-    ensures ok { IsTrue T.tells → OnOk result ((T.story tree.new).now ≡ placed what.now.group 0 what.now.placements (removed what.now.removals (T.story tree.old).now)) }
+    requires there { IsTrue T.tells → (i : ℕ) → i < length what.now.placements →
+        IsSome ((T.story tree.old).now.holds (stage_path what.now.group i)) }
+    ensures asked { IsTrue T.tells → Asked (footprint what.now) (T.story tree.old)
+        (T.story tree.new) }
+    ensures ok { IsTrue T.tells → OnOk result
+        ((T.story tree.new).now ≡ placed what.now.group 0 what.now.placements
+        (removed what.now.removals (T.story tree.old).now)) }
     ensures refused { IsErrOf result RecoverFault.Journal → ⊥ }
     ensures count { T.faults tree.old ≤ T.faults tree.new }
-    ensures cause { IsErrOf result RecoverFault.Failed → Rose (T.faults tree.old) (T.faults tree.new) }
+    ensures cause { IsErrOf result RecoverFault.Failed →
+        Rose (T.faults tree.old) (T.faults tree.new) }
 {
     let count = what.placements.len() as u32;
     let paths = JournalPaths::new(alloc, what.group, count)?;
@@ -55,8 +61,10 @@ fn empty_record(alloc: Global, group: u32) -> Result<Object, AllocError>
 
 /// Puts a record without paths over that of each group.
 fn empty_records<T: Tree>(alloc: Global, tree: &mut T, groups: &[u32]) -> Result<(), TreeFault>
-    ensures asked { IsTrue T.tells → Asked (map record_path groups.now) (T.story tree.old) (T.story tree.new) }
-    ensures ok { IsTrue T.tells → OnOk result ((T.story tree.new).now ≡ emptied groups.now (T.story tree.old).now) }
+    ensures asked { IsTrue T.tells → Asked (map record_path groups.now) (T.story tree.old)
+        (T.story tree.new) }
+    ensures ok { IsTrue T.tells → OnOk result
+        ((T.story tree.new).now ≡ emptied groups.now (T.story tree.old).now) }
     ensures count { T.faults tree.old ≤ T.faults tree.new }
     ensures cause { IsErrOf result TreeFault.Failed → Rose (T.faults tree.old) (T.faults tree.new) }
 {
@@ -78,11 +86,15 @@ pub(crate) fn redo<T: Tree>(
     requires free { are_free [] (footprint journal.now.what) ≡ true }
     requires short { length journal.now.what.placements < 2 ^ 32 }
     requires untouched { IsTrue T.tells → IsUntouched (T.story tree.old).now }
-    ensures moments { IsTrue T.tells → Since (λ c. IsRecovered c (mended (T.story tree.old).now.holds journal.now.what)) (T.story tree.old) (T.story tree.new) }
-    ensures ok { IsTrue T.tells → OnOk result (IsMended (T.story tree.old).now.holds journal.now.what (T.story tree.new).now) }
+    ensures moments { IsTrue T.tells → Since
+        (λ c. IsRecovered c (mended (T.story tree.old).now.holds journal.now.what))
+        (T.story tree.old) (T.story tree.new) }
+    ensures ok { IsTrue T.tells → OnOk result
+        (IsMended (T.story tree.old).now.holds journal.now.what (T.story tree.new).now) }
     ensures refused { IsErrOf result RecoverFault.Journal → ⊥ }
     ensures count { T.faults tree.old ≤ T.faults tree.new }
-    ensures cause { IsErrOf result RecoverFault.Failed → Rose (T.faults tree.old) (T.faults tree.new) }
+    ensures cause { IsErrOf result RecoverFault.Failed →
+        Rose (T.faults tree.old) (T.faults tree.new) }
 {
     apply(alloc, tree, &journal.what)?;
     empty_records(alloc, tree, &journal.closed)?;

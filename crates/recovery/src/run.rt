@@ -15,15 +15,22 @@ use std::alloc::Global;
 /// stands below the journal's folder.
 pub fn recover<T: Tree>(alloc: Global, tree: &mut T) -> Result<(), RecoverFault>
     // After Ok the tree reads as the recovered tree of what it read as, and a crash leaves just that.
-    ensures recovered { IsTrue T.tells → OnOk result (IsRecovered (T.story tree.old).now.holds (T.story tree.new).now.holds × IsUntouched (T.story tree.new).now) }
+    ensures recovered { IsTrue T.tells → OnOk result
+        (IsRecovered (T.story tree.old).now.holds (T.story tree.new).now.holds ×
+        IsUntouched (T.story tree.new).now) }
     // Each image of each moment since the call began is one of its beginning, or recovers to the same tree.
-    ensures moments { IsTrue T.tells → Since (λ c. IsImage (T.story tree.old).now c ⊎ RecoversAlike (T.story tree.old).now.holds c) (T.story tree.old) (T.story tree.new) }
+    ensures moments { IsTrue T.tells → Since
+        (λ c. IsImage (T.story tree.old).now c ⊎ RecoversAlike (T.story tree.old).now.holds c)
+        (T.story tree.old) (T.story tree.new) }
     // It is refused exactly where two or more gates are open or the open group isn't in form, and
     // then the tree reads as before.
-    ensures refused { IsTrue T.tells → IsErrOf result RecoverFault.Journal → IsBroken (T.story tree.old).now.holds × ((T.story tree.new).now.holds ≡ (T.story tree.old).now.holds) }
+    ensures refused { IsTrue T.tells → IsErrOf result RecoverFault.Journal →
+        IsBroken (T.story tree.old).now.holds ×
+        ((T.story tree.new).now.holds ≡ (T.story tree.old).now.holds) }
     ensures ok { IsTrue T.tells → OnOk result (IsBroken (T.story tree.old).now.holds → ⊥) }
     ensures count { T.faults tree.old ≤ T.faults tree.new }
-    ensures cause { IsErrOf result RecoverFault.Failed → Rose (T.faults tree.old) (T.faults tree.new) }
+    ensures cause { IsErrOf result RecoverFault.Failed →
+        Rose (T.faults tree.old) (T.faults tree.new) }
 {
     tree.sync()?;
     let journal = read_journal(alloc, tree)?;

@@ -43,7 +43,8 @@ impl Calls {
 
     /// The call of this number is to fail.
     pub fn fail_at(&mut self, call: u64) -> Result<(), AllocError>
-        ensures ok { OnOk result ((n : ℕ) → call_fails self.new n ≡ (n == call) || call_fails self.old n) }
+        ensures ok { OnOk result ((n : ℕ) →
+            call_fails self.new n ≡ (n == call) || call_fails self.old n) }
         ensures err { OnErr result ((n : ℕ) → call_fails self.new n ≡ call_fails self.old n) }
         ensures counts { counts_of self.new ≡ counts_of self.old }
     {

@@ -29,7 +29,8 @@ fn grant(
 ) -> Result<(), AllocError>
     requires rising { IsRising items.old.items }
     ensures rising { OnOk result (IsRising items.new.items) }
-    ensures held { OnOk result (held items.new.items ≡ with_path (held items.old.items) path.now wish.now) }
+    ensures held { OnOk result (held items.new.items ≡
+        with_path (held items.old.items) path.now wish.now) }
 {
     match wish {
         Some(object) => {

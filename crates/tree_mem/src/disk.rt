@@ -95,7 +95,8 @@ impl MemDisk {
 
     /// The paths below this one that hold something, in byte order.
     pub fn list(&self, below: &Path) -> Result<Vec<Path>, AllocError>
-        ensures answer { IfOk result (λ v. Lists (disk_story self.now).now.holds below.now v.items) }
+        ensures answer { IfOk result (λ v.
+            Lists (disk_story self.now).now.holds below.now v.items) }
         ensures rising { IfOk result (λ v. IsStrictlySortedBy (slice_cmp nat_cmp) v.items) }
     {
         items::list(self.alloc, self.objects.as_slice(), below)
@@ -136,7 +137,8 @@ impl MemDisk {
 
     /// Makes the path hold nothing, and touches it.
     pub fn clear(&mut self, path: &Path) -> Result<(), AllocError>
-        ensures ok { OnOk result (disk_story self.new ≡ with_write (disk_story self.old) path.now None) }
+        ensures ok { OnOk result (disk_story self.new ≡
+            with_write (disk_story self.old) path.now None) }
         ensures err { OnErr result (disk_story self.new ≡ disk_story self.old) }
     {
         self.changes.reserve(1)?;

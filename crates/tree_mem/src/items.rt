@@ -17,7 +17,8 @@ use std::mem;
 /// The place of the item with this path, or the place where it belongs.
 pub fn find(items: &[(Path, Object)], text: &str) -> Result<usize, usize>
     requires rising { IsRising items.now }
-    ensures { MatchResult result (λ i. StandsAt items.now text.now i) (λ i. GoesAt items.now text.now i) }
+    ensures { MatchResult result (λ i. StandsAt items.now text.now i)
+        (λ i. GoesAt items.now text.now i) }
 {
     let mut low = 0;
     let mut high = items.len();

@@ -29,7 +29,8 @@ impl MemSink {
 
     /// Makes the write of this number, counted from 1, fail. It then takes no byte.
     pub fn fail_at(&mut self, call: u64) -> Result<(), AllocError>
-        ensures ok { OnOk result ((n : ℕ) → sink_fails self.new n ≡ (n == call) || sink_fails self.old n) }
+        ensures ok { OnOk result ((n : ℕ) →
+            sink_fails self.new n ≡ (n == call) || sink_fails self.old n) }
         ensures err { OnErr result ((n : ℕ) → sink_fails self.new n ≡ sink_fails self.old n) }
         ensures bytes { sink_bytes self.new ≡ sink_bytes self.old }
         ensures counts { sink_counts self.new ≡ sink_counts self.old }
@@ -72,7 +73,8 @@ impl Sink for MemSink {
         ensures listed { IsTrue (next_write_fails self.old) → IsErr result }
         ensures counts { CountsWrite (is_err result) self.old self.new }
         ensures plan { (n : ℕ) → sink_fails self.new n ≡ sink_fails self.old n }
-        ensures faults { CountsFault (IsErr result) (sink_fault_count self.old) (sink_fault_count self.new) }
+        ensures faults { CountsFault (IsErr result) (sink_fault_count self.old)
+            (sink_fault_count self.new) }
     {
         if self.calls.begin() {
             self.calls.fail();

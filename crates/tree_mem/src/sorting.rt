@@ -14,7 +14,8 @@ fn add(items: &mut Vec<(Path, Object)>, path: Path, object: Object) -> Result<()
     requires rising { IsRising items.old.items }
     ensures rising { OnOk result (IsRising items.new.items) }
     ensures fresh { OnOk result (held items.old.items path ≡ None) }
-    ensures held { OnOk result (held items.new.items ≡ with_path (held items.old.items) path (Some object)) }
+    ensures held { OnOk result (held items.new.items ≡
+        with_path (held items.old.items) path (Some object)) }
     ensures fault { IfErr result (IsFaultAt items.old.items path) }
 {
     match items::find(items.as_slice(), path.text()) {

@@ -36,7 +36,8 @@ impl MemTree {
         ensures distinct { IfOk result (λ t. AreDistinct (paths objects.items)) }
         ensures untouched { IfOk result (λ t. IsUntouched (mem_story t).now) }
         ensures past { IfOk result (λ t. (mem_story t).past ≡ []) }
-        ensures counts { IfOk result (λ t. mem_counts t ≡ record { calls = 0; faults = 0; refused = 0 }) }
+        ensures counts { IfOk result (λ t. mem_counts t ≡
+            record { calls = 0; faults = 0; refused = 0 }) }
         ensures fails { IfOk result (λ t. (n : ℕ) → mem_fails t n ≡ false) }
         ensures fault { IfErr result (IsMemFault (paths objects.items)) }
     {
@@ -49,7 +50,8 @@ impl MemTree {
 
     /// Makes the call of this number, counted from 1, fail.
     pub fn fail_at(&mut self, call: u64) -> Result<(), AllocError>
-        ensures ok { OnOk result ((n : ℕ) → mem_fails self.new n ≡ (n == call) || mem_fails self.old n) }
+        ensures ok { OnOk result ((n : ℕ) →
+            mem_fails self.new n ≡ (n == call) || mem_fails self.old n) }
         ensures err { OnErr result (SameFailures self.old self.new) }
         ensures story { mem_story self.new ≡ mem_story self.old }
         ensures counts { mem_counts self.new ≡ mem_counts self.old }
@@ -83,7 +85,8 @@ impl MemTree {
     /// All objects, in byte order of their paths.
     pub fn objects(&self) -> &[(Path, Object)]
         ensures rising { IsStrictlySortedBy (slice_cmp nat_cmp) (paths result.now) }
-        ensures held { (p : List ℕ) (x : Thing) → Contains result.now (p, x) ↔ (mem_holds self.now p ≡ Some x) }
+        ensures held { (p : List ℕ) (x : Thing) → Contains result.now (p, x) ↔
+            (mem_holds self.now p ≡ Some x) }
     {
         self.disk.objects()
     }
@@ -97,7 +100,8 @@ impl MemTree {
         ensures touched { OnOk result (AllTouched (mem_story self.now).now.touched choice.now) }
         ensures untouched { IfOk result (λ t. IsUntouched (mem_story t).now) }
         ensures past { IfOk result (λ t. (mem_story t).past ≡ []) }
-        ensures counts { IfOk result (λ t. mem_counts t ≡ record { calls = 0; faults = 0; refused = 0 }) }
+        ensures counts { IfOk result (λ t. mem_counts t ≡
+            record { calls = 0; faults = 0; refused = 0 }) }
         ensures fails { IfOk result (λ t. (n : ℕ) → mem_fails t n ≡ false) }
         ensures fault { IfErr result (IsImageFault (mem_story self.now).now.touched choice.now) }
     {
@@ -240,7 +244,8 @@ impl Tree for MemTree {
     }
 
     fn remove(&mut self, path: &Path) -> Result<(), Failed>
-        ensures ok { OnOk result (mem_story self.new ≡ with_write (mem_story self.old) path.now None) }
+        ensures ok { OnOk result (mem_story self.new ≡
+            with_write (mem_story self.old) path.now None) }
         ensures moved { Moves (mem_story self.old) path.now (mem_story self.new) }
         ensures listed { IsTrue (next_fails self.old) → IsErr result }
         ensures err { OnErr result (FailsAt self.old path.now self.new) }

@@ -26,7 +26,8 @@ pub enum Database {
 pub fn read_database<T: Tree>(alloc: Global, tree: &mut T) -> Result<Database, TreeFault>
     ensures stands { IsTrue T.tells → IfOk result (Stands (T.story tree.old).now.holds) }
     ensures same { IsTrue T.tells → T.story tree.new ≡ T.story tree.old }
-    ensures faults { CountsFault (IsErrOf result TreeFault.Failed) (T.faults tree.old) (T.faults tree.new) }
+    ensures faults { CountsFault (IsErrOf result TreeFault.Failed) (T.faults tree.old)
+        (T.faults tree.new) }
 {
     let database = path_of_database(alloc)?;
     let listed = tree.list(&database)?;
@@ -50,7 +51,8 @@ pub fn read_database<T: Tree>(alloc: Global, tree: &mut T) -> Result<Database, T
 
 /// The one package in whose folder the path is.
 fn package_of(alloc: Global, path: &Path) -> Result<Option<PackageId>, AllocError>
-    ensures { IfOk result (λ r. MatchOption r ((id : Id) → IsInFolder id path.now → ⊥)
+    ensures { IfOk result (λ r.
+        MatchOption r ((id : Id) → IsInFolder id path.now → ⊥)
         (λ id. IsId id × ((other : Id) → IsInFolder other path.now → other ≡ id))) }
 {
     let Some((category, pf)) = folder_of(path.text()) else {

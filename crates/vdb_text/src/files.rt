@@ -65,7 +65,8 @@ fn text_of_contents(alloc: Global, entry: &Entry) -> Result<String, AllocError>
 
 /// The text of SLOT.
 fn text_of_slots(alloc: Global, facts: &Facts) -> Result<String, AllocError>
-    ensures { IfOk result (λ t. string_bytes t ≡ slot_text facts.now.slot facts.now.subslot ++ (10 ∷ [])) }
+    ensures { IfOk result (λ t. string_bytes t ≡
+        slot_text facts.now.slot facts.now.subslot ++ (10 ∷ [])) }
 {
     let slots = print_slots(alloc, &facts.slot, &facts.subslot)?;
     format!(in alloc; "{slots}\n")

@@ -17,6 +17,7 @@ pub fn one_installed()
 
 /// A law: the files of a package's record are below the database's folder, each at its own path.
 pub fn files_apart()
-    ensures below { (id : PackageId) (name : List ℕ) → is_below database_path (record_path id name) ≡ true }
+    ensures below { (id : PackageId) (name : List ℕ) →
+        is_below database_path (record_path id name) ≡ true }
     ensures apart { (id : PackageId) (a b : List ℕ) → record_path id a ≡ record_path id b → a ≡ b }
 {}

@@ -28,7 +28,8 @@ pub(crate) fn read_record<T: Tree>(
         IsRecorded (T.story tree.old).now.holds id.now slot subslot → ⊥)
         (λ v. IsRecorded (T.story tree.old).now.holds id.now v.slot v.subslot)) }
     ensures same { IsTrue T.tells → T.story tree.new ≡ T.story tree.old }
-    ensures faults { CountsFault (IsErrOf result TreeFault.Failed) (T.faults tree.old) (T.faults tree.new) }
+    ensures faults { CountsFault (IsErrOf result TreeFault.Failed) (T.faults tree.old)
+        (T.faults tree.new) }
 {
     let contents = path_of_record(alloc, id, "CONTENTS")?;
     let eapi = path_of_record(alloc, id, "EAPI")?;
@@ -59,7 +60,8 @@ fn holds_text<T: Tree>(tree: &mut T, path: &Path, text: &str) -> Result<bool, Tr
     ensures holds { IsTrue T.tells → IfOk result
         (λ b. IsTrue b ↔ ((T.story tree.old).now.holds path.now ≡ Some (plain text.now))) }
     ensures same { IsTrue T.tells → T.story tree.new ≡ T.story tree.old }
-    ensures faults { CountsFault (IsErrOf result TreeFault.Failed) (T.faults tree.old) (T.faults tree.new) }
+    ensures faults { CountsFault (IsErrOf result TreeFault.Failed) (T.faults tree.old)
+        (T.faults tree.new) }
 {
     match tree.read(path)? {
         Some(object) => Ok(is_plain(&object, text)),
@@ -79,7 +81,8 @@ fn holds_contents<T: Tree>(alloc: Global, tree: &mut T, path: &Path) -> Result<b
         (λ b. MatchBool b (HasContents ((T.story tree.old).now.holds path.now))
         (HasContents ((T.story tree.old).now.holds path.now) → ⊥)) }
     ensures same { IsTrue T.tells → T.story tree.new ≡ T.story tree.old }
-    ensures faults { CountsFault (IsErrOf result TreeFault.Failed) (T.faults tree.old) (T.faults tree.new) }
+    ensures faults { CountsFault (IsErrOf result TreeFault.Failed) (T.faults tree.old)
+        (T.faults tree.new) }
 {
     match tree.read(path)? {
         Some(object) => Ok(object.kind == Kind::Plain && is_contents(alloc, &object.bytes)?),
@@ -98,7 +101,8 @@ fn read_slots<T: Tree>(
         HasSlots ((T.story tree.old).now.holds path.now) slot subslot → ⊥)
         (λ v. HasSlots ((T.story tree.old).now.holds path.now) v.slot v.subslot)) }
     ensures same { IsTrue T.tells → T.story tree.new ≡ T.story tree.old }
-    ensures faults { CountsFault (IsErrOf result TreeFault.Failed) (T.faults tree.old) (T.faults tree.new) }
+    ensures faults { CountsFault (IsErrOf result TreeFault.Failed) (T.faults tree.old)
+        (T.faults tree.new) }
 {
     match tree.read(path)? {
         Some(object) => Ok(slots_of(alloc, &object)?),
@@ -107,8 +111,8 @@ fn read_slots<T: Tree>(
 }
 
 fn slots_of(alloc: Global, object: &Object) -> Result<Option<SlotValue>, AllocError>
-    ensures { IfOk result (λ r. MatchOption r
-        ((slot subslot : List ℕ) → HasSlots (Some object.now) slot subslot → ⊥)
+    ensures { IfOk result (λ r.
+        MatchOption r ((slot subslot : List ℕ) → HasSlots (Some object.now) slot subslot → ⊥)
         (λ v. HasSlots (Some object.now) v.slot v.subslot)) }
 {
     if object.kind != Kind::Plain {

@@ -21,10 +21,11 @@ pub fn read_entry<T: Tree>(
         (λ f. IsEntry ((T.story tree.old).now.holds path.now) f.slot f.subslot) }
     ensures iuse { IfOk result (λ f. f.iuse ≡ []) }
     ensures enabled { IfOk result (λ f. f.enabled ≡ []) }
-    ensures odd { IsTrue T.tells → IsErrOf result CandidateFault.OddEntry → (slot subslot : List ℕ) →
-        IsEntry ((T.story tree.old).now.holds path.now) slot subslot → ⊥ }
+    ensures odd { IsTrue T.tells → IsErrOf result CandidateFault.OddEntry →
+        (slot subslot : List ℕ) → IsEntry ((T.story tree.old).now.holds path.now) slot subslot → ⊥ }
     ensures same { IsTrue T.tells → T.story tree.new ≡ T.story tree.old }
-    ensures faults { CountsFault (IsErrOf result CandidateFault.Failed) (T.faults tree.old) (T.faults tree.new) }
+    ensures faults { CountsFault (IsErrOf result CandidateFault.Failed) (T.faults tree.old)
+        (T.faults tree.new) }
 {
     let Some(object) = tree.read(path)? else {
         return Err(CandidateFault::OddEntry);
@@ -43,8 +44,8 @@ pub fn read_entry<T: Tree>(
 
 /// The slot and the subslot that an entry says, if it is in the one form.
 fn entry_slots(alloc: Global, object: &Object) -> Result<Option<SlotValue>, AllocError>
-    ensures { IfOk result (λ r. MatchOption r
-        ((slot subslot : List ℕ) → IsEntry (Some object.now) slot subslot → ⊥)
+    ensures { IfOk result (λ r.
+        MatchOption r ((slot subslot : List ℕ) → IsEntry (Some object.now) slot subslot → ⊥)
         (λ v. IsEntry (Some object.now) v.slot v.subslot)) }
 {
     if object.kind != Kind::Plain {

@@ -26,12 +26,15 @@ pub fn candidates<T: Tree>(
     tree: &mut T,
     name: &Name,
 ) -> Result<Vec<Facts>, CandidateFault>
-    ensures offers { IsTrue T.tells → IfOk result (λ v. AreOffers (T.story tree.old).now.holds name.now v.items) }
-    ensures all_read { IsTrue T.tells → IfOk result (λ v. HasOddEntry (T.story tree.old).now.holds name.now → ⊥) }
+    ensures offers { IsTrue T.tells → IfOk result
+        (λ v. AreOffers (T.story tree.old).now.holds name.now v.items) }
+    ensures all_read { IsTrue T.tells → IfOk result
+        (λ v. HasOddEntry (T.story tree.old).now.holds name.now → ⊥) }
     ensures odd { IsTrue T.tells → IsErrOf result CandidateFault.OddEntry →
         HasOddEntry (T.story tree.old).now.holds name.now }
     ensures same { IsTrue T.tells → T.story tree.new ≡ T.story tree.old }
-    ensures faults { CountsFault (IsErrOf result CandidateFault.Failed) (T.faults tree.old) (T.faults tree.new) }
+    ensures faults { CountsFault (IsErrOf result CandidateFault.Failed) (T.faults tree.old)
+        (T.faults tree.new) }
 {
     pms_version::order_is_that_of_keys();
     slot_value::one_slot_value();
@@ -48,14 +51,16 @@ fn read_listed<T: Tree>(
     name: &Name,
     listed: &[Path],
 ) -> Result<Vec<Facts>, CandidateFault>
-    requires filled { IsTrue T.tells → All (λ q. IsSome ((T.story tree.old).now.holds q)) listed.now }
+    requires filled { IsTrue T.tells → All
+        (λ q. IsSome ((T.story tree.old).now.holds q)) listed.now }
     requires rising { IsStrictlySortedBy (slice_cmp nat_cmp) listed.now }
     ensures read { IsTrue T.tells → IfOk result
         (λ v. AreRead (T.story tree.old).now.holds name.now listed.now v.items) }
     ensures odd { IsTrue T.tells → IsErrOf result CandidateFault.OddEntry →
         HasOddEntry (T.story tree.old).now.holds name.now }
     ensures same { IsTrue T.tells → T.story tree.new ≡ T.story tree.old }
-    ensures faults { CountsFault (IsErrOf result CandidateFault.Failed) (T.faults tree.old) (T.faults tree.new) }
+    ensures faults { CountsFault (IsErrOf result CandidateFault.Failed) (T.faults tree.old)
+        (T.faults tree.new) }
 {
     version_text::one_spelling();
     pms_version::order_is_that_of_keys();
@@ -80,8 +85,8 @@ fn id_at(
 ) -> Result<Option<PackageId>, AllocError>
     requires stem { stem.now ≡ entry_stem name.now }
     requires names { AreNames name.now }
-    ensures { IfOk result (λ r. MatchOption r
-        ((id : Id) → IsId id → id.name ≡ name.now → path.now ≡ cache_path id → ⊥)
+    ensures { IfOk result (λ r.
+        MatchOption r ((id : Id) → IsId id → id.name ≡ name.now → path.now ≡ cache_path id → ⊥)
         (λ id. IsId id × (id.name ≡ name.now) × (path.now ≡ cache_path id))) }
 {
     let Some(rest) = path.text().strip_prefix(stem) else {
@@ -96,7 +101,8 @@ fn id_at(
 
 /// The version that the whole text is, if it is one.
 fn read_version(alloc: Global, text: &str) -> Result<Option<Version>, AllocError>
-    ensures { IfOk result (λ r. MatchOption r ((p : Parts) → IsReadable p → text.now ≡ spelling p → ⊥)
+    ensures { IfOk result (λ r.
+        MatchOption r ((p : Parts) → IsReadable p → text.now ≡ spelling p → ⊥)
         (λ v. IsReadable v × (text.now ≡ spelling v))) }
 {
     match Version::parse(alloc, text) {
