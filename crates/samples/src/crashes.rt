@@ -37,6 +37,19 @@ pub fn with_touched(
     tree.image(&choice).map_err(|_| AllocError)
 }
 
+/// The tree as a crash leaves it in which each of these paths that was changed since the last sync
+/// has a plain file of the one byte 2, whether it reads as something or not.
+pub fn with_odd(alloc: Global, tree: &MemTree, paths: &[&str]) -> Result<MemTree, AllocError> {
+    let mut choice = Vec::new(alloc);
+    for text in paths {
+        let path = Path::parse(alloc, text).map_err(|_| AllocError)?;
+        if is_touched(alloc, tree, &path)? {
+            choice.push((path, object_of(alloc, Some([2u8].as_slice()))?))?;
+        }
+    }
+    tree.image(&choice).map_err(|_| AllocError)
+}
+
 /// The tree as a crash leaves it that loses each object at a path which was changed since the last
 /// sync.
 pub fn without_touched(alloc: Global, tree: &MemTree) -> Result<MemTree, AllocError> {

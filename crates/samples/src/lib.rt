@@ -12,18 +12,12 @@
 //! ```
 #![tactic(auto)]
 
-#[cfg(test)]
-mod atoms;
 mod crashes;
 mod image_builder;
 mod runs;
-#[cfg(test)]
-mod stops;
-#[cfg(test)]
-mod tests;
 mod trees;
 
-pub use crashes::{as_read, listing, with_touched, without_touched};
+pub use crashes::{as_read, listing, with_odd, with_touched, without_touched};
 pub use image_builder::ImageBuilder;
 pub use runs::{Run, run_on, run_with};
 pub use trees::{cached, file, sample_image, sample_tree, tree_of};

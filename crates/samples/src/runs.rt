@@ -16,6 +16,8 @@ pub struct Run {
     pub said: String,
     pub history: Vec<u32>,
     pub acknowledged: Vec<u32>,
+    /// How many builders the pool has at rest.
+    pub resting: usize,
     /// Those of all builders.
     pub faults: u128,
     pub tree: MemTree,
@@ -77,6 +79,7 @@ fn summary(alloc: Global, ended: Ended<MemTree, MemSink, ImageBuilder>) -> Resul
         acknowledged,
     } = ended;
     let code = number_of(status);
+    let resting = pool.resting();
     let faults = faults_of(pool);
     let said = text_of(alloc, out)?;
     Ok(Run {
@@ -84,6 +87,7 @@ fn summary(alloc: Global, ended: Ended<MemTree, MemSink, ImageBuilder>) -> Resul
         said,
         history,
         acknowledged,
+        resting,
         faults,
         tree,
     })

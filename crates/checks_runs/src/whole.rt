@@ -1,7 +1,7 @@
-use crate::{
+use file_tree::{Entry, Kind};
+use samples::{
     ImageBuilder, Run, cached, file, listing, run_on, run_with, sample_image, sample_tree, tree_of,
 };
-use file_tree::{Entry, Kind};
 use std::alloc::{AllocError, Global};
 use std::test::Fail;
 use tree_mem::{MemSink, MemTree};
@@ -160,6 +160,7 @@ fn a_builder_that_fails(rt: HostRuntime) -> Result<(), Fail> {
         "15 emerge: BuildFailed: c/p-1\n"
     );
     assert_eq!(rt; run.faults, 1);
+    assert_eq!(rt; run.resting, 1);
     let before = sample_tree(alloc)?;
     assert_eq!(rt; listing(alloc, &run.tree)?, listing(alloc, &before)?);
     Ok(())
@@ -180,6 +181,57 @@ fn first_write_fails(rt: HostRuntime) -> Result<(), Fail> {
     assert_eq!(rt; told(alloc, &run)?.as_str(), "17 emerge: OutputFault\n");
     assert_eq!(rt; run.history.as_slice(), [1].as_slice());
     assert_eq!(rt; run.acknowledged.len(), 0);
+    Ok(())
+}
+
+/// What a run of these words over this tree comes to, whose write of this number fails.
+fn told_of_write(
+    alloc: Global,
+    words: &str,
+    tree: MemTree,
+    write: u64,
+) -> Result<String, AllocError> {
+    let mut out = MemSink::new(alloc);
+    out.fail_at(write)?;
+    let builder = ImageBuilder::new(7, sample_image(alloc)?);
+    told(alloc, &run_with(alloc, words, tree, out, builder)?)
+}
+
+#[test]
+fn last_line_fails(rt: HostRuntime) -> Result<(), Fail> {
+    let alloc = rt.alloc();
+    for (words, write, wanted) in [
+        ("=c/p-1", 2, "17 done 1 +c/p-1\n"),
+        ("=c/p-2", 1, "17 "),
+        ("c", 1, "17 "),
+    ] {
+        let came = told_of_write(alloc, words, sample_tree(alloc)?, write)?;
+        assert_eq!(rt; came.as_str(), wanted, "{words}");
+    }
+    let mut tree = sample_tree(alloc)?;
+    tree.fail_at(1)?;
+    assert_eq!(rt; told_of_write(alloc, "=c/p-1", tree, 1)?.as_str(), "16 ");
+    Ok(())
+}
+
+/// How many builders are at rest behind a run of these words whose call of this number fails.
+fn resting(alloc: Global, words: &str, call: u64) -> Result<usize, AllocError> {
+    let mut tree = sample_tree(alloc)?;
+    tree.fail_at(call)?;
+    Ok(run_on(alloc, words, tree, sample_image(alloc)?)?.resting)
+}
+
+#[test]
+fn builders_are_at_rest_behind_each_ending(rt: HostRuntime) -> Result<(), Fail> {
+    for words in ["=c/p-1", "=c/p-2", "c"] {
+        for call in 1..40 {
+            assert_eq!(rt;
+                resting(rt.alloc(), words, call)?,
+                1,
+                "{words} at call {call}"
+            );
+        }
+    }
     Ok(())
 }
 

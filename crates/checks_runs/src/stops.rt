@@ -1,11 +1,11 @@
-use crate::tests::told;
-use crate::{
-    Run, as_read, cached, file, listing, run_on, sample_image, sample_tree, tree_of, with_touched,
-    without_touched,
-};
+use crate::whole::told;
 use file_tree::{Kind, Path};
 use merge_record::{Placement, Record, digest_of, encode};
 use recovery::recover;
+use samples::{
+    Run, as_read, cached, file, listing, run_on, sample_image, sample_tree, tree_of, with_odd,
+    with_touched, without_touched,
+};
 use std::alloc::{AllocError, Global};
 use std::test::Fail;
 use tree_mem::MemTree;
@@ -49,6 +49,57 @@ fn a_run_that_is_stopped_at_any_call_ends_well_when_it_is_run_again(
         );
     }
     assert!(rt; ended);
+    Ok(())
+}
+
+/// The files of the journal of group 1, which the run removes at its end.
+const JOURNAL: [&str; 5] = [
+    "var/lib/portage/jobs/00000001/gate",
+    "var/lib/portage/jobs/00000001/record",
+    "var/lib/portage/jobs/00000001/token",
+    "var/lib/portage/jobs/00000001/stage/00000000",
+    "var/lib/portage/jobs/00000001/stage/00000001",
+];
+
+#[test]
+fn files_of_the_journal_that_come_back_are_harmless(rt: HostRuntime) -> Result<(), Fail> {
+    let alloc = rt.alloc();
+    let whole = ending(alloc, sample_tree(alloc)?)?;
+    for call in 1..=33 {
+        let run = stopped(alloc, sample_tree(alloc)?, call)?;
+        let odd = with_odd(alloc, &run.tree, JOURNAL.as_slice())?;
+        assert_eq!(rt; ending(alloc, odd)?, whole, "at call {call}");
+    }
+    Ok(())
+}
+
+/// A tree with an open group that removes `usr/old`, where that holds an object.
+fn removing(alloc: Global) -> Result<MemTree, AllocError> {
+    let old = Path::parse(alloc, "usr/old").map_err(|_| AllocError)?;
+    let record = Record {
+        group: 1,
+        removals: vec![in alloc; old]?,
+        placements: Vec::new(alloc),
+    };
+    let mut filed = entry(alloc, "record", "")?;
+    filed.object.bytes = encode(alloc, &record).map_err(|_| AllocError)?;
+    let gate = entry(alloc, "gate", "\u{1}")?;
+    let stands = file(alloc, "usr/old", Kind::Plain, "a").map_err(|_| AllocError)?;
+    let beside = file(alloc, "usr/older", Kind::Plain, "b").map_err(|_| AllocError)?;
+    let entries = vec![in alloc; gate, filed, stands, beside]?;
+    tree_of(alloc, entries).map_err(|_| AllocError)
+}
+
+#[test]
+fn removals_are_recovered(rt: HostRuntime) -> Result<(), Fail> {
+    let alloc = rt.alloc();
+    for call in 1..20 {
+        let mut tree = removing(alloc)?;
+        tree.stop_at(call);
+        let _ = recover(alloc, &mut tree);
+        let left = recovered(alloc, without_touched(alloc, &tree)?)?;
+        assert_eq!(rt; left.as_str(), "usr/older b\n", "at call {call}");
+    }
     Ok(())
 }
 
@@ -117,8 +168,9 @@ fn a_recovery_that_is_stopped_at_any_call_ends_well_when_it_is_run_again(
 ) -> Result<(), Fail> {
     let alloc = rt.alloc();
     let whole = ending(alloc, sample_tree(alloc)?)?;
-    for first in 1..40 {
-        for second in 1..40 {
+    // The gate is placed at call 20, and the journal is cleared by call 33.
+    for first in 19..34 {
+        for second in 1..20 {
             assert_eq!(rt;
                 third(alloc, first, second)?,
                 whole,

@@ -1,5 +1,5 @@
-use crate::tests::{told, told_on};
-use crate::{Run, cached, listing, run_on, sample_image, tree_of};
+use crate::whole::{told, told_on};
+use samples::{Run, cached, listing, run_on, sample_image, tree_of};
 use std::alloc::{AllocError, Global};
 use std::test::Fail;
 
