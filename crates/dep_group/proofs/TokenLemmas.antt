@@ -106,7 +106,7 @@ only_sole g w Closes h = tt
 only_sole g w Glued h = tt
 only_sole g w Unknown h = tt
 
-one_only : {L : Type 0} (g : Grammar L) → OneSpelling g → (w : List ℕ) (t : Token (Opener (List ℕ)) L) → IsToken g w t → IsOnlyToken g w t
+pub one_only : {L : Type 0} (g : Grammar L) → OneSpelling g → (w : List ℕ) (t : Token (Opener (List ℕ)) L) → IsToken g w t → IsOnlyToken g w t
 one_only g one w (Leaf a) h = (h, λ b is e. one a b h.1 is (sym h.0 ∙ e))
 one_only g one w (Begins o) h = h
 one_only g one w Opens h = h
@@ -188,6 +188,10 @@ reads_same g w t u sole (unknown e k n) (good r) = absurd (n u r)
 reads_same g w t u sole (unknown e k n) (glued f l) = absurd (k l)
 reads_same g w t u sole (unknown e k n) (unknown f l m) = e ∙ sym f
 
+-- a word is read as one token
+pub token_same : {L : Type 0} (g : Grammar L) (w : List ℕ) (t u : Token (Opener (List ℕ)) L) → IsOnlyToken g w t → IsToken g w u → t ≡ u
+token_same g w t u h k = reads_same g w t u (only_sole g w t h) (read_as g w t (only_is g w t h)) (read_as g w u k)
+
 -- words are read as one list of tokens
 pub tokens_same : {L : Type 0} (g : Grammar L) (ws : List (List ℕ)) (ts us : List (Token (Opener (List ℕ)) L)) → AreOnlyTokens g ws ts → AreTokens g ws us → ts ≡ us
 tokens_same g [] [] [] h k = refl
@@ -196,7 +200,7 @@ tokens_same g [] (t ∷ ts) us h k = absurd h
 tokens_same g (w ∷ ws) [] us h k = absurd h
 tokens_same g (w ∷ ws) (t ∷ ts) [] h k = absurd k
 tokens_same g (w ∷ ws) (t ∷ ts) (u ∷ us) h k =
-    ap (λ x. x ∷ ts) (reads_same g w t u (only_sole g w t h.0) (read_as g w t (only_is g w t h.0)) (read_as g w u k.0)) ∙ ap (λ xs. u ∷ xs) (tokens_same g ws ts us h.1 k.1)
+    ap (λ x. x ∷ ts) (token_same g w t u h.0 k.0) ∙ ap (λ xs. u ∷ xs) (tokens_same g ws ts us h.1 k.1)
 
 -- the token is no fault
 abbrev is_good : {L : Type 0} → Token (Opener (List ℕ)) L → Bool
