@@ -220,17 +220,17 @@ opens_shape (shapes.When on) = false
 opens_shape shapes.Item = false
 
 -- the test of `OpensHere`
-abbrev opens_here : List (List ℕ) → Bool
-opens_here [] = false
-opens_here (w ∷ ws) = opens_shape (shape w)
+abbrev opens_here : Bool → List (List ℕ) → Bool
+opens_here brackets [] = false
+opens_here brackets (w ∷ ws) = opens_shape (shape brackets w)
 
-opens_here-is : {L : Type 0} (g : Grammar L) (ws : List (List ℕ)) → OpensHere g ws → opens_here ws ≡ true
+opens_here-is : {L : Type 0} (g : Grammar L) (ws : List (List ℕ)) → OpensHere g ws → opens_here g.brackets ws ≡ true
 opens_here-is g [] h = absurd h
 opens_here-is g (w ∷ ws) h = ap opens_shape h
 
-opens_here-not : {L : Type 0} (g : Grammar L) (ws : List (List ℕ)) → (OpensHere g ws → ⊥) → opens_here ws ≡ false
+opens_here-not : {L : Type 0} (g : Grammar L) (ws : List (List ℕ)) → (OpensHere g ws → ⊥) → opens_here g.brackets ws ≡ false
 opens_here-not g [] h = refl
-opens_here-not g (w ∷ ws) h = of_shape (shape w) h
+opens_here-not g (w ∷ ws) h = of_shape (shape g.brackets w) h
   where
     of_shape : (s : Shape) → (s ≡ shapes.Opens → ⊥) → opens_shape s ≡ false
     of_shape shapes.Opens h = absurd (h refl)
@@ -259,7 +259,7 @@ begins_as g b = Begins b
 record Told {L : Type 0} (g : Grammar L) (w : List ℕ) (ws : List (List ℕ)) (at : ℕ) (f : GroupFault) : Type 0 where
   t : Token (Opener (List ℕ)) L
   token : IsToken g w t
-  same : f ≡ told t (opens_here ws) at
+  same : f ≡ told t (opens_here g.brackets ws) at
 
 told_here : {L : Type 0} (g : Grammar L) (barred : L → Bool) (front : List (List ℕ)) (unclosed : ℕ) (w : List ℕ) (ws : List (List ℕ)) (f : GroupFault) → f ≢ fault.Memory → FaultHere g barred front unclosed (w ∷ ws) f → Told g w ws (length front) f
 told_here g barred front unclosed w ws (fault.Leaf at) m h = elim h.1 [
@@ -330,7 +330,7 @@ same_here g barred one front [] m n e f p q h k =
 same_here g barred one front (w ∷ ws) m n e f p q h k =
     let a = told_here g barred front m w ws e p h in
     let b = told_here g barred front n w ws f q k in
-    a.same ∙ ap (λ t. told t (opens_here ws) (length front)) (token_same g w a.t b.t (one_only g one w a.t a.token) b.token) ∙ sym b.same
+    a.same ∙ ap (λ t. told t (opens_here g.brackets ws) (length front)) (token_same g w a.t b.t (one_only g one w a.t a.token) b.token) ∙ sym b.same
 
 -- one list cut twice
 cut_twice : {A : Type 0} (xs ys us vs : List A) → xs ++ ys ≡ us ++ vs → length xs ≤ length us → (m : List A) × (us ≡ xs ++ m) × (ys ≡ m ++ vs)

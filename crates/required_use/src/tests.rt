@@ -60,6 +60,7 @@ fn first_faults(rt: HostRuntime) -> Result<(), Fail> {
         ("a ( ( b )", "the group at 2 is not closed"),
         ("a )", "no group for the parenthesis at 2 to close"),
         ("a (b )", "a parenthesis without a space in the word at 2"),
+        ("a b[(+)]", "a parenthesis without a space in the word at 2"),
         ("a || b", "no item at 2"),
         ("-a", "no item at 0"),
         ("-a? ( b )", "no item at 0"),
