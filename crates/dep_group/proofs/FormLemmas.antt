@@ -15,9 +15,9 @@ use Rattle.dep_group.specs.Words.{is_word}
 
 -- each leaf and each condition of the grammar is one word, of the shape that it has to have
 pub record IsWritten {L : Type 0} (g : Grammar L) : Type 0 where
-  pub leaf_shape : (a : L) → g.IsLeaf a → shape (g.spell a) ≡ shapes.Item
+  pub leaf_shape : (a : L) → g.IsLeaf a → shape g.brackets (g.spell a) ≡ shapes.Item
   pub leaf_word : (a : L) → g.IsLeaf a → is_word (g.spell a) ≡ true
-  pub condition_shape : (flag : List ℕ) (on : Bool) → g.IsFlag flag → shape (condition flag on) ≡ shapes.When on
+  pub condition_shape : (flag : List ℕ) (on : Bool) → g.IsFlag flag → shape g.brackets (condition flag on) ≡ shapes.When on
   pub condition_word : (flag : List ℕ) (on : Bool) → g.IsFlag flag → is_word (condition flag on) ≡ true
 
 -- the token is one that trees of the grammar have
@@ -57,10 +57,22 @@ mutual
   made-all_tokens g no_trees rest h k = k
   made-all_tokens g (tree t ts) rest h k = made-tokens g t (all_tokens ts rest) h.0 (made-all_tokens g ts rest h.1 k)
 
-made_opener : {L : Type 0} (g : Grammar L) → IsWritten g → (o : Opener (List ℕ)) → IsOpener g o → (shape (opener_text o) ≡ opener_shape o) × (is_word (opener_text o) ≡ true)
-made_opener g w AnyOf h = (refl, refl)
-made_opener g w ExactlyOne h = (refl, refl)
-made_opener g w AtMostOne h = (refl, refl)
+any_of-shape : (brackets : Bool) → shape brackets (opener_text AnyOf) ≡ shapes.AnyOf
+any_of-shape true = refl
+any_of-shape false = refl
+
+exactly_one-shape : (brackets : Bool) → shape brackets (opener_text ExactlyOne) ≡ shapes.ExactlyOne
+exactly_one-shape true = refl
+exactly_one-shape false = refl
+
+at_most_one-shape : (brackets : Bool) → shape brackets (opener_text AtMostOne) ≡ shapes.AtMostOne
+at_most_one-shape true = refl
+at_most_one-shape false = refl
+
+made_opener : {L : Type 0} (g : Grammar L) → IsWritten g → (o : Opener (List ℕ)) → IsOpener g o → (shape g.brackets (opener_text o) ≡ opener_shape o) × (is_word (opener_text o) ≡ true)
+made_opener g w AnyOf h = (any_of-shape g.brackets, refl)
+made_opener g w ExactlyOne h = (exactly_one-shape g.brackets, refl)
+made_opener g w AtMostOne h = (at_most_one-shape g.brackets, refl)
 made_opener g w (When flag on) h = (w.condition_shape flag on h, w.condition_word flag on h)
 
 made_token : {L : Type 0} (g : Grammar L) → IsWritten g → (t : Token (Opener (List ℕ)) L) → IsMade g t → IsToken g (token_text g t) t × (is_word (token_text g t) ≡ true)

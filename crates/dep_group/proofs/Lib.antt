@@ -4,5 +4,8 @@ pub mod ShapeLemmas
 pub mod ReadingLemmas
 pub mod TokenLemmas
 pub mod FormLemmas
+pub mod OrderLemmas
+pub mod StopLemmas
+pub mod OnceLemmas
 pub mod NodeLemmas
 pub mod MapLemmas

@@ -58,11 +58,11 @@ opening-begun None rest = refl
 opening-begun (Some opener) rest = refl
 
 -- an answer under a test that is Ok where the other way is a fault
-ok_under : {A : Type 0} (b : Bool) (r : Result A GroupFault) (e : GroupFault) (x : A) → (if b then r else Err e) ≡ Ok x → (b ≡ true) × (r ≡ Ok x)
+pub ok_under : {A : Type 0} (b : Bool) (r : Result A GroupFault) (e : GroupFault) (x : A) → (if b then r else Err e) ≡ Ok x → (b ≡ true) × (r ≡ Ok x)
 ok_under true r e x h = (refl, h)
 ok_under false r e x h = absurd (cc)
 
-ok_unless : {A : Type 0} (b : Bool) (r : Result A GroupFault) (e : GroupFault) (x : A) → (if b then Err e else r) ≡ Ok x → (b ≡ false) × (r ≡ Ok x)
+pub ok_unless : {A : Type 0} (b : Bool) (r : Result A GroupFault) (e : GroupFault) (x : A) → (if b then Err e else r) ≡ Ok x → (b ≡ false) × (r ≡ Ok x)
 ok_unless true r e x h = absurd (cc)
 ok_unless false r e x h = (refl, h)
 

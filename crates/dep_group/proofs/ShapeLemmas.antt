@@ -5,7 +5,7 @@ use Rattle.std.proofs.Common.{◌≡◌, ℕ, ◌<◌, ◌∙◌, Bool, true, fa
 use Rattle.std.proofs.lemmas.Str.{IsCharBoundary-after_ascii}
 use Rattle.std.proofs.lemmas.Bool.Decides.{nat_tests}
 use Rattle.dep_group.specs.declared.shape.Shape.TheVariants.{Opens, Closes, Glued, AnyOf, ExactlyOne, AtMostOne, When, Item}
-use Rattle.dep_group.specs.Shapes.{shape, asks, denies}
+use Rattle.dep_group.specs.Shapes.{IsCondition, shape, asks, denies}
 
 when_chosen : (a b c d e f g n on : Bool) → (if a then Opens else if b then Closes else if c then Glued else if d then AnyOf else if e then ExactlyOne else if f then AtMostOne else if g then When n else Item) ≡ When on → (g ≡ true) × (n ≡ on)
 when_chosen true b c d e f g n on h = absurd (cc)
@@ -18,16 +18,16 @@ when_chosen false false false false false false true n on h = (refl, cc)
 when_chosen false false false false false false false n on h = absurd (cc)
 
 -- a condition ends in a question mark, and begins with an exclamation mark exactly where the flag is to be off
-pub shape-when : (word : List ℕ) (on : Bool) → shape word ≡ When on → (asks word ≡ true) × (not (denies word) ≡ on)
-shape-when word on h = when_chosen _ _ _ _ _ _ _ _ _ h
+pub shape-when : (brackets : Bool) (word : List ℕ) (on : Bool) → shape brackets word ≡ When on → (asks word ≡ true) × (not (denies word) ≡ on)
+shape-when brackets word on h = when_chosen _ _ _ _ _ _ _ _ _ h
 
 of_eqb : (a b : ℕ) → (a == b) ≡ true → a ≡ b
 of_eqb a b h = grind (arith, nat_tests)
 
 -- a word that begins with an exclamation mark may be cut behind it
-pub denies-boundary : (word : List ℕ) (on : Bool) → IsUtf8 word → on ≡ false → shape word ≡ When on → IsCharBoundary word 1
+pub denies-boundary : (word : List ℕ) (on : Bool) → IsUtf8 word → on ≡ false → IsCondition word on → IsCharBoundary word 1
 denies-boundary word on utf8 off h =
-    let when = shape-when word on h in
+    let when = shape-when h.0 word on h.1 in
     let first : get_or word 0 0 ≡ 33 = of_eqb (get_or word 0 0) 33 (of_not_false (denies word) (when.1 ∙ off)) in
     IsCharBoundary-after_ascii word 0 utf8 (long word first) (omega arith)
   where

@@ -106,7 +106,7 @@ only_sole g w Closes h = tt
 only_sole g w Glued h = tt
 only_sole g w Unknown h = tt
 
-one_only : {L : Type 0} (g : Grammar L) → OneSpelling g → (w : List ℕ) (t : Token (Opener (List ℕ)) L) → IsToken g w t → IsOnlyToken g w t
+pub one_only : {L : Type 0} (g : Grammar L) → OneSpelling g → (w : List ℕ) (t : Token (Opener (List ℕ)) L) → IsToken g w t → IsOnlyToken g w t
 one_only g one w (Leaf a) h = (h, λ b is e. one a b h.1 is (sym h.0 ∙ e))
 one_only g one w (Begins o) h = h
 one_only g one w Opens h = h
@@ -127,36 +127,36 @@ all_only g one [] (t ∷ ts) h = absurd h
 all_only g one (w ∷ ws) [] h = absurd h
 all_only g one (w ∷ ws) (t ∷ ts) h = (one_only g one w t h.0, all_only g one ws ts h.1)
 
-spelled_rank : {L : Type 0} (g : Grammar L) (w : List ℕ) (t : Token (Opener (List ℕ)) L) → Spells g w t → shape w ≡ shapes.Glued → ⊥
-spelled_rank g w (Leaf a) s e = absurd (omega (arith, apart (shape w) shapes.Item shapes.Glued s.2 e))
-spelled_rank g w (Begins o) s e = absurd (omega (arith, apart (shape w) (opener_shape o) shapes.Glued s.2 e, opener_rank o))
-spelled_rank g w Opens s e = absurd (omega (arith, apart (shape w) shapes.Opens shapes.Glued s e))
-spelled_rank g w Closes s e = absurd (omega (arith, apart (shape w) shapes.Closes shapes.Glued s e))
+spelled_rank : {L : Type 0} (g : Grammar L) (w : List ℕ) (t : Token (Opener (List ℕ)) L) → Spells g w t → shape g.brackets w ≡ shapes.Glued → ⊥
+spelled_rank g w (Leaf a) s e = absurd (omega (arith, apart (shape g.brackets w) shapes.Item shapes.Glued s.2 e))
+spelled_rank g w (Begins o) s e = absurd (omega (arith, apart (shape g.brackets w) (opener_shape o) shapes.Glued s.2 e, opener_rank o))
+spelled_rank g w Opens s e = absurd (omega (arith, apart (shape g.brackets w) shapes.Opens shapes.Glued s e))
+spelled_rank g w Closes s e = absurd (omega (arith, apart (shape g.brackets w) shapes.Closes shapes.Glued s e))
 spelled_rank g w Glued s e = s
 spelled_rank g w Unknown s e = s
 
 spelled_same : {L : Type 0} (g : Grammar L) (w : List ℕ) (t u : Token (Opener (List ℕ)) L) → IsSole g w t → Spells g w t → Spells g w u → t ≡ u
 spelled_same g w (Leaf a) (Leaf b) sole s r = ap Leaf (sole b r.1 r.0)
-spelled_same g w (Leaf a) (Begins o) sole s r = absurd (omega (arith, apart (shape w) shapes.Item (opener_shape o) s.2 r.2, opener_rank o))
-spelled_same g w (Leaf a) Opens sole s r = absurd (omega (arith, apart (shape w) shapes.Item shapes.Opens s.2 r))
-spelled_same g w (Leaf a) Closes sole s r = absurd (omega (arith, apart (shape w) shapes.Item shapes.Closes s.2 r))
+spelled_same g w (Leaf a) (Begins o) sole s r = absurd (omega (arith, apart (shape g.brackets w) shapes.Item (opener_shape o) s.2 r.2, opener_rank o))
+spelled_same g w (Leaf a) Opens sole s r = absurd (omega (arith, apart (shape g.brackets w) shapes.Item shapes.Opens s.2 r))
+spelled_same g w (Leaf a) Closes sole s r = absurd (omega (arith, apart (shape g.brackets w) shapes.Item shapes.Closes s.2 r))
 spelled_same g w (Leaf a) Glued sole s r = absurd r
 spelled_same g w (Leaf a) Unknown sole s r = absurd r
-spelled_same g w (Begins o) (Leaf b) sole s r = absurd (omega (arith, apart (shape w) (opener_shape o) shapes.Item s.2 r.2, opener_rank o))
+spelled_same g w (Begins o) (Leaf b) sole s r = absurd (omega (arith, apart (shape g.brackets w) (opener_shape o) shapes.Item s.2 r.2, opener_rank o))
 spelled_same g w (Begins o) (Begins p) sole s r = ap Begins (openers_same o p (sym s.0 ∙ r.0) (sym s.2 ∙ r.2))
-spelled_same g w (Begins o) Opens sole s r = absurd (omega (arith, apart (shape w) (opener_shape o) shapes.Opens s.2 r, opener_rank o))
-spelled_same g w (Begins o) Closes sole s r = absurd (omega (arith, apart (shape w) (opener_shape o) shapes.Closes s.2 r, opener_rank o))
+spelled_same g w (Begins o) Opens sole s r = absurd (omega (arith, apart (shape g.brackets w) (opener_shape o) shapes.Opens s.2 r, opener_rank o))
+spelled_same g w (Begins o) Closes sole s r = absurd (omega (arith, apart (shape g.brackets w) (opener_shape o) shapes.Closes s.2 r, opener_rank o))
 spelled_same g w (Begins o) Glued sole s r = absurd r
 spelled_same g w (Begins o) Unknown sole s r = absurd r
-spelled_same g w Opens (Leaf b) sole s r = absurd (omega (arith, apart (shape w) shapes.Opens shapes.Item s r.2))
-spelled_same g w Opens (Begins o) sole s r = absurd (omega (arith, apart (shape w) shapes.Opens (opener_shape o) s r.2, opener_rank o))
+spelled_same g w Opens (Leaf b) sole s r = absurd (omega (arith, apart (shape g.brackets w) shapes.Opens shapes.Item s r.2))
+spelled_same g w Opens (Begins o) sole s r = absurd (omega (arith, apart (shape g.brackets w) shapes.Opens (opener_shape o) s r.2, opener_rank o))
 spelled_same g w Opens Opens sole s r = refl
-spelled_same g w Opens Closes sole s r = absurd (omega (arith, apart (shape w) shapes.Opens shapes.Closes s r))
+spelled_same g w Opens Closes sole s r = absurd (omega (arith, apart (shape g.brackets w) shapes.Opens shapes.Closes s r))
 spelled_same g w Opens Glued sole s r = absurd r
 spelled_same g w Opens Unknown sole s r = absurd r
-spelled_same g w Closes (Leaf b) sole s r = absurd (omega (arith, apart (shape w) shapes.Closes shapes.Item s r.2))
-spelled_same g w Closes (Begins o) sole s r = absurd (omega (arith, apart (shape w) shapes.Closes (opener_shape o) s r.2, opener_rank o))
-spelled_same g w Closes Opens sole s r = absurd (omega (arith, apart (shape w) shapes.Closes shapes.Opens s r))
+spelled_same g w Closes (Leaf b) sole s r = absurd (omega (arith, apart (shape g.brackets w) shapes.Closes shapes.Item s r.2))
+spelled_same g w Closes (Begins o) sole s r = absurd (omega (arith, apart (shape g.brackets w) shapes.Closes (opener_shape o) s r.2, opener_rank o))
+spelled_same g w Closes Opens sole s r = absurd (omega (arith, apart (shape g.brackets w) shapes.Closes shapes.Opens s r))
 spelled_same g w Closes Closes sole s r = refl
 spelled_same g w Closes Glued sole s r = absurd r
 spelled_same g w Closes Unknown sole s r = absurd r
@@ -166,8 +166,8 @@ spelled_same g w Unknown u sole s r = absurd s
 -- what is known of a token that a word is read as
 data Read {L : Type 0} (g : Grammar L) (w : List ℕ) (t : Token (Opener (List ℕ)) L) : Type 0 where
   good : Spells g w t → Read g w t
-  glued : t ≡ Glued → shape w ≡ shapes.Glued → Read g w t
-  unknown : t ≡ Unknown → (shape w ≡ shapes.Glued → ⊥) → ((u : Token (Opener (List ℕ)) L) → Spells g w u → ⊥) → Read g w t
+  glued : t ≡ Glued → shape g.brackets w ≡ shapes.Glued → Read g w t
+  unknown : t ≡ Unknown → (shape g.brackets w ≡ shapes.Glued → ⊥) → ((u : Token (Opener (List ℕ)) L) → Spells g w u → ⊥) → Read g w t
 
 read_as : {L : Type 0} (g : Grammar L) (w : List ℕ) (t : Token (Opener (List ℕ)) L) → IsToken g w t → Read g w t
 read_as g w (Leaf a) h = good h
@@ -188,6 +188,10 @@ reads_same g w t u sole (unknown e k n) (good r) = absurd (n u r)
 reads_same g w t u sole (unknown e k n) (glued f l) = absurd (k l)
 reads_same g w t u sole (unknown e k n) (unknown f l m) = e ∙ sym f
 
+-- a word is read as one token
+pub token_same : {L : Type 0} (g : Grammar L) (w : List ℕ) (t u : Token (Opener (List ℕ)) L) → IsOnlyToken g w t → IsToken g w u → t ≡ u
+token_same g w t u h k = reads_same g w t u (only_sole g w t h) (read_as g w t (only_is g w t h)) (read_as g w u k)
+
 -- words are read as one list of tokens
 pub tokens_same : {L : Type 0} (g : Grammar L) (ws : List (List ℕ)) (ts us : List (Token (Opener (List ℕ)) L)) → AreOnlyTokens g ws ts → AreTokens g ws us → ts ≡ us
 tokens_same g [] [] [] h k = refl
@@ -196,7 +200,7 @@ tokens_same g [] (t ∷ ts) us h k = absurd h
 tokens_same g (w ∷ ws) [] us h k = absurd h
 tokens_same g (w ∷ ws) (t ∷ ts) [] h k = absurd k
 tokens_same g (w ∷ ws) (t ∷ ts) (u ∷ us) h k =
-    ap (λ x. x ∷ ts) (reads_same g w t u (only_sole g w t h.0) (read_as g w t (only_is g w t h.0)) (read_as g w u k.0)) ∙ ap (λ xs. u ∷ xs) (tokens_same g ws ts us h.1 k.1)
+    ap (λ x. x ∷ ts) (token_same g w t u h.0 k.0) ∙ ap (λ xs. u ∷ xs) (tokens_same g ws ts us h.1 k.1)
 
 -- the token is no fault
 abbrev is_good : {L : Type 0} → Token (Opener (List ℕ)) L → Bool
@@ -240,17 +244,17 @@ closes_chosen false false false false false true g n h = absurd (cc)
 closes_chosen false false false false false false true n h = absurd (cc)
 closes_chosen false false false false false false false n h = absurd (cc)
 
-pub shape-opens : (w : List ℕ) → shape w ≡ shapes.Opens → w ≡ open_parenthesis ∷ []
-shape-opens w h = let d = bytes_eq-Decides w (open_parenthesis ∷ []) in d.0 (opens_chosen _ _ _ _ _ _ _ _ h)
+pub shape-opens : (brackets : Bool) (w : List ℕ) → shape brackets w ≡ shapes.Opens → w ≡ open_parenthesis ∷ []
+shape-opens brackets w h = let d = bytes_eq-Decides w (open_parenthesis ∷ []) in d.0 (opens_chosen _ _ _ _ _ _ _ _ h)
 
-pub shape-closes : (w : List ℕ) → shape w ≡ shapes.Closes → w ≡ close_parenthesis ∷ []
-shape-closes w h = let d = bytes_eq-Decides w (close_parenthesis ∷ []) in d.0 (closes_chosen _ _ _ _ _ _ _ _ h)
+pub shape-closes : (brackets : Bool) (w : List ℕ) → shape brackets w ≡ shapes.Closes → w ≡ close_parenthesis ∷ []
+shape-closes brackets w h = let d = bytes_eq-Decides w (close_parenthesis ∷ []) in d.0 (closes_chosen _ _ _ _ _ _ _ _ h)
 
 spelled_text : {L : Type 0} (g : Grammar L) (w : List ℕ) (t : Token (Opener (List ℕ)) L) → Spells g w t → w ≡ token_text g t
 spelled_text g w (Leaf a) s = s.0
 spelled_text g w (Begins o) s = s.0
-spelled_text g w Opens s = shape-opens w s
-spelled_text g w Closes s = shape-closes w s
+spelled_text g w Opens s = shape-opens g.brackets w s
+spelled_text g w Closes s = shape-closes g.brackets w s
 spelled_text g w Glued s = absurd s
 spelled_text g w Unknown s = absurd s
 
@@ -323,56 +327,56 @@ at_most_one_chosen false false false false false true g n h = refl
 at_most_one_chosen false false false false false false true n h = absurd (cc)
 at_most_one_chosen false false false false false false false n h = absurd (cc)
 
-pub shape-any_of : (w : List ℕ) → shape w ≡ shapes.AnyOf → w ≡ opener_text AnyOf
-shape-any_of w h = let d = bytes_eq-Decides w (opener_text AnyOf) in d.0 (any_of_chosen _ _ _ _ _ _ _ _ h)
+pub shape-any_of : (brackets : Bool) (w : List ℕ) → shape brackets w ≡ shapes.AnyOf → w ≡ opener_text AnyOf
+shape-any_of brackets w h = let d = bytes_eq-Decides w (opener_text AnyOf) in d.0 (any_of_chosen _ _ _ _ _ _ _ _ h)
 
-pub shape-exactly_one : (w : List ℕ) → shape w ≡ shapes.ExactlyOne → w ≡ opener_text ExactlyOne
-shape-exactly_one w h = let d = bytes_eq-Decides w (opener_text ExactlyOne) in d.0 (exactly_one_chosen _ _ _ _ _ _ _ _ h)
+pub shape-exactly_one : (brackets : Bool) (w : List ℕ) → shape brackets w ≡ shapes.ExactlyOne → w ≡ opener_text ExactlyOne
+shape-exactly_one brackets w h = let d = bytes_eq-Decides w (opener_text ExactlyOne) in d.0 (exactly_one_chosen _ _ _ _ _ _ _ _ h)
 
-pub shape-at_most_one : (w : List ℕ) → shape w ≡ shapes.AtMostOne → w ≡ opener_text AtMostOne
-shape-at_most_one w h = let d = bytes_eq-Decides w (opener_text AtMostOne) in d.0 (at_most_one_chosen _ _ _ _ _ _ _ _ h)
+pub shape-at_most_one : (brackets : Bool) (w : List ℕ) → shape brackets w ≡ shapes.AtMostOne → w ≡ opener_text AtMostOne
+shape-at_most_one brackets w h = let d = bytes_eq-Decides w (opener_text AtMostOne) in d.0 (at_most_one_chosen _ _ _ _ _ _ _ _ h)
 
 -- a word with the shape of a leaf that spells none
-pub unknown-item : {L : Type 0} (g : Grammar L) (w : List ℕ) → shape w ≡ shapes.Item → ((a : L) → w ≡ g.spell a → g.IsLeaf a → ⊥) → IsToken g w Unknown
-unknown-item g w e no_leaf = ((λ k. absurd (omega (arith, apart (shape w) shapes.Item shapes.Glued e k))), none)
+pub unknown-item : {L : Type 0} (g : Grammar L) (w : List ℕ) → shape g.brackets w ≡ shapes.Item → ((a : L) → w ≡ g.spell a → g.IsLeaf a → ⊥) → IsToken g w Unknown
+unknown-item g w e no_leaf = ((λ k. absurd (omega (arith, apart (shape g.brackets w) shapes.Item shapes.Glued e k))), none)
   where
     none : (t : Token (Opener (List ℕ)) _) → Spells g w t → ⊥
     none (Leaf a) s = no_leaf a s.0 s.1
-    none (Begins o) s = absurd (omega (arith, apart (shape w) shapes.Item (opener_shape o) e s.2, opener_rank o))
-    none Opens s = absurd (omega (arith, apart (shape w) shapes.Item shapes.Opens e s))
-    none Closes s = absurd (omega (arith, apart (shape w) shapes.Item shapes.Closes e s))
+    none (Begins o) s = absurd (omega (arith, apart (shape g.brackets w) shapes.Item (opener_shape o) e s.2, opener_rank o))
+    none Opens s = absurd (omega (arith, apart (shape g.brackets w) shapes.Item shapes.Opens e s))
+    none Closes s = absurd (omega (arith, apart (shape g.brackets w) shapes.Item shapes.Closes e s))
     none Glued s = s
     none Unknown s = s
 
-unknown-opener : {L : Type 0} (g : Grammar L) (w : List ℕ) (o : Opener (List ℕ)) → shape w ≡ opener_shape o → ((p : Opener (List ℕ)) → w ≡ opener_text p → shape w ≡ opener_shape p → IsOpener g p → ⊥) → IsToken g w Unknown
-unknown-opener g w o e no_opener = ((λ k. absurd (omega (arith, apart (shape w) (opener_shape o) shapes.Glued e k, opener_rank o))), none)
+unknown-opener : {L : Type 0} (g : Grammar L) (w : List ℕ) (o : Opener (List ℕ)) → shape g.brackets w ≡ opener_shape o → ((p : Opener (List ℕ)) → w ≡ opener_text p → shape g.brackets w ≡ opener_shape p → IsOpener g p → ⊥) → IsToken g w Unknown
+unknown-opener g w o e no_opener = ((λ k. absurd (omega (arith, apart (shape g.brackets w) (opener_shape o) shapes.Glued e k, opener_rank o))), none)
   where
     none : (t : Token (Opener (List ℕ)) _) → Spells g w t → ⊥
-    none (Leaf a) s = absurd (omega (arith, apart (shape w) (opener_shape o) shapes.Item e s.2, opener_rank o))
+    none (Leaf a) s = absurd (omega (arith, apart (shape g.brackets w) (opener_shape o) shapes.Item e s.2, opener_rank o))
     none (Begins p) s = no_opener p s.0 s.2 s.1
-    none Opens s = absurd (omega (arith, apart (shape w) (opener_shape o) shapes.Opens e s, opener_rank o))
-    none Closes s = absurd (omega (arith, apart (shape w) (opener_shape o) shapes.Closes e s, opener_rank o))
+    none Opens s = absurd (omega (arith, apart (shape g.brackets w) (opener_shape o) shapes.Opens e s, opener_rank o))
+    none Closes s = absurd (omega (arith, apart (shape g.brackets w) (opener_shape o) shapes.Closes e s, opener_rank o))
     none Glued s = s
     none Unknown s = s
 
 -- a condition on what is no flag
-pub unknown-when : {L : Type 0} (g : Grammar L) (w flag : List ℕ) (on : Bool) → shape w ≡ shapes.When on → w ≡ condition flag on → (g.IsFlag flag → ⊥) → IsToken g w Unknown
+pub unknown-when : {L : Type 0} (g : Grammar L) (w flag : List ℕ) (on : Bool) → shape g.brackets w ≡ shapes.When on → w ≡ condition flag on → (g.IsFlag flag → ⊥) → IsToken g w Unknown
 unknown-when g w flag on e text no_flag = unknown-opener g w (When flag on) e none
   where
     same_flag : (p : Opener (List ℕ)) → When flag on ≡ p → IsOpener g p → g.IsFlag flag
     same_flag p h k = let P : Opener (List ℕ) → Type 0 = λ o. IsOpener g o in subst P (sym h) k
 
-    none : (p : Opener (List ℕ)) → w ≡ opener_text p → shape w ≡ opener_shape p → IsOpener g p → ⊥
+    none : (p : Opener (List ℕ)) → w ≡ opener_text p → shape g.brackets w ≡ opener_shape p → IsOpener g p → ⊥
     none p t s k = no_flag (same_flag p (openers_same (When flag on) p (sym text ∙ t) (sym e ∙ s)) k)
 
 -- an opener that counts its members, where the grammar has none
-pub unknown-counts : {L : Type 0} (g : Grammar L) (w : List ℕ) (o : Opener (List ℕ)) → shape w ≡ opener_shape o → w ≡ opener_text o → (IsOpener g o → ⊥) → IsToken g w Unknown
+pub unknown-counts : {L : Type 0} (g : Grammar L) (w : List ℕ) (o : Opener (List ℕ)) → shape g.brackets w ≡ opener_shape o → w ≡ opener_text o → (IsOpener g o → ⊥) → IsToken g w Unknown
 unknown-counts g w o e text no_opener = unknown-opener g w o e none
   where
     same_opener : (p : Opener (List ℕ)) → o ≡ p → IsOpener g p → IsOpener g o
     same_opener p h k = let P : Opener (List ℕ) → Type 0 = λ q. IsOpener g q in subst P (sym h) k
 
-    none : (p : Opener (List ℕ)) → w ≡ opener_text p → shape w ≡ opener_shape p → IsOpener g p → ⊥
+    none : (p : Opener (List ℕ)) → w ≡ opener_text p → shape g.brackets w ≡ opener_shape p → IsOpener g p → ⊥
     none p t s k = no_opener (same_opener p (openers_same o p (sym text ∙ t) (sym e ∙ s)) k)
 
 -- one more word with its token

@@ -5,4 +5,5 @@ pub mod Trees
 pub mod Reading
 pub mod Tokens
 pub mod Nodes
+pub mod Faults
 pub mod Maps

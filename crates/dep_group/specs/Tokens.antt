@@ -25,12 +25,14 @@ opener_shape ExactlyOne = shapes.ExactlyOne
 opener_shape AtMostOne = shapes.AtMostOne
 opener_shape (When flag on) = shapes.When on
 
--- what a grammar of groups fixes: its leaves, their texts, its flags, and whether it has groups that count their members
+-- what a grammar of groups fixes: its leaves, their texts, its flags, whether it has groups that count their members, and whether
+-- brackets keep the parentheses in them
 pub record Grammar (L : Type 0) : Type 1 where
   pub spell : L → List ℕ
   pub IsLeaf : L → Type 0
   pub IsFlag : List ℕ → Type 0
   pub counts : Bool
+  pub brackets : Bool
 
 -- the opener is one of the grammar's
 abbrev pub IsOpener : {L : Type 0} → Grammar L → Opener (List ℕ) → Type 0
@@ -50,10 +52,10 @@ token_text g Unknown = []
 
 -- the word spells the token
 abbrev pub Spells : {L : Type 0} → Grammar L → List ℕ → Token (Opener (List ℕ)) L → Type 0
-Spells g word (Leaf a) = (word ≡ g.spell a) × g.IsLeaf a × (shape word ≡ shapes.Item)
-Spells g word (Begins opener) = (word ≡ opener_text opener) × IsOpener g opener × (shape word ≡ opener_shape opener)
-Spells g word Opens = shape word ≡ shapes.Opens
-Spells g word Closes = shape word ≡ shapes.Closes
+Spells g word (Leaf a) = (word ≡ g.spell a) × g.IsLeaf a × (shape g.brackets word ≡ shapes.Item)
+Spells g word (Begins opener) = (word ≡ opener_text opener) × IsOpener g opener × (shape g.brackets word ≡ opener_shape opener)
+Spells g word Opens = shape g.brackets word ≡ shapes.Opens
+Spells g word Closes = shape g.brackets word ≡ shapes.Closes
 Spells g word Glued = ⊥
 Spells g word Unknown = ⊥
 
@@ -63,8 +65,8 @@ IsToken g word (Leaf a) = Spells g word (Leaf a)
 IsToken g word (Begins opener) = Spells g word (Begins opener)
 IsToken g word Opens = Spells g word Opens
 IsToken g word Closes = Spells g word Closes
-IsToken g word Glued = shape word ≡ shapes.Glued
-IsToken g word Unknown = (shape word ≡ shapes.Glued → ⊥) × ((token : Token (Opener (List ℕ)) _) → Spells g word token → ⊥)
+IsToken g word Glued = shape g.brackets word ≡ shapes.Glued
+IsToken g word Unknown = (shape g.brackets word ≡ shapes.Glued → ⊥) × ((token : Token (Opener (List ℕ)) _) → Spells g word token → ⊥)
 
 -- the token is what the word is read as, and no other leaf is spelled so
 abbrev pub IsOnlyToken : {L : Type 0} → Grammar L → List ℕ → Token (Opener (List ℕ)) L → Type 0

@@ -1,5 +1,6 @@
+ghost use Rattle.std.specs.List.{list_any};
 ghost use Rattle.std.specs.Prelude.{◌≡◌, false};
-ghost use Rattle.dep_group.specs.Shapes.{asks, condition, denies, has_parenthesis, is_parenthesis, shape, stays_inside};
+ghost use Rattle.dep_group.specs.Shapes.{IsCondition, asks, condition, denies, has_parenthesis, is_glued, is_parenthesis, shape, stays_inside};
 
 /// What a word is to a text of groups.
 #[derive(Debug, Drop, Clone, Copy, PartialEq, Eq)]
@@ -8,7 +9,7 @@ pub enum Shape {
     Opens,
     /// `)`
     Closes,
-    /// A parenthesis glued to other text, outside square brackets.
+    /// A parenthesis glued to other text, outside brackets that keep it.
     Glued,
     /// `||`
     AnyOf,
@@ -22,16 +23,16 @@ pub enum Shape {
     Item,
 }
 
-/// What the word is.
-pub fn shape_of(word: &str) -> Shape
-    ensures { result ≡ shape word.now }
+/// What the word is. Where words may have brackets, these keep the parentheses in them.
+pub fn shape_of(word: &str, brackets: bool) -> Shape
+    ensures { result ≡ shape brackets word.now }
 {
     let bytes = word.as_bytes();
     if word == "(" {
         Shape::Opens
     } else if word == ")" {
         Shape::Closes
-    } else if has_parenthesis(bytes) {
+    } else if is_glued(bytes, brackets) {
         Shape::Glued
     } else if word == "||" {
         Shape::AnyOf
@@ -48,13 +49,30 @@ pub fn shape_of(word: &str) -> Shape
 
 /// The flag in the condition `flag?`, or `!flag?` where it is not on.
 pub fn flag_of(word: &str, on: bool) -> &str
-    requires { shape word.now ≡ Shape.When on }
+    requires { IsCondition word.now on }
     ensures { word.now ≡ condition result.now on }
 {
     let end = word.len() - 1;
     if on { &word[..end] } else { &word[1..end] }
 }
 
+fn is_glued(bytes: &[u8], brackets: bool) -> bool
+    ensures { result ≡ is_glued brackets bytes.now }
+{
+    if brackets {
+        has_parenthesis(bytes)
+    } else {
+        has_any_parenthesis(bytes)
+    }
+}
+
+fn has_any_parenthesis(bytes: &[u8]) -> bool
+    ensures { result ≡ list_any is_parenthesis bytes.now }
+{
+    bytes.iter().any(|b| is_parenthesis(*b))
+}
+
+/// Whether a parenthesis stands outside brackets.
 fn has_parenthesis(bytes: &[u8]) -> bool
     ensures { result ≡ has_parenthesis false bytes.now }
 {

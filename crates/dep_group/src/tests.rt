@@ -34,9 +34,10 @@ fn shapes_of_words(rt: HostRuntime) {
         ("!f?", Shape::When { on: false }),
         ("!f", Shape::Item),
     ] {
-        assert_eq!(rt; shape_of(word), want, "{word}");
+        assert_eq!(rt; shape_of(word, true), want, "{word}");
     }
-    if let Shape::When { on: false } = shape_of("!f?") {
+    assert_eq!(rt; shape_of("f[(+)]", false), Shape::Glued);
+    if let Shape::When { on: false } = shape_of("!f?", true) {
         assert_eq!(rt; flag_of("!f?", false), "f");
     }
 }

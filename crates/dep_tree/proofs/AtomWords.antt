@@ -240,10 +240,10 @@ item_chosen a b c d e f g n ha hb hc hd he hf hg = rw (ha, hb, hc, hd, he, hf, h
 when_chosen : (a b c d e f g n on : Bool) → a ≡ false → b ≡ false → c ≡ false → d ≡ false → e ≡ false → f ≡ false → g ≡ true → n ≡ on → (if a then shapes.Opens else if b then shapes.Closes else if c then shapes.Glued else if d then shapes.AnyOf else if e then shapes.ExactlyOne else if f then shapes.AtMostOne else if g then shapes.When n else shapes.Item) ≡ shapes.When on
 when_chosen a b c d e f g n on ha hb hc hd he hf hg hn = rw (ha, hb, hc, hd, he, hf, hg, hn) refl
 
-item : (w : List ℕ) → HasPlain w → has_parenthesis false w ≡ false → asks w ≡ false → shape w ≡ shapes.Item
+item : (w : List ℕ) → HasPlain w → has_parenthesis false w ≡ false → asks w ≡ false → shape true w ≡ shapes.Item
 item w h quiet ask = item_chosen _ _ _ _ _ _ _ _ (not_one w (40 ∷ []) h refl) (not_one w (41 ∷ []) h refl) quiet (not_one w (124 ∷ 124 ∷ []) h refl) (not_one w (94 ∷ 94 ∷ []) h refl) (not_one w (63 ∷ 63 ∷ []) h refl) ask
 
-asking : (w : List ℕ) (on : Bool) → HasPlain w → has_parenthesis false w ≡ false → asks w ≡ true → not (denies w) ≡ on → shape w ≡ shapes.When on
+asking : (w : List ℕ) (on : Bool) → HasPlain w → has_parenthesis false w ≡ false → asks w ≡ true → not (denies w) ≡ on → shape true w ≡ shapes.When on
 asking w on h quiet ask deny = when_chosen _ _ _ _ _ _ _ _ on (not_one w (40 ∷ []) h refl) (not_one w (41 ∷ []) h refl) quiet (not_one w (124 ∷ 124 ∷ []) h refl) (not_one w (94 ∷ 94 ∷ []) h refl) (not_one w (63 ∷ 63 ∷ []) h refl) ask deny
 
 value_plain : (a : AtomValue) → IsAtomValue a → HasPlain (value_text a)
@@ -253,7 +253,7 @@ value_plain a h =
     (plain_right (op_text a.op) (name_text a.name ++ others)
     (plain_left (name_text a.name) others (plain_left a.name.category (47 ∷ a.name.«package») (name_plain kinds.Category a.name.category h.package_form.named.category))))
 
-atom_shape : (a : AtomValue) → IsAtomValue a → shape (value_text a) ≡ shapes.Item
+atom_shape : (a : AtomValue) → IsAtomValue a → shape true (value_text a) ≡ shapes.Item
 atom_shape a h =
     item (value_text a) (value_plain a h)
     (ap (has_parenthesis false) (parted a) ∙ outside (front a) (uses_text a.uses) (front_outer a h) ∙ uses_quiet a.uses h.use_forms)
@@ -297,7 +297,7 @@ flag_denies : (flag rest : List ℕ) → ArePlain flag → HasPlain flag → den
 flag_denies [] rest h k = absurd (cc)
 flag_denies (b ∷ flag) rest h k = differs b 33 refl h.0
 
-condition_shape : (flag : List ℕ) (on : Bool) → IsFlag flag → shape (condition flag on) ≡ shapes.When on
+condition_shape : (flag : List ℕ) (on : Bool) → IsFlag flag → shape true (condition flag on) ≡ shapes.When on
 condition_shape flag true h =
     let plain = name_plain kinds.Flag flag h in
     asking (flag ++ question_mark ∷ []) true (plain_left flag (question_mark ∷ []) plain) (outside flag (question_mark ∷ []) (flag_outer flag h)) (asks-end flag question_mark) (ap not (flag_denies flag (question_mark ∷ []) (plain_name kinds.Flag flag h) plain))

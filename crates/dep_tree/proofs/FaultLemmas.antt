@@ -17,10 +17,12 @@ use Rattle.dep_group.specs.Views.{spot}
 use Rattle.dep_group.specs.Words.{Spot, texts, words, words_of}
 use Rattle.dep_group.proofs.MapLemmas.{trees_of-map, read-map}
 use Rattle.dep_group.proofs.ReadingLemmas.{trees_of-list_of}
+use Rattle.dep_group.proofs.StopLemmas.{first_word_fault, memory_word_fault}
 use Rattle.dep_group.proofs.TokenLemmas.{only_tokens, read-in_form, in_form-read, EachWord-more}
 use Rattle.dep_group.proofs.WordLemmas.{words-are_words}
 use Rattle.dep_tree.specs.declared.tree.DepOpener.{DepOpener}
-use Rattle.dep_tree.specs.Faults.{FirstFault, IsMemory, StopsWith, placed}
+use Rattle.dep_tree.specs.declared.fault.TreeTextFault.TheVariants as faults
+use Rattle.dep_tree.specs.Faults.{FirstFault, IsMemory, placed}
 use Rattle.dep_tree.specs.Grammar.{begins_any_of, blocks_as_atom, grammar, is_block}
 use Rattle.dep_tree.specs.View.{kind_of, token_view}
 
@@ -72,19 +74,17 @@ only_memory r ws groups.Memory x h k = refl
 pub only_wants_memory : (text : List ℕ) (ws us : List Spot) (ts : List (Token DepOpener Atom)) (f : GroupFault) (x : Trees (Opener (List ℕ)) AtomValue) → ws ≡ words 0 text → AreOnlyTokens grammar (texts ws) (map token_view ts) → (f ≢ groups.Memory → read begins_any_of blocks_as_atom ts 0 None [] [] ≡ Err f) → IsInForm grammar is_block x → words_of text ≡ tree_words grammar x → IsMemory (placed us f)
 only_wants_memory text ws us ts f x e h r form same = only_memory _ us f (list_of x) r (read_only text ws ts x e h form same)
 
--- the reading of the words stops with this fault
-stops : (text : List ℕ) (ws us : List Spot) (ts : List (Token DepOpener Atom)) (f : GroupFault) → ws ≡ words 0 text → us ≡ words 0 text → AreOnlyTokens grammar (texts ws) (map token_view ts) → read begins_any_of blocks_as_atom ts 0 None [] [] ≡ Err f → StopsWith text (placed us f)
-stops text ws us ts f e e' h r =
-    (map token_view ts, only_tokens grammar (words_of text) (map token_view ts) (at_words text ws ts e h), (f, lifted ts ∙ ap (answer_map kind_of atom_value) r, ap (λ vs. placed vs f) e'))
-
+-- the reading of the text's words stops with their first fault
 pub first_fault : (text : List ℕ) (ws us : List Spot) (ts : List (Token DepOpener Atom)) (f : GroupFault) → ws ≡ words 0 text → us ≡ words 0 text → AreOnlyTokens grammar (texts ws) (map token_view ts) → (f ≢ groups.Memory → read begins_any_of blocks_as_atom ts 0 None [] [] ≡ Err f) → FirstFault text (placed us f)
-first_fault text ws us ts (groups.Leaf at) e e' h r = stops text ws us ts (groups.Leaf at) e e' h (r (λ e. cc))
-first_fault text ws us ts (groups.Open at) e e' h r = stops text ws us ts (groups.Open at) e e' h (r (λ e. cc))
-first_fault text ws us ts (groups.Close at) e e' h r = stops text ws us ts (groups.Close at) e e' h (r (λ e. cc))
-first_fault text ws us ts (groups.NoSpace at) e e' h r = stops text ws us ts (groups.NoSpace at) e e' h (r (λ e. cc))
-first_fault text ws us ts (groups.Barred at) e e' h r = stops text ws us ts (groups.Barred at) e e' h (r (λ e. cc))
-first_fault text ws us ts groups.Depth e e' h r = stops text ws us ts groups.Depth e e' h (r (λ e. cc))
-first_fault text ws us ts groups.Memory e e' h r = tt
+first_fault text ws us ts f e e' h r =
+    record {
+      of_words = f;
+      first = first_word_fault grammar is_block (words_of text) (map token_view ts) f (words-are_words 0 text) (at_words text ws ts e h) (λ some. lifted ts ∙ ap (answer_map kind_of atom_value) (r some));
+      here = ap (λ vs. placed vs f) e';
+    }
+
+pub memory_fault : (text : List ℕ) → FirstFault text faults.Memory
+memory_fault text = record { of_words = groups.Memory; first = memory_word_fault grammar is_block (words_of text); here = refl }
 
 -- one more word with its token
 pub tokens-more : (ws : List Word) (i : ℕ) (w : Word) (ts : List (Token DepOpener Atom)) (t : Token DepOpener Atom) → i < length ws → AreOnlyTokens grammar (texts (map spot (take i ws))) (map token_view ts) → IsOnlyToken grammar (get_or ws i w).text.now (token_view t) → AreOnlyTokens grammar (texts (map spot (take (i + 1) ws))) (map token_view (ts ++ t ∷ []))

@@ -17,9 +17,9 @@ use Rattle.dep_tree.specs.View.{kind_of}
 abbrev pub IsFlag : List ℕ → Type 0
 IsFlag flag = IsName kinds.Flag flag
 
--- leaves are atoms, and no group counts its members
+-- leaves are atoms, which may have brackets, and no group counts its members
 abbrev pub grammar : Grammar AtomValue
-grammar = record { spell = value_text; IsLeaf = IsAtomValue; IsFlag = IsFlag; counts = false }
+grammar = record { spell = value_text; IsLeaf = IsAtomValue; IsFlag = IsFlag; counts = false; brackets = true }
 
 abbrev pub blocks : Block → Bool
 blocks No = false

@@ -1,4 +1,4 @@
-ghost use Rattle.std.specs.Prelude.{◌≡◌, ℕ, IfErr, IfOk, List, MatchOption, MatchResult, map};
+ghost use Rattle.std.specs.Prelude.{◌≡◌, ℕ, true, IfErr, IfOk, List, MatchOption, MatchResult, map};
 ghost use Rattle.dep_atom.specs.Values.{AtomValue};
 ghost use Rattle.dep_group.specs.declared.token.Opener.{Opener};
 ghost use Rattle.dep_group.specs.Words.{texts, words_of};
@@ -75,7 +75,7 @@ fn tokens(alloc: Global, words: &[Word]) -> Result<Vec<Token<DepOpener, Atom>>, 
 fn token(alloc: Global, word: &str) -> Result<Token<DepOpener, Atom>, AllocError>
     ensures { IfOk result (λ t. IsOnlyToken grammar word.now (token_view t)) }
 {
-    match shape_of(word) {
+    match shape_of(word, true) {
         Shape::Opens => Ok(Token::Opens),
         Shape::Closes => Ok(Token::Closes),
         Shape::Glued => Ok(Token::Glued),
@@ -87,7 +87,7 @@ fn token(alloc: Global, word: &str) -> Result<Token<DepOpener, Atom>, AllocError
 }
 
 fn condition(alloc: Global, word: &str, on: bool) -> Result<Token<DepOpener, Atom>, AllocError>
-    requires { shape word.now ≡ Shape.When on }
+    requires { shape true word.now ≡ Shape.When on }
     ensures { IfOk result (λ t. IsOnlyToken grammar word.now (token_view t)) }
 {
     match flag(alloc, flag_of(word, on))? {
@@ -97,7 +97,7 @@ fn condition(alloc: Global, word: &str, on: bool) -> Result<Token<DepOpener, Ato
 }
 
 fn atom(alloc: Global, word: &str) -> Result<Token<DepOpener, Atom>, AllocError>
-    requires { shape word.now ≡ Shape.Item }
+    requires { shape true word.now ≡ Shape.Item }
     ensures { IfOk result (λ t. IsOnlyToken grammar word.now (token_view t)) }
 {
     match Atom::parse(alloc, word) {

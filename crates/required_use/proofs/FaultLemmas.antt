@@ -11,11 +11,15 @@ use Rattle.dep_group.specs.Words.{Spot, texts, words, words_of}
 use Rattle.dep_group.specs.Reading.{read, list_of}
 use Rattle.dep_group.specs.Tokens.{AreTokens, IsInForm, tree_words}
 use Rattle.dep_group.proofs.WordLemmas.{words-are_words}
+use Rattle.dep_group.proofs.OnceLemmas.{no_word_fault, one_word_fault}
 use Rattle.dep_group.proofs.ReadingLemmas.{trees_of-list_of}
+use Rattle.dep_group.proofs.StopLemmas.{first_word_fault, memory_word_fault}
 use Rattle.dep_group.proofs.TokenLemmas.{OneSpelling, all_only, read-in_form, in_form-read}
 use Rattle.dep_group.specs.Trees.{Tree, Trees, trees_of, is_any_of}
 use Rattle.required_use.specs.declared.required.Item.{Item}
-use Rattle.required_use.specs.Faults.{IsMemory, placed}
+use Rattle.required_use.specs.declared.fault.RequiredFault.{RequiredFault}
+use Rattle.required_use.specs.declared.fault.RequiredFault.TheVariants as faults
+use Rattle.required_use.specs.Faults.{FirstFault, HasFault, IsExpression, IsMemory, placed}
 use Rattle.required_use.specs.Grammar.{grammar, never, item_text, IsFlag}
 
 -- what does not begin with an exclamation mark
@@ -73,3 +77,31 @@ only_memory r ws (groups.NoSpace at) out h k = absurd (both r _ out (h (λ e. cc
 only_memory r ws (groups.Barred at) out h k = absurd (both r _ out (h (λ e. cc)) k)
 only_memory r ws groups.Depth out h k = absurd (both r _ out (h (λ e. cc)) k)
 only_memory r ws groups.Memory out h k = refl
+
+-- the reading of the text's words stops with their first fault
+pub first_fault : (text : List ℕ) (ws us : List Spot) (ts : List (Token (Opener (List ℕ)) Item)) (f : GroupFault) → ws ≡ words 0 text → us ≡ words 0 text → AreTokens grammar (texts ws) ts → (f ≢ groups.Memory → read is_any_of never ts 0 None [] [] ≡ Err f) → FirstFault text (placed us f)
+first_fault text ws us ts f e e' h r =
+    let P : List Spot → Type 0 = λ vs. AreTokens grammar (texts vs) ts in
+    record {
+      of_words = f;
+      first = first_word_fault grammar never (words_of text) ts f (words-are_words 0 text) (all_only grammar one_spelling (words_of text) ts (subst P e h)) r;
+      here = ap (λ vs. placed vs f) e';
+    }
+
+pub memory_fault : (text : List ℕ) → FirstFault text faults.Memory
+memory_fault text = record { of_words = groups.Memory; first = memory_word_fault grammar never (words_of text); here = refl }
+
+not_memory : (text : List ℕ) (a : RequiredFault) (h : HasFault text a) → h.0.of_words ≢ groups.Memory
+not_memory text a h e = let here = h.0.here in h.1 (here ∙ ap (placed (words 0 text)) e)
+
+-- one fault fits a text
+pub once : (text : List ℕ) (a b : RequiredFault) → HasFault text a → HasFault text b → a ≡ b
+once text a b h k =
+    let f = h.0 in
+    let g = k.0 in
+    let same = one_word_fault grammar never one_spelling (words_of text) f.of_words g.of_words f.first g.first (not_memory text a h) (not_memory text b k) in
+    f.here ∙ ap (placed (words 0 text)) same ∙ sym g.here
+
+-- and none an expression
+pub none : (text : List ℕ) (a : RequiredFault) → IsExpression text → ¬ HasFault text a
+none text a x h = let f = h.0 in not_memory text a h (no_word_fault grammar never one_spelling (words_of text) f.of_words x f.first)

@@ -1,18 +1,13 @@
 -- The first fault of a text that is no REQUIRED_USE.
-use Rattle.std.specs.Prelude.{◌≡◌, ℕ, Bool, true, false, List, [], ◌∷◌, None, Err}
-use Rattle.dep_group.specs.Trees.{is_any_of}
-use Rattle.dep_group.specs.declared.token.Opener.{Opener}
+use Rattle.std.specs.Prelude.{◌≡◌, ℕ, Bool, true, false, List, ◌∷◌}
+use Rattle.dep_group.specs.Faults.{FirstWordFault, IsText}
+use Rattle.dep_group.specs.Shapes.{denies, exclamation_mark}
+use Rattle.dep_group.specs.Words.{Spot, place, words, words_of}
 use Rattle.dep_group.specs.declared.token.GroupFault.{GroupFault}
 use Rattle.dep_group.specs.declared.token.GroupFault.TheVariants as groups
-use Rattle.dep_group.specs.declared.token.Token.{Token}
-use Rattle.dep_group.specs.Words.{Spot, place, words, words_of}
-use Rattle.dep_group.specs.Tokens.{AreTokens}
-use Rattle.dep_group.specs.Reading.{read}
-use Rattle.dep_group.specs.Shapes.{denies, exclamation_mark}
-use Rattle.required_use.specs.declared.required.Item.{Item}
+use Rattle.required_use.specs.Grammar.{grammar, never}
 use Rattle.required_use.specs.declared.fault.RequiredFault.{RequiredFault}
 use Rattle.required_use.specs.declared.fault.RequiredFault.TheVariants as faults
-use Rattle.required_use.specs.Grammar.{grammar, never}
 
 -- the fault of a word, at the place of its first byte
 abbrev pub placed : List Spot → GroupFault → RequiredFault
@@ -27,19 +22,19 @@ placed ws groups.Memory = faults.Memory
 abbrev pub IsMemory : RequiredFault → Type 0
 IsMemory fault = fault ≡ faults.Memory
 
--- the fault with which the reading of the text's words from the left stops
-abbrev pub StopsWith : List ℕ → RequiredFault → Type 0
-StopsWith text fault =
-    (tokens : List (Token (Opener (List ℕ)) Item)) × AreTokens grammar (words_of text) tokens × ((f : GroupFault) × (read is_any_of never tokens 0 None [] [] ≡ Err f) × (fault ≡ placed (words 0 text) f))
+-- the first fault of the text is that of its words, at its place
+pub record FirstFault (text : List ℕ) (fault : RequiredFault) : Type 0 where
+  pub of_words : GroupFault
+  pub first : FirstWordFault grammar never (words_of text) of_words
+  pub here : fault ≡ placed (words 0 text) of_words
 
--- the fault is the first that the text has, from the left; memory may run out on any text
-abbrev pub FirstFault : List ℕ → RequiredFault → Type 0
-FirstFault text (faults.Item at) = StopsWith text (faults.Item at)
-FirstFault text (faults.Open at) = StopsWith text (faults.Open at)
-FirstFault text (faults.Close at) = StopsWith text (faults.Close at)
-FirstFault text (faults.NoSpace at) = StopsWith text (faults.NoSpace at)
-FirstFault text faults.Depth = StopsWith text faults.Depth
-FirstFault text faults.Memory = Unit {0}
+-- the text has this fault, which isn't want of memory
+abbrev pub HasFault : List ℕ → RequiredFault → Type 0
+HasFault text fault = FirstFault text fault × ¬ IsMemory fault
+
+-- the text's words are expressions in form
+abbrev pub IsExpression : List ℕ → Type 0
+IsExpression text = IsText grammar never (words_of text)
 
 -- the bytes without the exclamation mark at their beginning, if one is there
 abbrev pub IsDenial : List ℕ → Bool → List ℕ → Type 0

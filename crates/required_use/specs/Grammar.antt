@@ -17,9 +17,9 @@ item_text flag false = exclamation_mark ∷ flag
 abbrev pub IsFlag : List ℕ → Type 0
 IsFlag flag = IsName kinds.Flag flag
 
--- items are flags and denied flags, and groups may count their members
+-- items are flags and denied flags, groups may count their members, and nothing has brackets
 abbrev pub grammar : Grammar Item
-grammar = record { spell = λ a. item_text a.flag a.on; IsLeaf = λ a. IsFlag a.flag; IsFlag = IsFlag; counts = true }
+grammar = record { spell = λ a. item_text a.flag a.on; IsLeaf = λ a. IsFlag a.flag; IsFlag = IsFlag; counts = true; brackets = false }
 
 -- no item is kept out of any-of groups
 abbrev pub never : Item → Bool

@@ -13,4 +13,4 @@ mod required;
 mod tests;
 
 pub use fault::RequiredFault;
-pub use required::{Item, Required, RequiredUse, printed_text_has_the_words};
+pub use required::{Item, Required, RequiredUse, one_fault, printed_text_has_the_words};

@@ -1,4 +1,4 @@
-ghost use Rattle.std.specs.Prelude.{◌≡◌, ℕ, IfErr, IfOk, List, MatchOption, MatchResult, map};
+ghost use Rattle.std.specs.Prelude.{◌≡◌, ℕ, false, IfErr, IfOk, List, MatchOption, MatchResult, map};
 ghost use Rattle.dep_group.specs.declared.token.Opener.{Opener};
 ghost use Rattle.dep_group.specs.Words.{texts, words, words_of};
 ghost use Rattle.dep_group.specs.Views.{spot};
@@ -76,7 +76,7 @@ fn tokens(alloc: Global, words: &[Word]) -> Result<Vec<Token<Opener<Flag>, Item>
 fn token(alloc: Global, word: &str) -> Result<Token<Opener<Flag>, Item>, AllocError>
     ensures { IfOk result (IsToken grammar word.now) }
 {
-    match shape_of(word) {
+    match shape_of(word, false) {
         Shape::Opens => Ok(Token::Opens),
         Shape::Closes => Ok(Token::Closes),
         Shape::Glued => Ok(Token::Glued),
@@ -89,7 +89,7 @@ fn token(alloc: Global, word: &str) -> Result<Token<Opener<Flag>, Item>, AllocEr
 }
 
 fn condition(alloc: Global, word: &str, on: bool) -> Result<Token<Opener<Flag>, Item>, AllocError>
-    requires { shape word.now ≡ Shape.When on }
+    requires { shape false word.now ≡ Shape.When on }
     ensures { IfOk result (IsToken grammar word.now) }
 {
     match flag(alloc, flag_of(word, on))? {
@@ -99,7 +99,7 @@ fn condition(alloc: Global, word: &str, on: bool) -> Result<Token<Opener<Flag>, 
 }
 
 fn item(alloc: Global, word: &str) -> Result<Token<Opener<Flag>, Item>, AllocError>
-    requires { shape word.now ≡ Shape.Item }
+    requires { shape false word.now ≡ Shape.Item }
     ensures { IfOk result (IsToken grammar word.now) }
 {
     let (on, text) = denied(word);

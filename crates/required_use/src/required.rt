@@ -6,9 +6,10 @@ ghost use Rattle.pms_names.specs.Flags.{has};
 ghost use Rattle.dep_group.specs.Tokens.{IsInForm, tree_words};
 ghost use Rattle.dep_group.specs.Words.{spaced, words_of};
 ghost use Rattle.required_use.specs.declared.required.Item.{Item};
-ghost use Rattle.required_use.specs.Faults.{FirstFault, IsMemory};
+ghost use Rattle.required_use.specs.Faults.{FirstFault, HasFault, IsExpression, IsMemory};
 ghost use Rattle.required_use.specs.Grammar.{grammar, is_on, kind, never};
 ghost use Rattle.required_use.specs.View.{trees, trees_view, view};
+ghost use Rattle.required_use.specs.declared.fault.RequiredFault.{RequiredFault};
 
 use crate::fault::RequiredFault;
 use crate::{parse, print};
@@ -95,6 +96,12 @@ fn first_false(nodes: &[Required], enabled: &Flags) -> Option<usize>
 /// is printed is read back.
 pub fn printed_text_has_the_words()
     ensures { (x : Trees (Opener (List ℕ)) Item) → IsInForm grammar never x → words_of (spaced (tree_words grammar x)) ≡ tree_words grammar x }
+{}
+
+/// A law: but for want of memory a text has one fault at most, and an expression has none.
+pub fn one_fault()
+    ensures once { (text : List ℕ) (a b : RequiredFault) → HasFault text a → HasFault text b → a ≡ b }
+    ensures none { (text : List ℕ) (a : RequiredFault) → IsExpression text → ¬ HasFault text a }
 {}
 
 impl Required {

@@ -1,4 +1,4 @@
-use crate::{RequiredFault, RequiredUse};
+use crate::{RequiredFault, RequiredUse, one_fault};
 use pms_names::{Flag, Flags};
 use std::alloc::Global;
 use std::test::Fail;
@@ -55,10 +55,12 @@ fn printed_with_single_spaces(rt: HostRuntime) -> Result<(), Fail> {
 
 #[test]
 fn first_faults(rt: HostRuntime) -> Result<(), Fail> {
+    one_fault();
     for (text, want) in [
         ("a ( ( b )", "the group at 2 is not closed"),
         ("a )", "no group for the parenthesis at 2 to close"),
         ("a (b )", "a parenthesis without a space in the word at 2"),
+        ("a b[(+)]", "a parenthesis without a space in the word at 2"),
         ("a || b", "no item at 2"),
         ("-a", "no item at 0"),
         ("-a? ( b )", "no item at 0"),
