@@ -1,0 +1,197 @@
+ghost use Rattle.std.specs.Prelude.{◌≡◌, ◌≤◌, ◌++◌, ◌∷◌, [], false, length, string_bytes, IfOk};
+ghost use Rattle.dep_atom.specs.Ids.{id_text};
+ghost use Rattle.file_tree.specs.Disk.{Rose};
+
+use crate::faults::{Faults, is_memory};
+use crate::folder::Folder;
+use crate::tree::in_order;
+use build_pool::{BuildStop, Builder, Order};
+use dep_atom::PackageId;
+use file_tree::{Entry, Path};
+use std::alloc::{AllocError, Global};
+use std::io;
+use std::process::{Command, Stdio};
+
+/// A builder whose image of a package is what the folder `category/package-version` holds below a
+/// folder of images.
+#[derive(Drop)]
+pub struct FolderBuilder {
+    rt: HostRuntime,
+    images: String,
+    id: u32,
+    faults: Faults,
+    /// The folder of the image that was started last, and its paths.
+    image: Folder,
+    paths: Vec<Path>,
+}
+
+impl FolderBuilder {
+    pub fn new(rt: HostRuntime, images: &str, id: u32) -> Result<FolderBuilder, AllocError>
+        ensures { IfOk result (λ b. b.id ≡ id) }
+    {
+        Ok(FolderBuilder {
+            rt,
+            images: String::from_str(rt.alloc(), images)?,
+            id,
+            faults: Faults::new(),
+            image: Folder::new(rt, images, false)?,
+            paths: Vec::new(rt.alloc()),
+        })
+    }
+
+    /// Tells and counts a failure, unless it is want of memory.
+    fn fault(&mut self, call: &str, subject: &str, error: io::Error) -> BuildStop
+        ensures same_id { self.new.id ≡ self.old.id }
+        ensures same_paths { self.new.paths.items ≡ self.old.paths.items }
+        ensures count { self.old.faults.count ≤ self.new.faults.count }
+        ensures rose { result ≡ BuildStop.Failed → Rose self.old.faults.count self.new.faults.count }
+    {
+        if is_memory(&error) {
+            return BuildStop::Memory;
+        }
+        self.faults.tell(&self.rt, call, subject, error);
+        BuildStop::Failed
+    }
+
+    /// The image of a package: its folder, and the paths below it.
+    fn open(&self, id: &PackageId) -> io::Result<(Folder, Vec<Path>)> {
+        let name = name_of_image(self.rt.alloc(), self.images.as_str(), id)?;
+        let image = Folder::new(self.rt, name.as_str(), false)?;
+        let paths = in_order(self.rt.alloc(), image.list("")?)?;
+        Ok((image, paths))
+    }
+}
+
+/// The folder of a package's image below that of all images.
+fn name_of_image(alloc: Global, images: &str, id: &PackageId) -> Result<String, AllocError>
+    ensures { IfOk result (λ name. string_bytes name ≡ images.now ++ 47 ∷ id_text id.now) }
+{
+    let word = id.print(alloc)?;
+    format!(in alloc; "{images}/{word}")
+}
+
+impl Builder for FolderBuilder {
+    ghost tells = { false };
+
+    ghost number = { λ b. b.id };
+
+    ghost faults = { λ b. b.faults.count };
+
+    ghost told = { λ _ _. [] };
+
+    ghost started = { λ b. length b.paths.items };
+
+    ghost image = { λ _. [] };
+
+    fn id(&self) -> u32 {
+        self.id
+    }
+
+    fn fault_count(&self) -> u64 {
+        self.faults.count
+    }
+
+    fn start(&mut self, order: &Order) -> Result<u32, BuildStop> {
+        let Ok(word) = order.id.print(self.rt.alloc()) else {
+            return Err(BuildStop::Memory);
+        };
+        let (image, paths) = match self.open(&order.id) {
+            Ok(found) => found,
+            Err(error) => return Err(self.fault("image", word.as_str(), error)),
+        };
+        let Ok(count) = u32::try_from(paths.len()) else {
+            let error = io::Error::other("too many entries");
+            return Err(self.fault("image", word.as_str(), error));
+        };
+        self.image = image;
+        self.paths = paths;
+        Ok(count)
+    }
+
+    fn entry(&mut self, index: u32) -> Result<Entry, BuildStop> {
+        let Ok(path) = self.paths[index as usize].try_clone() else {
+            return Err(BuildStop::Memory);
+        };
+        match self.image.read(path.text()) {
+            Ok(Some(object)) => Ok(Entry { path, object }),
+            Ok(None) => {
+                let error = io::Error::from(io::ErrorKind::NotFound);
+                Err(self.fault("entry", path.text(), error))
+            }
+            Err(error) => Err(self.fault("entry", path.text(), error)),
+        }
+    }
+}
+
+/// A builder that has a program prepare the folder of an image: it is started with the word
+/// `category/package-version`, and fails where it doesn't end with status 0.
+#[derive(Drop)]
+pub struct CommandBuilder {
+    program: String,
+    folder: FolderBuilder,
+}
+
+impl CommandBuilder {
+    pub fn new(
+        rt: HostRuntime,
+        program: &str,
+        images: &str,
+        id: u32,
+    ) -> Result<CommandBuilder, AllocError>
+        ensures { IfOk result (λ b. b.folder.id ≡ id) }
+    {
+        Ok(CommandBuilder {
+            program: String::from_str(rt.alloc(), program)?,
+            folder: FolderBuilder::new(rt, images, id)?,
+        })
+    }
+}
+
+/// Runs the program for a package. What it writes goes to standard error.
+fn run_program(rt: &HostRuntime, program: &str, word: &str) -> io::Result<()> {
+    let mut command = Command::new(rt.alloc(), program)?;
+    command.arg(word)?;
+    command.stdin(Stdio::null()).stdout(rt.stderr());
+    let status = command.status(rt)?;
+    if status.success() {
+        Ok(())
+    } else {
+        Err(io::Error::other("the program failed"))
+    }
+}
+
+impl Builder for CommandBuilder {
+    ghost tells = { false };
+
+    ghost number = { λ b. b.folder.id };
+
+    ghost faults = { λ b. b.folder.faults.count };
+
+    ghost told = { λ _ _. [] };
+
+    ghost started = { λ b. length b.folder.paths.items };
+
+    ghost image = { λ _. [] };
+
+    fn id(&self) -> u32 {
+        self.folder.id()
+    }
+
+    fn fault_count(&self) -> u64 {
+        self.folder.fault_count()
+    }
+
+    fn start(&mut self, order: &Order) -> Result<u32, BuildStop> {
+        let Ok(word) = order.id.print(self.folder.rt.alloc()) else {
+            return Err(BuildStop::Memory);
+        };
+        match run_program(&self.folder.rt, self.program.as_str(), word.as_str()) {
+            Ok(()) => self.folder.start(order),
+            Err(error) => Err(self.folder.fault("build", word.as_str(), error)),
+        }
+    }
+
+    fn entry(&mut self, index: u32) -> Result<Entry, BuildStop> {
+        self.folder.entry(index)
+    }
+}

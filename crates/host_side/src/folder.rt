@@ -1,0 +1,270 @@
+use file_tree::{Kind, Look, Object, Path, PathFault};
+use std::alloc::{AllocError, Global};
+use std::collections::BTreeSet;
+use std::os::unix::fs::MetadataExt;
+use std::{fs, io};
+
+/// The name that an object has until it is renamed over its target. It is no part of a path, since
+/// no path has a space, a hyphen and a greater-than sign.
+pub const SPARE: &str = ".emerge ->new";
+
+/// The bits of a mode that let anybody run a file.
+const RUN_BITS: u32 = 0o111;
+
+/// What stands at a name of the host.
+#[derive(Clone, Copy, Debug, PartialEq, Eq)]
+pub enum Found {
+    Nothing,
+    Folder,
+    Item(Kind),
+    /// A device, a pipe or a socket.
+    Odd,
+}
+
+/// A folder of the host, and what is below it. No link is followed below it.
+#[derive(Drop)]
+pub struct Folder {
+    rt: HostRuntime,
+    /// The name of the folder without a slash at its end: for the top of the host no text.
+    name: String,
+    /// Whether this is a tree, in which spare objects of a stopped run may lie.
+    is_tree: bool,
+}
+
+impl Folder {
+    /// The folder of this name.
+    pub fn new(rt: HostRuntime, name: &str, is_tree: bool) -> Result<Folder, AllocError> {
+        let name = String::from_str(rt.alloc(), name.trim_end_matches('/'))?;
+        Ok(Folder { rt, name, is_tree })
+    }
+
+    pub fn rt(&self) -> &HostRuntime {
+        &self.rt
+    }
+
+    pub fn alloc(&self) -> Global {
+        self.rt.alloc()
+    }
+
+    /// The host's name of what is at a path below; that of the folder itself where there is none.
+    pub fn name_of(&self, path: &str) -> Result<String, AllocError> {
+        let name = self.name.as_str();
+        format!(in self.alloc(); "{name}/{path}")
+    }
+
+    /// What stands at a path. A part above it that is a link or no folder is an error.
+    pub fn find(&self, path: &str) -> io::Result<Found> {
+        for (at, byte) in path.as_bytes().iter().enumerate() {
+            if *byte != b'/' {
+                continue;
+            }
+            match self.at(part_before(path, at))? {
+                Found::Folder => {}
+                Found::Nothing => return Ok(Found::Nothing),
+                _ => return Err(not_a_folder()),
+            }
+        }
+        self.at(path)
+    }
+
+    /// What stands at a path whose parts above are folders.
+    fn at(&self, path: &str) -> io::Result<Found> {
+        match fs::symlink_metadata(&self.rt, self.name_of(path)?) {
+            Ok(metadata) => Ok(found_by(&metadata)),
+            Err(error) if error.kind() == io::ErrorKind::NotFound => Ok(Found::Nothing),
+            Err(error) => Err(error),
+        }
+    }
+
+    /// How a path looks: a folder is one only where something is below it.
+    pub fn look(&self, path: &str) -> io::Result<Look> {
+        match self.find(path)? {
+            Found::Nothing => Ok(Look::Nothing),
+            Found::Item(kind) => Ok(Look::Item(kind)),
+            Found::Odd => Err(odd_object()),
+            Found::Folder => match self.empty_folders(path)? {
+                Some(_) => Ok(Look::Nothing),
+                None => Ok(Look::Folder),
+            },
+        }
+    }
+
+    /// A folder and the folders below it, each behind the one that holds it, where nothing else is
+    /// below it.
+    pub fn empty_folders(&self, path: &str) -> io::Result<Option<Vec<String>>> {
+        let mut folders = Vec::new(self.alloc());
+        folders.push(String::from_str(self.alloc(), path)?)?;
+        for at in 0..usize::MAX {
+            if at >= folders.len() {
+                return Ok(Some(folders));
+            }
+            let folder = folders[at].clone()?;
+            if self.holds_some(folder.as_str(), &mut folders)? {
+                return Ok(None);
+            }
+        }
+        Err(too_many())
+    }
+
+    /// Whether anything but folders and spare objects is right in a folder; its folders are added.
+    fn holds_some(&self, folder: &str, folders: &mut Vec<String>) -> io::Result<bool> {
+        for entry in fs::read_dir(&self.rt, self.name_of(folder)?)? {
+            let entry = match entry {
+                Ok(entry) => entry,
+                Err(error) if error.kind() == io::ErrorKind::InvalidFilename => return Ok(true),
+                Err(error) => return Err(error),
+            };
+            if self.is_spare(entry.file_name()) {
+                continue;
+            }
+            match found_by(&entry.metadata()?) {
+                Found::Folder => folders.push(self.below(folder, entry.file_name())?)?,
+                _ => return Ok(true),
+            }
+        }
+        Ok(false)
+    }
+
+    /// The object at a path.
+    pub fn read(&self, path: &str) -> io::Result<Option<Object>> {
+        match self.find(path)? {
+            Found::Nothing | Found::Folder => Ok(None),
+            Found::Odd => Err(odd_object()),
+            Found::Item(Kind::Link) => {
+                let target = fs::read_link(&self.rt, self.name_of(path)?)?;
+                let bytes = Vec::from_slice(self.alloc(), target.as_str().as_bytes())?;
+                Ok(Some(object(Kind::Link, bytes)))
+            }
+            Found::Item(kind) => {
+                let bytes = fs::read(&self.rt, self.name_of(path)?)?;
+                Ok(Some(object(kind, bytes)))
+            }
+        }
+    }
+
+    /// The paths below a path, or all of them where it has no text. What is no object, or has a name
+    /// that no path has, is an error.
+    pub fn list(&self, path: &str) -> io::Result<BTreeSet<Path>> {
+        let mut paths = BTreeSet::new(self.alloc());
+        let mut folders = Vec::new(self.alloc());
+        match self.find(path)? {
+            Found::Nothing => return Ok(paths),
+            Found::Folder => folders.push(String::from_str(self.alloc(), path)?)?,
+            _ => return Err(not_a_folder()),
+        }
+        for _ in 0..u64::MAX {
+            let Some(folder) = folders.pop() else {
+                return Ok(paths);
+            };
+            self.list_right_in(folder.as_str(), &mut folders, &mut paths)?;
+        }
+        Err(too_many())
+    }
+
+    /// Adds the paths and the folders right in a folder.
+    fn list_right_in(
+        &self,
+        folder: &str,
+        folders: &mut Vec<String>,
+        paths: &mut BTreeSet<Path>,
+    ) -> io::Result<()> {
+        for entry in fs::read_dir(&self.rt, self.name_of(folder)?)? {
+            let entry = entry?;
+            let path = self.below(folder, entry.file_name())?;
+            if self.is_spare(entry.file_name()) {
+                clear_spare(&self.rt, self.name_of(path.as_str())?.as_str())?;
+                continue;
+            }
+            match found_by(&entry.metadata()?) {
+                Found::Folder => folders.push(path)?,
+                Found::Item(_) => {
+                    paths.insert(path_of(self.alloc(), path.as_str())?)?;
+                }
+                _ => return Err(odd_object()),
+            }
+        }
+        Ok(())
+    }
+
+    /// Whether a name is that of a spare object of a stopped run.
+    fn is_spare(&self, name: &str) -> bool {
+        self.is_tree && name == SPARE
+    }
+
+    /// The path of what has a name in a folder.
+    pub fn below(&self, folder: &str, name: &str) -> Result<String, AllocError> {
+        if folder.is_empty() {
+            return String::from_str(self.alloc(), name);
+        }
+        format!(in self.alloc(); "{folder}/{name}")
+    }
+}
+
+fn object(kind: Kind, bytes: Vec<u8>) -> Object {
+    Object { kind, bytes }
+}
+
+/// The part of a text before a place.
+pub fn part_before(path: &str, at: usize) -> &str {
+    match path.get(..at) {
+        Some(part) => part,
+        None => path,
+    }
+}
+
+/// What metadata says of an object.
+fn found_by(metadata: &fs::Metadata) -> Found {
+    let what = metadata.file_type();
+    if what.is_dir() {
+        Found::Folder
+    } else if what.is_symlink() {
+        Found::Item(Kind::Link)
+    } else if !what.is_file() {
+        Found::Odd
+    } else if metadata.mode() & RUN_BITS == 0 {
+        Found::Item(Kind::Plain)
+    } else {
+        Found::Item(Kind::Exec)
+    }
+}
+
+/// Removes the spare object of this name, if there is one.
+pub fn clear_spare(rt: &HostRuntime, name: &str) -> io::Result<()> {
+    match fs::remove_file(rt, name) {
+        Ok(()) => Ok(()),
+        Err(error) if error.kind() == io::ErrorKind::NotFound => Ok(()),
+        Err(error) if error.kind() == io::ErrorKind::IsADirectory => fs::remove_dir(rt, name),
+        Err(error) => Err(error),
+    }
+}
+
+fn path_of(alloc: Global, text: &str) -> io::Result<Path> {
+    match Path::parse(alloc, text) {
+        Ok(path) => Ok(path),
+        Err(PathFault::Memory) => Err(io::Error::from(AllocError)),
+        Err(_) => Err(io::Error::new(
+            io::ErrorKind::InvalidFilename,
+            "a name below it is in no path",
+        )),
+    }
+}
+
+/// The error of a path whose parts above aren't all folders.
+pub fn not_a_folder() -> io::Error {
+    io::Error::new(
+        io::ErrorKind::NotADirectory,
+        "a link or a file stands where a folder is wanted",
+    )
+}
+
+/// The error of a device, a pipe or a socket.
+pub fn odd_object() -> io::Error {
+    io::Error::new(
+        io::ErrorKind::Unsupported,
+        "it is, or has below it, a device, a pipe or a socket",
+    )
+}
+
+fn too_many() -> io::Error {
+    io::Error::other("too many folders")
+}
