@@ -5,4 +5,16 @@
 #![tactic(auto)]
 
 #[cfg(test)]
+mod atoms;
+#[cfg(test)]
+mod flags;
+#[cfg(test)]
+mod grammar;
+#[cfg(test)]
 mod large;
+#[cfg(test)]
+mod names;
+#[cfg(test)]
+mod slots;
+#[cfg(test)]
+mod versions;

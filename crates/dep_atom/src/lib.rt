@@ -13,8 +13,6 @@ mod laws;
 mod package;
 mod reading;
 mod slot;
-#[cfg(test)]
-mod tests;
 mod uses;
 
 pub use atom::{Atom, Block, Op};

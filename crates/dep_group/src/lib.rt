@@ -10,8 +10,6 @@ mod law;
 mod print;
 mod reader;
 mod shape;
-#[cfg(test)]
-mod tests;
 mod token;
 mod word;
 

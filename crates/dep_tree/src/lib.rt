@@ -11,8 +11,6 @@ mod fault;
 mod parse;
 mod present;
 mod print;
-#[cfg(test)]
-mod tests;
 mod tree;
 
 pub use fault::TreeTextFault;

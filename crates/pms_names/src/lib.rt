@@ -13,8 +13,6 @@ mod flags;
 mod kind;
 mod laws;
 mod name;
-#[cfg(test)]
-mod tests;
 mod version;
 
 pub use fault::NameFault;

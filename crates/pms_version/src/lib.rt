@@ -13,8 +13,6 @@ mod laws;
 mod number;
 mod reading;
 mod suffix;
-#[cfg(test)]
-mod tests;
 mod version;
 
 pub use fault::VersionFault;

@@ -9,8 +9,6 @@ mod fault;
 mod parse;
 mod print;
 mod required;
-#[cfg(test)]
-mod tests;
 
 pub use fault::RequiredFault;
 pub use required::{Item, Required, RequiredUse, one_fault, printed_text_has_the_words};

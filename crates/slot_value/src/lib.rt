@@ -5,8 +5,6 @@
 #![tactic(auto)]
 
 mod laws;
-#[cfg(test)]
-mod tests;
 mod value;
 
 pub use laws::one_slot_value;

@@ -12,8 +12,6 @@ mod change;
 mod fault;
 mod iuse;
 mod laws;
-#[cfg(test)]
-mod tests;
 mod words;
 
 pub use change::{Change, apply, changes};

@@ -9,7 +9,5 @@
 
 mod place;
 mod recognise;
-#[cfg(test)]
-mod tests;
 
 pub use recognise::{is_version, one_name_and_version, one_spelling, version_stop};

@@ -1,4 +1,4 @@
-use crate::{SlotValue, print_slots};
+use slot_value::{SlotValue, print_slots};
 use std::alloc::{AllocError, Global};
 use std::test::Fail;
 

@@ -1,4 +1,6 @@
-use crate::{Category, Flag, Flags, NameFault, PackageName, SlotName, is_version_text, one_fault};
+use pms_names::{
+    Category, Flag, Flags, NameFault, PackageName, SlotName, is_version_text, one_fault,
+};
 use std::test::Fail;
 
 #[test]

@@ -1,5 +1,5 @@
-use crate::{is_version, one_name_and_version, one_spelling, version_stop};
 use std::test::Fail;
+use version_text::{is_version, one_name_and_version, one_spelling, version_stop};
 
 #[test]
 fn texts_of_versions(rt: HostRuntime) -> Result<(), Fail> {

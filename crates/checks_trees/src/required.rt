@@ -1,5 +1,5 @@
-use crate::{RequiredFault, RequiredUse, one_fault};
 use pms_names::{Flag, Flags};
+use required_use::{RequiredFault, RequiredUse, one_fault};
 use std::alloc::Global;
 use std::test::Fail;
 

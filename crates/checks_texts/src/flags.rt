@@ -1,7 +1,7 @@
-use crate::{Change, Iuse, UseFault, apply, changes};
 use pms_names::{Flag, Flags, NameFault};
 use std::alloc::Global;
 use std::test::Fail;
+use use_flags::{Change, Iuse, UseFault, apply, changes};
 
 fn is_among(alloc: Global, flags: &Flags, text: &str) -> Result<bool, NameFault> {
     let flag = Flag::parse(alloc, text)?;

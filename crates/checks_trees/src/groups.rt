@@ -1,4 +1,4 @@
-use crate::{Shape, flag_of, place, push_word, shape_of, words};
+use dep_group::{Shape, flag_of, place, push_word, shape_of, words};
 use std::test::Fail;
 
 #[test]

@@ -1,4 +1,4 @@
-use crate::{Atom, AtomFault, Bind, Facts, PackageId, one_fault};
+use dep_atom::{Atom, AtomFault, Bind, Facts, PackageId, one_fault};
 use pms_names::{Flag, Flags, SlotName};
 use std::alloc::{AllocError, Global};
 use std::test::Fail;

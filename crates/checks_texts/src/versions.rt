@@ -1,4 +1,4 @@
-use crate::{
+use pms_version::{
     Version, VersionFault, each_begins_itself, one_fault, order_is_that_of_keys, order_is_total,
 };
 use std::alloc::{AllocError, Global};

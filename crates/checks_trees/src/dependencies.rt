@@ -1,6 +1,6 @@
-use crate::{DepTree, TreeTextFault};
 use dep_atom::{Facts, PackageId};
 use dep_group::push_word;
+use dep_tree::{DepTree, TreeTextFault};
 use pms_names::{Flag, Flags, SlotName};
 use std::alloc::Global;
 use std::test::Fail;
