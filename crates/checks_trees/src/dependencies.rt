@@ -1,6 +1,6 @@
 use dep_atom::{Facts, PackageId};
 use dep_group::push_word;
-use dep_tree::{DepTree, TreeTextFault};
+use dep_tree::{DepTree, TreeTextFault, one_fault};
 use pms_names::{Flag, Flags, SlotName};
 use std::alloc::Global;
 use std::test::Fail;
@@ -101,6 +101,7 @@ fn printed_and_its_leaves(rt: HostRuntime) -> Result<(), Fail> {
 
 #[test]
 fn first_faults(rt: HostRuntime) -> Result<(), Fail> {
+    one_fault();
     for (text, want) in [
         ("c/a ( ( c/b )", "the group at 4 is not closed"),
         ("c/a )", "no group for the parenthesis at 4 to close"),

@@ -30,7 +30,8 @@ use Rattle.dep_group.specs.Shapes.{asks, condition, denies, has_parenthesis, is_
 use Rattle.dep_group.specs.Words.{is_blank, is_word}
 use Rattle.dep_group.proofs.Bools.{and_left, and_right, of_not}
 use Rattle.dep_group.proofs.FormLemmas.{IsWritten}
-use Rattle.dep_tree.specs.Grammar.{IsFlag, grammar}
+use Rattle.dep_group.proofs.OnceLemmas.{OneMark}
+use Rattle.dep_tree.specs.Grammar.{IsFlag, blocks, grammar, is_block}
 
 abbrev Are : (ℕ → Bool) → List ℕ → Type 0
 Are p bytes = AllByRecursion (λ b. p b ≡ true) bytes
@@ -313,3 +314,31 @@ condition_word flag false h = letters_word 33 (flag ++ question_mark ∷ []) (re
 -- atoms and conditions on flags are words of their shapes
 pub is_written : IsWritten grammar
 is_written = record { leaf_shape = atom_shape; leaf_word = atom_word; condition_shape = condition_shape; condition_word = condition_word }
+
+block_denies : (block : Block) (rest : List ℕ) → denies rest ≡ false → denies (block_text block ++ rest) ≡ blocks block
+block_denies No rest h = h
+block_denies Weak rest h = refl
+block_denies Strong rest h = refl
+
+op_denies : (op : Op) (rest : List ℕ) → denies rest ≡ false → denies (op_text op ++ rest) ≡ false
+op_denies Any rest h = h
+op_denies Less rest h = refl
+op_denies LessEqual rest h = refl
+op_denies Equal rest h = refl
+op_denies Similar rest h = refl
+op_denies GreaterEqual rest h = refl
+op_denies Greater rest h = refl
+
+-- an exclamation mark tells a block
+block_told : (a : AtomValue) → IsAtomValue a → denies (value_text a) ≡ is_block a
+block_told a h =
+    let others = version_part a.version ++ (star_text a.star ++ (slot_text a.slot ++ uses_text a.uses)) in
+    let category = h.package_form.named.category in
+    block_denies a.block (op_text a.op ++ (name_text a.name ++ others))
+    (op_denies a.op (name_text a.name ++ others)
+    (ap denies (append_assoc a.name.category (47 ∷ a.name.«package») others)
+    ∙ flag_denies a.name.category ((47 ∷ a.name.«package») ++ others) (plain_name kinds.Category a.name.category category) (name_plain kinds.Category a.name.category category)))
+
+-- atoms with one text are blocks alike
+pub blocks_alike : OneMark grammar is_block
+blocks_alike a b h k e = sym (block_told a h) ∙ ap denies e ∙ block_told b k

@@ -16,13 +16,16 @@ use Rattle.dep_group.specs.Trees.{Tree, Trees, trees_of, is_any_of}
 use Rattle.dep_group.specs.Views.{spot}
 use Rattle.dep_group.specs.Words.{Spot, texts, words, words_of}
 use Rattle.dep_group.proofs.MapLemmas.{trees_of-map, read-map}
+use Rattle.dep_group.proofs.OnceLemmas.{no_word_fault, one_word_fault}
 use Rattle.dep_group.proofs.ReadingLemmas.{trees_of-list_of}
 use Rattle.dep_group.proofs.StopLemmas.{first_word_fault, memory_word_fault}
 use Rattle.dep_group.proofs.TokenLemmas.{only_tokens, read-in_form, in_form-read, EachWord-more}
 use Rattle.dep_group.proofs.WordLemmas.{words-are_words}
+use Rattle.dep_tree.proofs.AtomWords.{blocks_alike}
+use Rattle.dep_tree.specs.declared.fault.TreeTextFault.{TreeTextFault}
 use Rattle.dep_tree.specs.declared.tree.DepOpener.{DepOpener}
 use Rattle.dep_tree.specs.declared.fault.TreeTextFault.TheVariants as faults
-use Rattle.dep_tree.specs.Faults.{FirstFault, IsMemory, placed}
+use Rattle.dep_tree.specs.Faults.{AreDependencies, FirstFault, HasFault, IsMemory, placed}
 use Rattle.dep_tree.specs.Grammar.{begins_any_of, blocks_as_atom, grammar, is_block}
 use Rattle.dep_tree.specs.View.{kind_of, token_view}
 
@@ -85,6 +88,21 @@ first_fault text ws us ts f e e' h r =
 
 pub memory_fault : (text : List ℕ) → FirstFault text faults.Memory
 memory_fault text = record { of_words = groups.Memory; first = memory_word_fault grammar is_block (words_of text); here = refl }
+
+not_memory : (text : List ℕ) (a : TreeTextFault) (h : HasFault text a) → h.0.of_words ≢ groups.Memory
+not_memory text a h e = let here = h.0.here in h.1 (here ∙ ap (placed (words 0 text)) e)
+
+-- one fault fits a text
+pub once : (text : List ℕ) (a b : TreeTextFault) → HasFault text a → HasFault text b → a ≡ b
+once text a b h k =
+    let f = h.0 in
+    let g = k.0 in
+    let same = one_word_fault grammar is_block blocks_alike (words_of text) f.of_words g.of_words f.first g.first (not_memory text a h) (not_memory text b k) in
+    f.here ∙ ap (placed (words 0 text)) same ∙ sym g.here
+
+-- and none dependencies
+pub none : (text : List ℕ) (a : TreeTextFault) → AreDependencies text → ¬ HasFault text a
+none text a x h = let f = h.0 in not_memory text a h (no_word_fault grammar is_block blocks_alike (words_of text) f.of_words x f.first)
 
 -- one more word with its token
 pub tokens-more : (ws : List Word) (i : ℕ) (w : Word) (ts : List (Token DepOpener Atom)) (t : Token DepOpener Atom) → i < length ws → AreOnlyTokens grammar (texts (map spot (take i ws))) (map token_view ts) → IsOnlyToken grammar (get_or ws i w).text.now (token_view t) → AreOnlyTokens grammar (texts (map spot (take (i + 1) ws))) (map token_view (ts ++ t ∷ []))

@@ -5,10 +5,11 @@ ghost use Rattle.dep_group.specs.Trees.{Trees, all_hold, all_leaves, group, hold
 ghost use Rattle.dep_group.specs.Tokens.{IsInForm, tree_words};
 ghost use Rattle.dep_group.specs.Words.{spaced, words_of};
 ghost use Rattle.pms_names.specs.Flags.{has};
-ghost use Rattle.dep_tree.specs.Faults.{FirstFault, IsMemory};
+ghost use Rattle.dep_tree.specs.Faults.{AreDependencies, FirstFault, HasFault, IsMemory};
 ghost use Rattle.dep_tree.specs.Grammar.{AreAtomsInGroups, grammar, is_block};
 ghost use Rattle.dep_tree.specs.Truth.{is_fact, kind};
 ghost use Rattle.dep_tree.specs.View.{atoms_view, trees, trees_view, view};
+ghost use Rattle.dep_tree.specs.declared.fault.TreeTextFault.{TreeTextFault};
 
 use crate::fault::TreeTextFault;
 use crate::present::Present;
@@ -101,6 +102,12 @@ pub fn printed_text_has_the_words()
 /// such tree has a text, which is read as it.
 pub fn trees_in_form_are_atoms_in_groups()
     ensures { (x : Trees (Opener (List ℕ)) AtomValue) → IsInForm grammar is_block x ↔ AreAtomsInGroups x }
+{}
+
+/// A law: but for want of memory a text has one fault at most, and dependencies have none.
+pub fn one_fault()
+    ensures once { (text : List ℕ) (a b : TreeTextFault) → HasFault text a → HasFault text b → a ≡ b }
+    ensures none { (text : List ℕ) (a : TreeTextFault) → AreDependencies text → ¬ HasFault text a }
 {}
 
 impl Node {

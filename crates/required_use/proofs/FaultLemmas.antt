@@ -99,9 +99,9 @@ pub once : (text : List ℕ) (a b : RequiredFault) → HasFault text a → HasFa
 once text a b h k =
     let f = h.0 in
     let g = k.0 in
-    let same = one_word_fault grammar never one_spelling (words_of text) f.of_words g.of_words f.first g.first (not_memory text a h) (not_memory text b k) in
+    let same = one_word_fault grammar never (λ _ _ _ _ _. refl) (words_of text) f.of_words g.of_words f.first g.first (not_memory text a h) (not_memory text b k) in
     f.here ∙ ap (placed (words 0 text)) same ∙ sym g.here
 
 -- and none an expression
 pub none : (text : List ℕ) (a : RequiredFault) → IsExpression text → ¬ HasFault text a
-none text a x h = let f = h.0 in not_memory text a h (no_word_fault grammar never one_spelling (words_of text) f.of_words x f.first)
+none text a x h = let f = h.0 in not_memory text a h (no_word_fault grammar never (λ _ _ _ _ _. refl) (words_of text) f.of_words x f.first)
