@@ -9,4 +9,6 @@ mod dependencies;
 #[cfg(test)]
 mod groups;
 #[cfg(test)]
+mod large;
+#[cfg(test)]
 mod required;
