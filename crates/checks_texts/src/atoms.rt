@@ -54,6 +54,10 @@ fn first_faults(rt: HostRuntime) -> Result<(), Fail> {
             "no category and package name",
         ),
         (
+            "-c/p-1 /p-1 p-1 c/a-1-2 =x-3d/p! =c/p!-1 =c/p!-1! >=/p-1. =x-3d/-1",
+            "no category and package name",
+        ),
+        (
             "c/p-1 !c/p-1.2-r3:0 c/p-1:= c/p-1[x] sys-apps/portage-2.1:foo virtual/ffmpeg-0.10.3",
             "a version without an operator",
         ),
@@ -61,7 +65,10 @@ fn first_faults(rt: HostRuntime) -> Result<(), Fail> {
             "=c/p ~c/p-x >=c/p:0 <c/p-1-rx !>c/p",
             "an operator without a version",
         ),
-        ("=c/p-1. <c/p-1.x", "no version behind the package name"),
+        (
+            "=c/p-1. <c/p-1.x =c/p-1!-2 =c/a-1-2",
+            "no version behind the package name",
+        ),
         (
             ">=c/p-1* ~c/p-1*[x] <c/p-1*:0",
             "an asterisk where none may stand",
@@ -78,6 +85,8 @@ fn first_faults(rt: HostRuntime) -> Result<(), Fail> {
     for (texts, words) in rows {
         assert_eq!(rt; first_without(rt.alloc(), texts, words)?, "");
     }
+    let spaced = fault_of(rt.alloc(), "a b/p-1")?;
+    assert_eq!(rt; spaced.as_str(), "no category and package name");
     Ok(())
 }
 
@@ -305,8 +314,11 @@ fn packages_and_their_first_faults(rt: HostRuntime) -> Result<(), Fail> {
         ),
         ("c", "p", "no version behind the package name"),
         ("c", "p-1.", "no version behind the package name"),
+        ("c", "a-1-2", "no version behind the package name"),
+        ("c", "p-1!", "no version behind the package name"),
         ("c", "-1", "no category and package name"),
-        ("c", "a-1-2", "no category and package name"),
+        ("c", "p!", "no category and package name"),
+        ("c", "p!-1", "no category and package name"),
         ("c", "a/b-1", "no category and package name"),
         ("-c", "p-1", "no category and package name"),
     ];

@@ -87,6 +87,6 @@ fn flags_are_a_set(rt: HostRuntime) -> Result<(), Fail> {
     };
     assert!(rt; flags.remove(&b));
     assert!(rt; !flags.remove(&b));
-    assert!(rt; flags.iter().next().is_some_and(|flag| flag.text() == "a"));
+    assert!(rt; flags.list().next().is_some_and(|flag| flag.text() == "a"));
     Ok(())
 }

@@ -1,10 +1,7 @@
 -- Why a text is no atom.
-use Rattle.std.proofs.Common.{◌≡◌, ◌∙◌, ℕ, ◌+◌, ◌-◌, ◌<◌, ◌≤◌, ◌⊎◌, inl, inr, arith, length, length-append, Bool, true, false, List, [], ◌∷◌, ◌++◌, get_or, take, drop, sym, ap, subst}
+use Rattle.std.proofs.Common.{◌≡◌, ◌∙◌, ℕ, ◌+◌, ◌-◌, ◌<◌, ◌≤◌, ◌⊎◌, inl, inr, arith, length, length-append, Bool, true, false, List, [], ◌∷◌, ◌++◌, get_or, sym, ap, subst}
 use Rattle.std.specs.List.{AllByRecursion}
 use Rattle.std.proofs.lemmas.Bool.Decides.{nat_tests}
-use Rattle.version_text.specs.Grammar.{Parts, spelling}
-use Rattle.pms_version.specs.Limits.{IsReadable}
-use Rattle.pms_names.specs.declared.name.Name.{Name as FullName}
 use Rattle.dep_atom.specs.declared.atom.Block.{Block}
 use Rattle.dep_atom.specs.declared.atom.Op.{Op}
 use Rattle.dep_atom.specs.declared.slot.SlotPart.{SlotPart}
@@ -12,34 +9,24 @@ use Rattle.dep_atom.specs.declared.uses.UseDep.{UseDep}
 use Rattle.dep_atom.specs.declared.fault.AtomFault.{AtomFault}
 use Rattle.dep_atom.specs.declared.fault.AtomFault.TheVariants.{Name, Version, OperatorWithoutVersion, VersionWithoutOperator, BadStar, BadSlot, BadUse, Memory}
 use Rattle.dep_atom.specs.Cuts.{is_either, Lacks, Starts, end_text}
-use Rattle.dep_atom.specs.Faults.{IsNameText, IsNameFault, IsVersionFault, IsSlotFault, BeginsNoItem, IsNoEnd, before_item, GoesWrong, EndFault, PartedFault, IsUnstarred, BodyFault, SlotTextFault, UsesTextFault, IsBodyText, IsSlotText, FirstFault}
-use Rattle.dep_atom.specs.Form.{IsNameForm, IsSlotForm, IsUseForm}
+use Rattle.dep_atom.specs.Faults.{IsSlotFault, BeginsNoItem, IsNoEnd, before_item, GoesWrong, EndFault, IsUnstarred, NameVersionFault, StarredFault, BodyFault, SlotTextFault, UsesTextFault, IsBodyText, IsSlotText, FirstFault}
+use Rattle.dep_atom.specs.Form.{IsSlotForm, IsUseForm}
 use Rattle.dep_atom.specs.Reading.{block_at, op_at}
-use Rattle.dep_atom.specs.Text.{block_text, op_text, name_text, slot_text, opened_text, uses_text}
+use Rattle.dep_atom.specs.Text.{block_text, op_text, slot_text, opened_text, uses_text}
 use Rattle.dep_atom.proofs.Once.{star_end}
 
 pub unstarred : (text front : List ℕ) (star : Bool) → text ≡ front ++ end_text 42 star → (star ≡ false → (f : List ℕ) → text ≡ f ++ (42 ∷ []) → ⊥) → IsUnstarred text front star
 unstarred text front star e none = record { whole = e ∙ ap (λ s. front ++ s) (sym (star_end star)); none = none }
 
-pub parted_name : (text : List ℕ) (at : ℕ) (may_star star : Bool) (fault : AtomFault) → IsNameFault fault → ((n : FullName) → IsNameForm n → take at text ≡ name_text n → fault ≡ Memory) → PartedFault text at may_star star fault
-parted_name text at may_star star Name is only = λ n form e. absurd (let m = only n form e in cc)
-parted_name text at may_star star Version is only = absurd is
-parted_name text at may_star star OperatorWithoutVersion is only = absurd is
-parted_name text at may_star star VersionWithoutOperator is only = absurd is
-parted_name text at may_star star BadStar is only = absurd is
-parted_name text at may_star star BadSlot is only = absurd is
-parted_name text at may_star star (BadUse k) is only = absurd is
-parted_name text at may_star star Memory is only = tt
-
-pub parted_version : (text : List ℕ) (at : ℕ) (may_star star : Bool) (fault : AtomFault) → IsNameText (take at text) → IsVersionFault fault → ((p : Parts) → IsReadable p → drop (at + 1) text ≡ spelling p → fault ≡ Memory) → PartedFault text at may_star star fault
-parted_version text at may_star star Name named is only = absurd is
-parted_version text at may_star star Version named is only = (named, λ p form e. absurd (let m = only p form e in cc))
-parted_version text at may_star star OperatorWithoutVersion named is only = absurd is
-parted_version text at may_star star VersionWithoutOperator named is only = absurd is
-parted_version text at may_star star BadStar named is only = absurd is
-parted_version text at may_star star BadSlot named is only = absurd is
-parted_version text at may_star star (BadUse k) named is only = absurd is
-parted_version text at may_star star Memory named is only = tt
+pub starred : (may_star : Bool) (front : List ℕ) (star : Bool) (fault : AtomFault) → NameVersionFault front fault → StarredFault may_star front star fault
+starred may_star front star Name f = f
+starred may_star front star Version f = f
+starred may_star front star OperatorWithoutVersion f = f
+starred may_star front star VersionWithoutOperator f = absurd f
+starred may_star front star BadStar f = absurd f
+starred may_star front star BadSlot f = absurd f
+starred may_star front star (BadUse k) f = absurd f
+starred may_star front star Memory f = tt
 
 pub slot_blame : (text : List ℕ) (fault : AtomFault) → IsSlotFault fault → ((s : SlotPart) → IsSlotForm s → text ≡ slot_text s → fault ≡ Memory) → SlotTextFault text fault
 slot_blame text Name is only = absurd is

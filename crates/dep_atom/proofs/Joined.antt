@@ -1,20 +1,15 @@
 -- A name and a version joined by a hyphen, and parted again.
-use Rattle.std.proofs.Common.{◌≡◌, ℕ, suc, ◌+◌, List, ◌∷◌, ◌++◌, length, get_or, take, drop, sym, ◌∙◌, ap, subst, inr, arith, length-append, add-one}
+use Rattle.std.proofs.Common.{◌≡◌, ℕ, suc, ◌+◌, ◌<◌, List, ◌∷◌, ◌++◌, length, get_or, take, drop, sym, ◌∙◌, ap, subst, arith, length-append, add-one}
 use Rattle.std.proofs.Math.Seq.{drop-append_seam, drop-cons}
 use Rattle.std.proofs.lemmas.List.{take-append-drop, drop-drop, get_or-drop}
-use Rattle.version_text.specs.Grammar.{IsVersionText, Parts, spelling}
-use Rattle.pms_version.specs.Limits.{IsReadable}
-use Rattle.pms_version.specs.declared.fault.VersionFault.{VersionFault}
-use Rattle.pms_version.specs.declared.fault.VersionFault.TheVariants as versions
-use Rattle.pms_names.specs.Names.{IsName}
-use Rattle.pms_names.specs.declared.kind.Kind.TheVariants.{Category, Package}
+use Rattle.version_text.specs.Grammar.{IsVersionText, Parts}
 use Rattle.dep_atom.specs.declared.package.PackageId.{PackageId}
-use Rattle.dep_atom.specs.Ids.{PartsAt, version_fault, FirstIdFault}
+use Rattle.dep_atom.specs.Ids.{PartsAt}
 
 -- what a hyphen parts is what it joins
-pub cut_at : (bytes : List ℕ) (at : ℕ) → PartsAt bytes at → bytes ≡ take at bytes ++ (45 ∷ drop (at + 1) bytes)
-cut_at bytes at parts =
-    let e : drop at bytes ≡ 45 ∷ drop (at + 1) bytes = drop-cons bytes at 0 parts.within ∙ ap (λ b. b ∷ drop (suc at) bytes) parts.hyphen ∙ ap (λ n. 45 ∷ drop n bytes) (sym (add-one at)) in
+pub cut_at : (bytes : List ℕ) (at : ℕ) → at < length bytes → get_or bytes at 0 ≡ 45 → bytes ≡ take at bytes ++ (45 ∷ drop (at + 1) bytes)
+cut_at bytes at within hyphen =
+    let e : drop at bytes ≡ 45 ∷ drop (at + 1) bytes = drop-cons bytes at 0 within ∙ ap (λ b. b ∷ drop (suc at) bytes) hyphen ∙ ap (λ n. 45 ∷ drop n bytes) (sym (add-one at)) in
     sym (take-append-drop at bytes) ∙ ap (λ r. take at bytes ++ r) e
 
 pub parts_at_seam : (p v bytes : List ℕ) → IsVersionText v → bytes ≡ p ++ (45 ∷ v) → PartsAt bytes (length p)
@@ -30,7 +25,7 @@ abbrev pub ComesApart : Type 0
 ComesApart = (p q v w : List ℕ) → IsVersionText v → IsVersionText w → p ++ (45 ∷ v) ≡ q ++ (45 ∷ w) → (p ≡ q) × (v ≡ w)
 
 pub parts_are : ComesApart → (bytes : List ℕ) (at : ℕ) (p v : List ℕ) → PartsAt bytes at → IsVersionText v → bytes ≡ p ++ (45 ∷ v) → (take at bytes ≡ p) × (drop (at + 1) bytes ≡ v)
-parts_are apart bytes at p v parts is e = apart (take at bytes) p (drop (at + 1) bytes) v parts.version is (sym (cut_at bytes at parts) ∙ e)
+parts_are apart bytes at p v parts is e = apart (take at bytes) p (drop (at + 1) bytes) v parts.version is (sym (cut_at bytes at parts.within parts.hyphen) ∙ e)
 
 pub id_same : (category name : List ℕ) (version : Parts) (id : PackageId) → category ≡ id.name.category → name ≡ id.name.«package» → version ≡ id.version → ◌≡◌ {A = PackageId} (record { name = record { category = category; «package» = name }; version = version }) id
 id_same category name version id ec en ev =
@@ -38,14 +33,3 @@ id_same category name version id ec en ev =
     let two : ◌≡◌ {A = PackageId} (record { name = record { category = id.name.category; «package» = name }; version = version }) (record { name = record { category = id.name.category; «package» = id.name.«package» }; version = version }) = ap (λ (x : List ℕ). let r : PackageId = record { name = record { category = id.name.category; «package» = x }; version = version } in r) en in
     let three : ◌≡◌ {A = PackageId} (record { name = record { category = id.name.category; «package» = id.name.«package» }; version = version }) id = ap (λ (x : Parts). let r : PackageId = record { name = id.name; version = x } in r) ev in
     one ∙ two ∙ three
-
--- a version that no readable one spells is a fault of the version
-pub late_fault : (category bytes : List ℕ) (at : ℕ) (fault : VersionFault) → IsName Category category → PartsAt bytes at → IsName Package (take at bytes) → ((p : Parts) → IsReadable p → drop (at + 1) bytes ≡ spelling p → fault ≡ versions.Memory) → FirstIdFault category bytes (version_fault fault)
-late_fault category bytes at versions.Empty named parts name only = (named, inr (at, parts, name, λ p r e. absurd (empty_is_no_memory (only p r e))))
-  where
-    empty_is_no_memory : versions.Empty ≡ versions.Memory → ⊥
-    empty_is_no_memory e = cc
-late_fault category bytes at (versions.BadChar k) named parts name only = (named, inr (at, parts, name, λ p r e. absurd (let m = only p r e in cc)))
-late_fault category bytes at (versions.TooManyDigits k) named parts name only = (named, inr (at, parts, name, λ p r e. absurd (let m = only p r e in cc)))
-late_fault category bytes at versions.TooLong named parts name only = (named, inr (at, parts, name, λ p r e. absurd (let m = only p r e in cc)))
-late_fault category bytes at versions.Memory named parts name only = tt

@@ -1,6 +1,7 @@
 pub mod Blame
 pub mod Cuts
 pub mod Joined
+pub mod Named
 pub mod Once
 pub mod OneFault
 pub mod OneId

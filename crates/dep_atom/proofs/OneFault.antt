@@ -1,9 +1,8 @@
 -- The text of no atom has one first fault.
-use Rattle.std.proofs.Common.{◌≡◌, ◌∙◌, ◌⊎◌, ℕ, ◌+◌, inl, inr, Bool, true, false, List, [], ◌∷◌, ◌++◌, Option, Some, None, length, get_or, take, drop, refl, sym, ap, subst, arith, append-nil}
+use Rattle.std.proofs.Common.{◌≡◌, ◌∙◌, ◌⊎◌, ℕ, ◌+◌, inl, inr, Bool, true, false, List, [], ◌∷◌, ◌++◌, Option, Some, None, length, get_or, refl, sym, ap, subst, arith, append-nil}
 use Rattle.std.specs.List.{AllByRecursion}
 use Rattle.std.proofs.lemmas.List.{append_cancel_left, append_cancel_right}
-use Rattle.version_text.specs.Grammar.{Parts, spelling}
-use Rattle.version_text.proofs.Unique.{cut_once as apart}
+use Rattle.version_text.specs.Grammar.{IsVersionText, Parts, spelling}
 use Rattle.pms_version.specs.Limits.{IsReadable}
 use Rattle.pms_names.specs.declared.name.Name.{Name as FullName}
 use Rattle.dep_atom.specs.declared.atom.Op.{Op}
@@ -13,29 +12,25 @@ use Rattle.dep_atom.specs.declared.uses.UseDep.{UseDep}
 use Rattle.dep_atom.specs.declared.fault.AtomFault.{AtomFault}
 use Rattle.dep_atom.specs.declared.fault.AtomFault.TheVariants.{Name, Version, OperatorWithoutVersion, VersionWithoutOperator, BadStar, BadSlot, BadUse, Memory}
 use Rattle.dep_atom.specs.Atoms.{IsAtomValue}
-use Rattle.dep_atom.specs.Faults.{NoName, IsNameText, NoVersion, PlainFault, MissingFault, PartedFault, IsUnstarred, VersionedFault, BodyFault, SlotTextFault, UsesTextFault, Cut, IsBodyText, IsSlotText, FirstFault}
+use Rattle.dep_atom.specs.Faults.{PlainFault, IsUnstarred, StarredFault, VersionedFault, BodyFault, SlotTextFault, UsesTextFault, Cut, IsBodyText, IsSlotText, FirstFault}
 use Rattle.dep_atom.specs.Form.{IsNameForm, IsUseForm, IsVersionForm}
-use Rattle.dep_atom.specs.Ids.{PartsAt}
+use Rattle.dep_atom.specs.Naming.{BeginsNumber, IsNameText, IsReadableText, NameThen}
 use Rattle.dep_atom.specs.Reading.{op_at}
 use Rattle.dep_atom.specs.Text.{block_text, op_text, name_text, version_part, star_text, uses_text, value_text}
 use Rattle.dep_atom.specs.Values.{AtomValue}
 use Rattle.dep_atom.proofs.Cuts.{cut_once}
-use Rattle.dep_atom.proofs.Joined.{parts_at_seam, parts_are}
+use Rattle.dep_atom.proofs.Named.{is_version, no_name_version, to_number, weaken}
 use Rattle.dep_atom.proofs.Once.{star_end, version_once}
-use Rattle.dep_atom.proofs.OneId.{parts_once}
 use Rattle.dep_atom.proofs.Whole.{begins_once, ends_as_once, package_form_of}
 use Rattle.dep_atom.proofs.Wrong.{wrong_once}
-
-named_not : {A : Type 0} (text : List ℕ) → IsNameText text → NoName text → A
-named_not text is none = absurd (none is.0 is.1 is.2)
 
 plain_once : (text : List ℕ) (a b : AtomFault) → PlainFault text a → PlainFault text b → (a ≡ Memory → ⊥) → (b ≡ Memory → ⊥) → a ≡ b
 plain_once text Memory b f g p q = absurd (p refl)
 plain_once text a Memory f g p q = absurd (q refl)
 plain_once text Name Name f g p q = refl
 plain_once text VersionWithoutOperator VersionWithoutOperator f g p q = refl
-plain_once text Name VersionWithoutOperator f g p q = absurd (f.1 g.1.0 g.1.1)
-plain_once text VersionWithoutOperator Name f g p q = absurd (g.1 f.1.0 f.1.1)
+plain_once text Name VersionWithoutOperator f g p q = absurd (f.1 g)
+plain_once text VersionWithoutOperator Name f g p q = absurd (g.1 f)
 plain_once text Version b f g p q = absurd f
 plain_once text OperatorWithoutVersion b f g p q = absurd f
 plain_once text BadStar b f g p q = absurd f
@@ -48,8 +43,8 @@ plain_once text a BadSlot f g p q = absurd g
 plain_once text a (BadUse n) f g p q = absurd g
 
 plain_none : (text : List ℕ) (a : AtomFault) → IsNameText text → PlainFault text a → a ≡ Memory
-plain_none text Name is f = named_not text is f.0
-plain_none text VersionWithoutOperator is f = named_not text is f.0
+plain_none text Name is f = absurd (f.0 is)
+plain_none text VersionWithoutOperator is f = absurd (no_name_version text is f)
 plain_none text Version is f = absurd f
 plain_none text OperatorWithoutVersion is f = absurd f
 plain_none text BadStar is f = absurd f
@@ -57,58 +52,49 @@ plain_none text BadSlot is f = absurd f
 plain_none text (BadUse m) is f = absurd f
 plain_none text Memory is f = refl
 
-missing_once : (text : List ℕ) (a b : AtomFault) → MissingFault text a → MissingFault text b → (a ≡ Memory → ⊥) → (b ≡ Memory → ⊥) → a ≡ b
-missing_once text Memory b f g p q = absurd (p refl)
-missing_once text a Memory f g p q = absurd (q refl)
-missing_once text OperatorWithoutVersion OperatorWithoutVersion f g p q = refl
-missing_once text Version Version f g p q = refl
-missing_once text Name Name f g p q = refl
-missing_once text OperatorWithoutVersion Version f g p q = named_not text f g.0
-missing_once text OperatorWithoutVersion Name f g p q = named_not text f g.0
-missing_once text Version OperatorWithoutVersion f g p q = named_not text g f.0
-missing_once text Name OperatorWithoutVersion f g p q = named_not text g f.0
-missing_once text Version Name f g p q = absurd (g.1 f.1)
-missing_once text Name Version f g p q = absurd (f.1 g.1)
-missing_once text VersionWithoutOperator b f g p q = absurd f
-missing_once text BadStar b f g p q = absurd f
-missing_once text BadSlot b f g p q = absurd f
-missing_once text (BadUse m) b f g p q = absurd f
-missing_once text a VersionWithoutOperator f g p q = absurd g
-missing_once text a BadStar f g p q = absurd g
-missing_once text a BadSlot f g p q = absurd g
-missing_once text a (BadUse n) f g p q = absurd g
+-- a name and a readable version are no name alone, and a name with a number
+not_alone : (text : List ℕ) → NameThen IsReadableText text → IsNameText text → ⊥
+not_alone text t is = no_name_version text is (weaken IsReadableText IsVersionText text is_version t)
 
-parted_once : (text : List ℕ) (at : ℕ) (may star : Bool) (a b : AtomFault) → PartedFault text at may star a → PartedFault text at may star b → (a ≡ Memory → ⊥) → (b ≡ Memory → ⊥) → a ≡ b
-parted_once text at may star Memory b f g p q = absurd (p refl)
-parted_once text at may star a Memory f g p q = absurd (q refl)
-parted_once text at may star Name Name f g p q = refl
-parted_once text at may star Version Version f g p q = refl
-parted_once text at may star BadStar BadStar f g p q = refl
-parted_once text at may star Name Version f g p q = named_not (take at text) g.0 f
-parted_once text at may star Name BadStar f g p q = named_not (take at text) g.0 f
-parted_once text at may star Version Name f g p q = named_not (take at text) f.0 g
-parted_once text at may star BadStar Name f g p q = named_not (take at text) f.0 g
-parted_once text at may star Version BadStar f g p q = absurd (f.1 g.1.0 g.1.1 g.1.2)
-parted_once text at may star BadStar Version f g p q = absurd (g.1 f.1.0 f.1.1 f.1.2)
-parted_once text at may star OperatorWithoutVersion b f g p q = absurd f
-parted_once text at may star VersionWithoutOperator b f g p q = absurd f
-parted_once text at may star BadSlot b f g p q = absurd f
-parted_once text at may star (BadUse m) b f g p q = absurd f
-parted_once text at may star a OperatorWithoutVersion f g p q = absurd g
-parted_once text at may star a VersionWithoutOperator f g p q = absurd g
-parted_once text at may star a BadSlot f g p q = absurd g
-parted_once text at may star a (BadUse n) f g p q = absurd g
+numbered : (text : List ℕ) → NameThen IsReadableText text → NameThen BeginsNumber text
+numbered text t = weaken IsReadableText BeginsNumber text to_number t
+
+starred_once : (may : Bool) (text : List ℕ) (star : Bool) (a b : AtomFault) → StarredFault may text star a → StarredFault may text star b → (a ≡ Memory → ⊥) → (b ≡ Memory → ⊥) → a ≡ b
+starred_once may text star Memory b f g p q = absurd (p refl)
+starred_once may text star a Memory f g p q = absurd (q refl)
+starred_once may text star OperatorWithoutVersion OperatorWithoutVersion f g p q = refl
+starred_once may text star Version Version f g p q = refl
+starred_once may text star Name Name f g p q = refl
+starred_once may text star BadStar BadStar f g p q = refl
+starred_once may text star OperatorWithoutVersion Version f g p q = absurd (g.0 f)
+starred_once may text star OperatorWithoutVersion Name f g p q = absurd (g.0 f)
+starred_once may text star OperatorWithoutVersion BadStar f g p q = absurd (not_alone text g.versioned f)
+starred_once may text star Version OperatorWithoutVersion f g p q = absurd (f.0 g)
+starred_once may text star Version Name f g p q = absurd (g.1 f.1)
+starred_once may text star Version BadStar f g p q = absurd (f.2 g.versioned)
+starred_once may text star Name OperatorWithoutVersion f g p q = absurd (f.0 g)
+starred_once may text star Name Version f g p q = absurd (f.1 g.1)
+starred_once may text star Name BadStar f g p q = absurd (f.1 (numbered text g.versioned))
+starred_once may text star BadStar OperatorWithoutVersion f g p q = absurd (not_alone text f.versioned g)
+starred_once may text star BadStar Version f g p q = absurd (g.2 f.versioned)
+starred_once may text star BadStar Name f g p q = absurd (g.1 (numbered text f.versioned))
+starred_once may text star VersionWithoutOperator b f g p q = absurd f
+starred_once may text star BadSlot b f g p q = absurd f
+starred_once may text star (BadUse m) b f g p q = absurd f
+starred_once may text star a VersionWithoutOperator f g p q = absurd g
+starred_once may text star a BadSlot f g p q = absurd g
+starred_once may text star a (BadUse n) f g p q = absurd g
 
 -- a name, a version and an asterisk only where it may stand are in order
-parted_none : (text : List ℕ) (at : ℕ) (may star : Bool) (a : AtomFault) (n : FullName) (v : Parts) → IsNameForm n → IsReadable v → take at text ≡ name_text n → drop (at + 1) text ≡ spelling v → (may ≡ false → star ≡ false) → PartedFault text at may star a → a ≡ Memory
-parted_none text at may star Name n v named readable e k starred f = absurd (f n named e)
-parted_none text at may star Version n v named readable e k starred f = absurd (f.1 v readable k)
-parted_none text at may star BadStar n v named readable e k starred f = let no : star ≡ false = starred f.2 in let yes : star ≡ true = f.3 in absurd (cc)
-parted_none text at may star OperatorWithoutVersion n v named readable e k starred f = absurd f
-parted_none text at may star VersionWithoutOperator n v named readable e k starred f = absurd f
-parted_none text at may star BadSlot n v named readable e k starred f = absurd f
-parted_none text at may star (BadUse m) n v named readable e k starred f = absurd f
-parted_none text at may star Memory n v named readable e k starred f = refl
+starred_none : (may : Bool) (text : List ℕ) (star : Bool) (a : AtomFault) → NameThen IsReadableText text → (may ≡ false → star ≡ false) → StarredFault may text star a → a ≡ Memory
+starred_none may text star OperatorWithoutVersion is starred f = absurd (not_alone text is f)
+starred_none may text star Version is starred f = absurd (f.2 is)
+starred_none may text star Name is starred f = absurd (f.1 (numbered text is))
+starred_none may text star BadStar is starred f = let no : star ≡ false = starred f.unasked in let yes : star ≡ true = f.starred in absurd (cc)
+starred_none may text star VersionWithoutOperator is starred f = absurd f
+starred_none may text star BadSlot is starred f = absurd f
+starred_none may text star (BadUse m) is starred f = absurd f
+starred_none may text star Memory is starred f = refl
 
 unstarred_once : (text front other : List ℕ) (p q : Bool) → IsUnstarred text front p → IsUnstarred text other q → (front ≡ other) × (p ≡ q)
 unstarred_once text front other true true f g = (append_cancel_right front other (42 ∷ []) (sym f.whole ∙ g.whole), refl)
@@ -116,30 +102,15 @@ unstarred_once text front other false false f g = (sym (append-nil front) ∙ sy
 unstarred_once text front other true false f g = absurd (g.none refl front f.whole)
 unstarred_once text front other false true f g = absurd (f.none refl other g.whole)
 
-abbrev pub Why : Bool → List ℕ → Bool → AtomFault → Type 0
-Why may front star fault = (NoVersion front × MissingFault front fault) ⊎ ((at : ℕ) × PartsAt front at × PartedFault front at may star fault)
-
-why_once : (may : Bool) (front : List ℕ) (star : Bool) (a b : AtomFault) → Why may front star a → Why may front star b → (a ≡ Memory → ⊥) → (b ≡ Memory → ⊥) → a ≡ b
-why_once may front star a b (inl f) (inl g) p q = missing_once front a b f.1 g.1 p q
-why_once may front star a b (inl f) (inr g) p q = absurd (f.0 g.0 g.1)
-why_once may front star a b (inr f) (inl g) p q = absurd (g.0 f.0 f.1)
-why_once may front star a b (inr f) (inr g) p q = parted_once front f.0 may star a b f.2 (subst (λ k. PartedFault front k may star b) (parts_once front g.0 f.0 g.1 f.1) g.2) p q
-
 versioned_once : (may : Bool) (text : List ℕ) (a b : AtomFault) → VersionedFault may text a → VersionedFault may text b → (a ≡ Memory → ⊥) → (b ≡ Memory → ⊥) → a ≡ b
 versioned_once may text a b f g p q =
     let same = unstarred_once text g.front f.front g.star f.star g.unstarred f.unstarred in
-    why_once may f.front f.star a b f.why (subst (λ s. Why may f.front s b) same.1 (subst (λ l. Why may l g.star b) same.0 g.why)) p q
-
-why_none : (may : Bool) (front : List ℕ) (star : Bool) (a : AtomFault) (n : FullName) (v : Parts) → IsNameForm n → IsReadable v → front ≡ name_text n ++ (45 ∷ spelling v) → (may ≡ false → star ≡ false) → Why may front star a → a ≡ Memory
-why_none may front star a n v named readable e starred (inl f) = absurd (f.0 (length (name_text n)) (parts_at_seam (name_text n) (spelling v) front (v, readable.version, refl) e))
-why_none may front star a n v named readable e starred (inr f) =
-    let are = parts_are apart front f.0 (name_text n) (spelling v) f.1 (v, readable.version, refl) e in
-    parted_none front f.0 may star a n v named readable are.0 are.1 starred f.2
+    starred_once may f.front f.star a b f.why (subst (λ s. StarredFault may f.front s b) same.1 (subst (λ l. StarredFault may l g.star b) same.0 g.why)) p q
 
 versioned_none : (may : Bool) (text : List ℕ) (a : AtomFault) (n : FullName) (v : Parts) (star : Bool) → IsNameForm n → IsReadable v → (may ≡ false → star ≡ false) → text ≡ name_text n ++ (version_part (Some v) ++ star_text star) → VersionedFault may text a → a ≡ Memory
 versioned_none may text a n v star named readable starred e f =
     let once = version_once text f.front f.star n (Some v) star named readable (f.unstarred.whole ∙ ap (λ s. f.front ++ s) (star_end f.star)) f.unstarred.none e in
-    why_none may f.front f.star a n once.0 named once.2 once.3 (λ no. once.4 ∙ starred no) f.why
+    starred_none may f.front f.star a (n, spelling once.0, named, (once.0, once.2, refl), once.3) (λ no. once.4 ∙ starred no) f.why
 
 body_once : (op : Op) (text : List ℕ) (a b : AtomFault) → BodyFault op text a → BodyFault op text b → (a ≡ Memory → ⊥) → (b ≡ Memory → ⊥) → a ≡ b
 body_once Any text a b f g p q = plain_once text a b f g p q

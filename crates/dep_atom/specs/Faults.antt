@@ -1,9 +1,7 @@
 -- Which fault of a text that is no atom comes first, from left to right.
-use Rattle.std.specs.Prelude.{◌≡◌, ℕ, ◌+◌, ◌-◌, ◌<◌, ◌⊎◌, Bool, true, false, List, [], ◌∷◌, ◌++◌, length, take, drop, slice_index, Option}
+use Rattle.std.specs.Prelude.{◌≡◌, ℕ, ◌+◌, ◌-◌, ◌<◌, ◌⊎◌, Bool, true, false, List, [], ◌∷◌, ◌++◌, length, slice_index, Option}
 use Rattle.std.specs.List.{AllByRecursion}
-use Rattle.basics.specs.Bytes.{is_digit}
-use Rattle.version_text.specs.Grammar.{Parts, spelling}
-use Rattle.pms_version.specs.Limits.{IsReadable}
+use Rattle.version_text.specs.Grammar.{IsVersionText, Parts}
 use Rattle.pms_names.specs.declared.name.Name.{Name}
 use Rattle.dep_atom.specs.declared.atom.Block.{Block}
 use Rattle.dep_atom.specs.declared.atom.Op.{Op}
@@ -13,34 +11,12 @@ use Rattle.dep_atom.specs.declared.uses.UseDep.{UseDep}
 use Rattle.dep_atom.specs.declared.fault.AtomFault.{AtomFault}
 use Rattle.dep_atom.specs.declared.fault.AtomFault.TheVariants as faults
 use Rattle.dep_atom.specs.Cuts.{Lacks, Starts}
-use Rattle.dep_atom.specs.Form.{IsNameForm, IsPackageForm, IsSlotForm, IsUseForm}
-use Rattle.dep_atom.specs.Ids.{PartsAt}
+use Rattle.dep_atom.specs.Form.{IsPackageForm, IsSlotForm, IsUseForm}
+use Rattle.dep_atom.specs.Naming.{BeginsNumber, IsNameText, IsReadableText, NameThen}
 use Rattle.dep_atom.specs.Reading.{block_at, op_at}
 use Rattle.dep_atom.specs.Text.{block_text, op_text, name_text, version_part, star_text, slot_text, use_text, opened_text, uses_text}
 
--- the text of no name
-abbrev pub NoName : List ℕ → Type 0
-NoName text = (n : Name) → IsNameForm n → text ≡ name_text n → ⊥
-
--- the text of a name
-abbrev pub IsNameText : List ℕ → Type 0
-IsNameText text = (n : Name) × IsNameForm n × (text ≡ name_text n)
-
--- no hyphen has a version and nothing more behind it
-abbrev pub NoVersion : List ℕ → Type 0
-NoVersion text = (at : ℕ) → PartsAt text at → ⊥
-
 -- the kinds of faults that reading one part can end in
-abbrev pub IsNameFault : AtomFault → Type 0
-IsNameFault faults.Name = Unit {0}
-IsNameFault faults.Memory = Unit {0}
-IsNameFault _ = ⊥
-
-abbrev pub IsVersionFault : AtomFault → Type 0
-IsVersionFault faults.Version = Unit {0}
-IsVersionFault faults.Memory = Unit {0}
-IsVersionFault _ = ⊥
-
 abbrev pub IsSlotFault : AtomFault → Type 0
 IsSlotFault faults.BadSlot = Unit {0}
 IsSlotFault faults.Memory = Unit {0}
@@ -52,32 +28,32 @@ IsUseFaultAt at (faults.BadUse k) = k ≡ at
 IsUseFaultAt at faults.Memory = Unit {0}
 IsUseFaultAt at _ = ⊥
 
--- the first fault of what stands in an atom without an operator
+-- the first fault of what stands in an atom without an operator: a version behind the name, or else the name
 abbrev pub PlainFault : List ℕ → AtomFault → Type 0
-PlainFault text faults.Name = NoName text × NoVersion text
-PlainFault text faults.VersionWithoutOperator = NoName text × ((at : ℕ) × PartsAt text at)
+PlainFault text faults.VersionWithoutOperator = NameThen IsVersionText text
+PlainFault text faults.Name = (IsNameText text → ⊥) × (NameThen IsVersionText text → ⊥)
 PlainFault text faults.Memory = Unit {0}
 PlainFault text _ = ⊥
 
--- a hyphen is followed by a digit
-abbrev pub HasNumber : List ℕ → Type 0
-HasNumber text = (k : ℕ) × (k + 1 < length text) × (slice_index text k ≡ 45) × (is_digit (slice_index text (k + 1)) ≡ true)
+-- the first fault of what is to be a name, a hyphen and a version: a name stands alone; or what it begins with is no name with a
+-- hyphen and a digit; or it is, but no version within the limits stands behind that hyphen
+abbrev pub NameVersionFault : List ℕ → AtomFault → Type 0
+NameVersionFault text faults.OperatorWithoutVersion = IsNameText text
+NameVersionFault text faults.Name = (IsNameText text → ⊥) × (NameThen BeginsNumber text → ⊥)
+NameVersionFault text faults.Version = (IsNameText text → ⊥) × NameThen BeginsNumber text × (NameThen IsReadableText text → ⊥)
+NameVersionFault text faults.Memory = Unit {0}
+NameVersionFault text _ = ⊥
 
--- the fault of a text in which no hyphen has a version behind it, where one should
-abbrev pub MissingFault : List ℕ → AtomFault → Type 0
-MissingFault text faults.OperatorWithoutVersion = IsNameText text
-MissingFault text faults.Version = NoName text × HasNumber text
-MissingFault text faults.Name = NoName text × (HasNumber text → ⊥)
-MissingFault text faults.Memory = Unit {0}
-MissingFault text _ = ⊥
+-- a name and a version stand there, and an asterisk behind them, where none may
+pub record HasBadStar (may_star : Bool) (front : List ℕ) (star : Bool) : Type 0 where
+  pub versioned : NameThen IsReadableText front
+  pub unasked : may_star ≡ false
+  pub starred : star ≡ true
 
--- the fault of a text in which the hyphen at `at` has a version behind it
-abbrev pub PartedFault : List ℕ → ℕ → Bool → Bool → AtomFault → Type 0
-PartedFault text at may_star star faults.Name = NoName (take at text)
-PartedFault text at may_star star faults.Version = IsNameText (take at text) × ((p : Parts) → IsReadable p → drop (at + 1) text ≡ spelling p → ⊥)
-PartedFault text at may_star star faults.BadStar = IsNameText (take at text) × ((p : Parts) × IsReadable p × (drop (at + 1) text ≡ spelling p)) × (may_star ≡ false) × (star ≡ true)
-PartedFault text at may_star star faults.Memory = Unit {0}
-PartedFault text at may_star star _ = ⊥
+-- the same fault, or that of the asterisk
+abbrev pub StarredFault : Bool → List ℕ → Bool → AtomFault → Type 0
+StarredFault may_star front star faults.BadStar = HasBadStar may_star front star
+StarredFault may_star front star fault = NameVersionFault front fault
 
 -- the text without an asterisk at its end, and whether one stood there
 pub record IsUnstarred (text front : List ℕ) (star : Bool) : Type 0 where
@@ -89,7 +65,7 @@ pub record VersionedFault (may_star : Bool) (text : List ℕ) (fault : AtomFault
   pub front : List ℕ
   pub star : Bool
   pub unstarred : IsUnstarred text front star
-  pub why : (NoVersion front × MissingFault front fault) ⊎ ((at : ℕ) × PartsAt front at × PartedFault front at may_star star fault)
+  pub why : StarredFault may_star front star fault
 
 -- the first fault of what stands behind this operator
 abbrev pub BodyFault : Op → List ℕ → AtomFault → Type 0

@@ -1,16 +1,15 @@
 -- A package of one version, as its category and its name with the version (PMS 3.2).
-use Rattle.std.specs.Prelude.{◌≡◌, ℕ, ◌+◌, ◌<◌, ◌⊎◌, List, ◌∷◌, ◌++◌, length, take, drop, slice_index}
-use Rattle.version_text.specs.Grammar.{IsVersionText, Parts, spelling}
+use Rattle.std.specs.Prelude.{◌≡◌, ℕ, ◌+◌, ◌<◌, ◌⊎◌, List, ◌∷◌, ◌++◌, length, drop, slice_index}
+use Rattle.version_text.specs.Grammar.{IsVersionText, spelling}
 use Rattle.pms_version.specs.Limits.{IsReadable}
 use Rattle.pms_names.specs.Names.{IsName}
 use Rattle.pms_names.specs.declared.kind.Kind.TheVariants.{Category, Package}
 use Rattle.pms_names.specs.declared.fault.NameFault.{NameFault}
 use Rattle.pms_names.specs.declared.fault.NameFault.TheVariants as names
-use Rattle.pms_version.specs.declared.fault.VersionFault.{VersionFault}
-use Rattle.pms_version.specs.declared.fault.VersionFault.TheVariants as versions
 use Rattle.dep_atom.specs.declared.fault.AtomFault.{AtomFault}
-use Rattle.dep_atom.specs.declared.fault.AtomFault.TheVariants.{Name, Version, OperatorWithoutVersion, VersionWithoutOperator, BadStar, BadSlot, BadUse, Memory}
+use Rattle.dep_atom.specs.declared.fault.AtomFault.TheVariants.{Name, Version, Memory}
 use Rattle.dep_atom.specs.declared.package.PackageId.{PackageId}
+use Rattle.dep_atom.specs.Naming.{BeginsNumber, IsReadableText, PackageThen}
 
 -- the names are names, and the version is within the limits of one
 pub record IsId (id : PackageId) : Type 0 where
@@ -41,30 +40,25 @@ name_fault names.EndsLikeVersion = Name
 name_fault names.TooLong = Name
 name_fault names.Memory = Memory
 
--- a fault of a version, in an atom
-abbrev pub version_fault : VersionFault → AtomFault
-version_fault versions.Empty = Version
-version_fault (versions.BadChar at) = Version
-version_fault (versions.TooManyDigits at) = Version
-version_fault versions.TooLong = Version
-version_fault versions.Memory = Memory
+-- neither a package's name alone nor one with a hyphen and a digit begins the text
+pub record HasNoPackage (bytes : List ℕ) : Type 0 where
+  pub not_alone : IsName Package bytes → ⊥
+  pub not_numbered : PackageThen BeginsNumber bytes → ⊥
 
--- no hyphen of the text has a version behind it, or its name is one and its version is past the limits
-abbrev pub HasNoVersion : List ℕ → Type 0
-HasNoVersion bytes =
-    ((at : ℕ) → PartsAt bytes at → ⊥) ⊎ ((at : ℕ) × PartsAt bytes at × IsName Package (take at bytes) × ((p : Parts) → IsReadable p → drop (at + 1) bytes ≡ spelling p → ⊥))
+-- a package's name alone, or one with a hyphen and a digit, begins the text, but no version within the limits stands behind it
+pub record HasNoVersion (bytes : List ℕ) : Type 0 where
+  pub named : IsName Package bytes ⊎ PackageThen BeginsNumber bytes
+  pub unversioned : PackageThen IsReadableText bytes → ⊥
 
--- the category is none, or what stands before the version is no package's name
-abbrev pub HasNoName : List ℕ → List ℕ → Type 0
-HasNoName category bytes = (IsName Category category → ⊥) ⊎ ((at : ℕ) × PartsAt bytes at × (IsName Package (take at bytes) → ⊥))
+-- the first fault of a text that is to be a package's name with a version
+abbrev pub PackageFault : List ℕ → AtomFault → Type 0
+PackageFault bytes Name = HasNoPackage bytes
+PackageFault bytes Version = HasNoVersion bytes
+PackageFault bytes _ = ⊥
 
 -- the first fault of a category and a name with a version, from left to right
 abbrev pub FirstIdFault : List ℕ → List ℕ → AtomFault → Type 0
-FirstIdFault category bytes Name = HasNoName category bytes
+FirstIdFault category bytes Name = (IsName Category category → ⊥) ⊎ HasNoPackage bytes
 FirstIdFault category bytes Version = IsName Category category × HasNoVersion bytes
-FirstIdFault category bytes OperatorWithoutVersion = ⊥
-FirstIdFault category bytes VersionWithoutOperator = ⊥
-FirstIdFault category bytes BadStar = ⊥
-FirstIdFault category bytes BadSlot = ⊥
-FirstIdFault category bytes (BadUse at) = ⊥
 FirstIdFault category bytes Memory = Unit {0}
+FirstIdFault category bytes _ = ⊥

@@ -4,6 +4,7 @@ pub mod Faults
 pub mod Form
 pub mod Ids
 pub mod Match
+pub mod Naming
 pub mod Reading
 pub mod Text
 pub mod Values

@@ -1,10 +1,12 @@
 ghost use Rattle.std.specs.Prelude.{◌≡◌, ℕ, IfOk, IfErr, MatchResult, MatchOption, string_bytes};
-ghost use Rattle.dep_atom.specs.Ids.{IsId, name_and_version, PartsAt, name_fault, version_fault, FirstIdFault};
+ghost use Rattle.dep_atom.specs.Ids.{FirstIdFault, IsId, PackageFault, PartsAt, name_and_version, name_fault};
+ghost use Rattle.dep_atom.specs.Naming.{IsReadableText, PackageThen};
 ghost use Rattle.dep_atom.specs.declared.fault.AtomFault.TheVariants.{Memory};
 
 use crate::fault::AtomFault;
+use crate::naming::{begins_package_number, read_package_version};
 use pms_names::{Category, Flags, Name, NameFault, PackageName, SlotName};
-use pms_version::{Version, VersionFault};
+use pms_version::Version;
 use std::alloc::{AllocError, Global};
 
 /// One package of one version, as `category/package-version`.
@@ -36,27 +38,18 @@ impl PackageId {
         ensures only { (id : Id) → IsId id → category.now ≡ id.name.category → pf.now ≡ name_and_version id → MatchResult result (λ r. r ≡ id) (λ e. e ≡ Memory) }
         ensures fault { IfErr result (FirstIdFault category.now pf.now) }
     {
-        version_text::one_name_and_version();
-        version_text::one_spelling();
         let category = match Category::parse(alloc, category) {
             Ok(category) => category,
             Err(fault) => return Err(name_fault(fault)),
         };
-        let Some(at) = version_hyphen(pf.as_bytes()) else {
-            return Err(AtomFault::Version);
-        };
-        let (package, _) = pf.as_bytes().split_at(at);
-        let package = match PackageName::from_bytes(alloc, package) {
-            Ok(package) => package,
-            Err(fault) => return Err(name_fault(fault)),
-        };
-        let (_, version) = pf.split_at(at + 1);
-        match Version::parse(alloc, version) {
-            Ok(version) => Ok(PackageId {
+        let pf = pf.as_bytes();
+        match read_package_version(alloc, pf) {
+            Ok(Some((package, version))) => Ok(PackageId {
                 name: Name { category, package },
                 version,
             }),
-            Err(fault) => Err(version_fault(fault)),
+            Ok(None) => Err(package_fault(pf)),
+            Err(_) => Err(AtomFault::Memory),
         }
     }
 
@@ -79,6 +72,18 @@ impl PackageId {
     }
 }
 
+// Why a text is no package's name and version.
+fn package_fault(text: &[u8]) -> AtomFault
+    requires { PackageThen IsReadableText text.now → ⊥ }
+    ensures { PackageFault text.now result }
+{
+    if PackageName::is_one(text) || begins_package_number(text) {
+        AtomFault::Version
+    } else {
+        AtomFault::Name
+    }
+}
+
 /// The hyphen that parts a name and its version. No two hyphens of a text do.
 pub(crate) fn version_hyphen(bytes: &[u8]) -> Option<usize>
     ensures { MatchOption result ((at : ℕ) → PartsAt bytes.now at → ⊥) (PartsAt bytes.now) }
@@ -94,20 +99,12 @@ pub(crate) fn version_hyphen(bytes: &[u8]) -> Option<usize>
     None
 }
 
+/// A fault of a name, in an atom.
 pub(crate) fn name_fault(fault: NameFault) -> AtomFault
     ensures { result ≡ name_fault fault }
 {
     match fault {
         NameFault::Memory => AtomFault::Memory,
         _ => AtomFault::Name,
-    }
-}
-
-pub(crate) fn version_fault(fault: VersionFault) -> AtomFault
-    ensures { result ≡ version_fault fault }
-{
-    match fault {
-        VersionFault::Memory => AtomFault::Memory,
-        _ => AtomFault::Version,
     }
 }

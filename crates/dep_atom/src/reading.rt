@@ -1,6 +1,4 @@
-ghost use Rattle.std.specs.Prelude.{◌≡◌, ◌++◌, ◌∷◌, [], ◌-◌, ◌≤◌, ◌<◌, ℕ, Bool, true, false, List, Option, length, slice_index, IfOk, IfErr, IfNone, IfSome, IsTrue, ◌↔◌, MatchOption, MatchResult};
-ghost use Rattle.version_text.specs.Grammar.{Parts, spelling};
-ghost use Rattle.pms_version.specs.Limits.{IsReadable};
+ghost use Rattle.std.specs.Prelude.{◌≡◌, ◌++◌, ◌∷◌, [], ◌-◌, ◌≤◌, ◌<◌, ℕ, Bool, true, false, List, Option, length, slice_index, IfOk, IfErr, IfNone, IfSome, MatchOption, MatchResult};
 ghost use Rattle.pms_names.specs.Names.{IsName};
 ghost use Rattle.pms_names.specs.declared.kind.Kind.TheVariants as kinds;
 ghost use Rattle.dep_atom.specs.Cuts.{is_either, Lacks, Starts, end_text};
@@ -9,7 +7,8 @@ ghost use Rattle.dep_atom.specs.Text.{before_flag, block_text, op_text, star_tex
 ghost use Rattle.dep_atom.specs.Form.{IsNameForm, IsSlotForm, IsPackageForm, IsSubslotForm, IsUseForm, IsVersionedForm};
 ghost use Rattle.dep_atom.specs.Text.{name_text, otherwise_text, use_text, uses_text, version_part};
 ghost use Rattle.std.specs.List.{AllByRecursion};
-ghost use Rattle.dep_atom.specs.Faults.{BodyFault, HasNumber, IsNameFault, IsSlotFault, EndFault, ItemFault, IsUseFaultAt, IsVersionFault, MissingFault, PlainFault, VersionedFault};
+ghost use Rattle.dep_atom.specs.Faults.{BodyFault, EndFault, IsSlotFault, IsUseFaultAt, ItemFault, NameVersionFault, PlainFault, VersionedFault};
+ghost use Rattle.dep_atom.specs.Naming.{IsReadableText, NameThen};
 ghost use Rattle.pms_names.specs.declared.name.Name.{Name as FullName};
 ghost use Rattle.dep_atom.specs.declared.fault.AtomFault.TheVariants.{Memory};
 ghost use Rattle.dep_atom.specs.declared.reading.Package.{Package as ThePackage};
@@ -19,10 +18,11 @@ ghost use Rattle.dep_atom.specs.declared.uses.UseDep.{UseDep as Use};
 
 use crate::atom::{Block, Op};
 use crate::fault::AtomFault;
-use crate::package::{name_fault, version_fault, version_hyphen};
+use crate::naming::{begins_name_number, is_name, is_name_version, read_name, read_name_version};
+use crate::package::name_fault;
 use crate::slot::SlotPart;
 use crate::uses::{UseDep, UseKind};
-use pms_names::{Category, Flag, Name, PackageName, SlotName};
+use pms_names::{Flag, Name, SlotName};
 use pms_version::Version;
 use std::alloc::Global;
 
@@ -76,8 +76,8 @@ pub(crate) fn split_before(text: &[u8], one: u8, other: u8) -> (&[u8], &[u8])
     }
 }
 
-// What stands behind the byte, where the text begins with it.
-fn take_byte(text: &[u8], byte: u8) -> Option<&[u8]>
+/// What stands behind the byte, where the text begins with it.
+pub(crate) fn take_byte(text: &[u8], byte: u8) -> Option<&[u8]>
     ensures { MatchOption result ((rest : List ℕ) → text.now ≡ byte ∷ rest → ⊥) (λ rest. text.now ≡ byte ∷ rest.now) }
 {
     if text.is_empty() || text[0] != byte {
@@ -101,42 +101,6 @@ fn take_end(text: &[u8], end: u8) -> (&[u8], bool)
         (front, true)
     } else {
         (text, false)
-    }
-}
-
-// A category, a slash and a package's name.
-fn read_name(alloc: Global, text: &[u8]) -> Result<Name, AtomFault>
-    ensures found { IfOk result (λ name. text.now ≡ name_text name) }
-    ensures form { IfOk result IsNameForm }
-    ensures only { (n : FullName) → IsNameForm n → text.now ≡ name_text n → MatchResult result (λ r. r ≡ n) (λ e. e ≡ Memory) }
-    ensures fault { IfErr result IsNameFault }
-{
-    let (category, rest) = split_before(text, b'/', b'/');
-    let Some(package) = take_byte(rest, b'/') else {
-        return Err(AtomFault::Name);
-    };
-    let category = match Category::from_bytes(alloc, category) {
-        Ok(category) => category,
-        Err(fault) => return Err(name_fault(fault)),
-    };
-    match PackageName::from_bytes(alloc, package) {
-        Ok(package) => Ok(Name { category, package }),
-        Err(fault) => Err(name_fault(fault)),
-    }
-}
-
-fn read_version(alloc: Global, text: &[u8]) -> Result<Version, AtomFault>
-    ensures found { IfOk result (λ version. text.now ≡ spelling version) }
-    ensures form { IfOk result IsReadable }
-    ensures only { (p : Parts) → IsReadable p → text.now ≡ spelling p → MatchResult result (λ r. r ≡ p) (λ e. e ≡ Memory) }
-    ensures fault { IfErr result IsVersionFault }
-{
-    let Ok(text) = str::from_utf8(text) else {
-        return Err(AtomFault::Version);
-    };
-    match Version::parse(alloc, text) {
-        Ok(version) => Ok(version),
-        Err(fault) => Err(version_fault(fault)),
     }
 }
 
@@ -176,20 +140,11 @@ fn read_versioned(alloc: Global, may_star: bool, text: &[u8]) -> Result<Package,
     ensures only { (p : ThePackage) → IsVersionedForm may_star p.name p.version p.star → text.now ≡ name_text p.name ++ (version_part p.version ++ star_text p.star) → MatchResult result (λ r. r ≡ p) (λ e. e ≡ Memory) }
     ensures fault { IfErr result (VersionedFault may_star text.now) }
 {
-    version_text::one_name_and_version();
-    let (text, star) = take_end(text, b'*');
-    let Some(at) = version_hyphen(text) else {
-        return Err(missing_version(alloc, text));
-    };
-    let (name, rest) = text.split_at(at);
-    let (_, version) = rest.split_at(1);
-    let name = match read_name(alloc, name) {
-        Ok(name) => name,
-        Err(fault) => return Err(fault),
-    };
-    let version = match read_version(alloc, version) {
-        Ok(version) => version,
-        Err(fault) => return Err(fault),
+    let (front, star) = take_end(text, b'*');
+    let (name, version) = match read_name_version(alloc, front) {
+        Ok(Some(both)) => both,
+        Ok(None) => return Err(versioned_fault(front)),
+        Err(_) => return Err(AtomFault::Memory),
     };
     if star && !may_star {
         return Err(AtomFault::BadStar);
@@ -201,6 +156,20 @@ fn read_versioned(alloc: Global, may_star: bool, text: &[u8]) -> Result<Package,
     })
 }
 
+// Why a text behind an operator is no name and version.
+fn versioned_fault(text: &[u8]) -> AtomFault
+    requires { NameThen IsReadableText text.now → ⊥ }
+    ensures { NameVersionFault text.now result }
+{
+    if is_name(text) {
+        AtomFault::OperatorWithoutVersion
+    } else if begins_name_number(text) {
+        AtomFault::Version
+    } else {
+        AtomFault::Name
+    }
+}
+
 // A name alone: with a version behind it, it wants an operator.
 fn read_unversioned(alloc: Global, text: &[u8]) -> Result<Name, AtomFault>
     ensures found { IfOk result (λ name. text.now ≡ name_text name) }
@@ -209,45 +178,11 @@ fn read_unversioned(alloc: Global, text: &[u8]) -> Result<Name, AtomFault>
     ensures fault { IfErr result (PlainFault text.now) }
 {
     match read_name(alloc, text) {
-        Ok(name) => Ok(name),
-        Err(AtomFault::Name) => match version_hyphen(text) {
-            Some(_) => Err(AtomFault::VersionWithoutOperator),
-            None => Err(AtomFault::Name),
-        },
+        Ok(Some(name)) => Ok(name),
+        Ok(None) if is_name_version(text) => Err(AtomFault::VersionWithoutOperator),
+        Ok(None) => Err(AtomFault::Name),
         Err(_) => Err(AtomFault::Memory),
     }
-}
-
-// Why a text behind an operator has no version.
-fn missing_version(alloc: Global, text: &[u8]) -> AtomFault
-    ensures { MissingFault text.now result }
-{
-    let fault = match read_name(alloc, text) {
-        Ok(_) => return AtomFault::OperatorWithoutVersion,
-        Err(fault) => fault,
-    };
-    match fault {
-        AtomFault::Name => {
-            if has_number(text) {
-                AtomFault::Version
-            } else {
-                AtomFault::Name
-            }
-        }
-        _ => AtomFault::Memory,
-    }
-}
-
-// Does a digit stand behind some hyphen?
-fn has_number(text: &[u8]) -> bool
-    ensures { IsTrue result ↔ HasNumber text.now }
-{
-    for (at, b) in text.iter().enumerate() {
-        if *b == b'-' && at + 1 < text.len() && text[at + 1].is_ascii_digit() {
-            return true;
-        }
-    }
-    false
 }
 
 fn read_slot_name(alloc: Global, text: &[u8]) -> Result<SlotName, AtomFault>

@@ -7,10 +7,14 @@ use Rattle.pms_names.specs.declared.fault.NameFault.TheVariants.{Empty, BadChar,
 use Rattle.pms_names.specs.Bytes.{hyphen, may_contain, begins_badly}
 use Rattle.version_text.specs.Grammar.{IsVersionText}
 
--- names have some bytes, and at most 255
+-- how many bytes a name has at most
+abbrev pub max_length : ℕ
+max_length = 255
+
+-- names have some bytes, and not too many
 pub record HasNameLength (bytes : List ℕ) : Type 0 where
   pub some : 0 < length bytes
-  pub short : length bytes ≤ 255
+  pub short : length bytes ≤ max_length
 
 -- each byte is one that may stand in a name of the kind
 abbrev pub AreNameBytes : Kind → List ℕ → Type 0
@@ -47,7 +51,7 @@ pub record IsFirstBadByte (kind : Kind) (bytes : List ℕ) (at : ℕ) : Type 0 w
 -- the fault is the first that the text has; a name has none, but memory may run out on it
 abbrev pub FirstFault : Kind → List ℕ → NameFault → Type 0
 FirstFault kind bytes Empty = length bytes ≡ 0
-FirstFault kind bytes TooLong = 255 < length bytes
+FirstFault kind bytes TooLong = max_length < length bytes
 FirstFault kind bytes BadStart = HasNameLength bytes × (begins_badly kind (slice_index bytes 0) ≡ true)
 FirstFault kind bytes (BadChar at) = HasNameLength bytes × (begins_badly kind (slice_index bytes 0) ≡ false) × IsFirstBadByte kind bytes at
 FirstFault kind bytes EndsLikeVersion = IsSpelled kind bytes × EndsBadly kind bytes

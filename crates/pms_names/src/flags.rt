@@ -77,7 +77,7 @@ impl Flags {
     }
 
     /// The flags in byte order.
-    pub fn iter(&self) -> Iter<'_, Flag>
+    pub fn list(&self) -> Iter<'_, Flag>
         ensures all { result ≡ self.now }
         ensures rising { IsRising self.now }
         ensures runs { ShowsInOrder (deref {X = List ℕ}) }

@@ -9,6 +9,9 @@ use basics::Text;
 use std::alloc::{AllocError, Global};
 use std::marker::{Model, PhantomData};
 
+// How many bytes a name has at most.
+const MAX_LENGTH: usize = 255;
+
 /// A name of the kind that `K` marks. It is equal and ordered as its bytes are.
 #[derive(Debug, Drop, PartialEq, Eq, PartialOrd, Ord)]
 pub struct NameOf<K: NameKind> {
@@ -132,7 +135,7 @@ fn fault_of(kind: Kind, bytes: &[u8]) -> Option<NameFault>
     if bytes.is_empty() {
         return Some(NameFault::Empty);
     }
-    if bytes.len() > 255 {
+    if bytes.len() > MAX_LENGTH {
         return Some(NameFault::TooLong);
     }
     if begins_badly(kind, bytes[0]) {
