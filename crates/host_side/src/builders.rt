@@ -57,7 +57,7 @@ impl FolderBuilder {
     fn open(&self, id: &PackageId) -> io::Result<(Folder, Vec<Path>)> {
         let name = name_of_image(self.rt.alloc(), self.images.as_str(), id)?;
         let image = Folder::new(self.rt, name.as_str(), false)?;
-        let paths = in_order(self.rt.alloc(), image.list("")?)?;
+        let paths = in_order(self.rt.alloc(), image.list_all()?)?;
         Ok((image, paths))
     }
 }

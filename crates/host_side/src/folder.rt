@@ -142,6 +142,14 @@ impl Folder {
         }
     }
 
+    /// All paths of the folder, which has to be there.
+    pub fn list_all(&self) -> io::Result<BTreeSet<Path>> {
+        match self.find("")? {
+            Found::Nothing => Err(io::Error::from(io::ErrorKind::NotFound)),
+            _ => self.list(""),
+        }
+    }
+
     /// The paths below a path, or all of them where it has no text. What is no object, or has a name
     /// that no path has, is an error.
     pub fn list(&self, path: &str) -> io::Result<BTreeSet<Path>> {
