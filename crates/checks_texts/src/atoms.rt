@@ -335,3 +335,41 @@ fn text_of_package(alloc: Global, category: &str, pf: &str) -> Result<String, Al
         Err(fault) => fault.to_string(alloc),
     }
 }
+
+#[test]
+fn names_of_255_bytes(rt: HostRuntime) -> Result<(), Fail> {
+    let longest = with_names_of(rt.alloc(), 255)?;
+    assert!(rt; is_printed(rt.alloc(), longest.as_str())?);
+    let too_long = with_names_of(rt.alloc(), 256)?;
+    let fault = fault_of(rt.alloc(), too_long.as_str())?;
+    assert_eq!(rt; fault.as_str(), "no category and package name");
+    Ok(())
+}
+
+/// An atom each of whose names has so many bytes.
+fn with_names_of(alloc: Global, len: usize) -> Result<String, AllocError> {
+    let mut name = String::new(alloc);
+    for _ in 0..len {
+        name.push('a')?;
+    }
+    let name = name.as_str();
+    format!(in alloc; ">={name}/{name}-1:{name}/{name}=[{name}(+)?]")
+}
+
+#[test]
+fn a_use_list_of_64_kib(rt: HostRuntime) -> Result<(), Fail> {
+    let text = with_items(rt.alloc(), 32_768)?;
+    assert!(rt; is_printed(rt.alloc(), text.as_str())?);
+    Ok(())
+}
+
+/// An atom with one USE item more than so many.
+fn with_items(alloc: Global, more: usize) -> Result<String, AllocError> {
+    let mut text = String::new(alloc);
+    text.push_str("c/p[x")?;
+    for _ in 0..more {
+        text.push_str(",x")?;
+    }
+    text.push_str("]")?;
+    Ok(text)
+}

@@ -13,7 +13,7 @@ use Rattle.pms_names.specs.declared.name.Name.{Name}
 use Rattle.dep_atom.specs.Cuts.{Lacks, Starts}
 use Rattle.dep_atom.specs.Form.{IsNameForm}
 use Rattle.dep_atom.specs.Ids.{PartsAt}
-use Rattle.dep_atom.specs.Naming.{BeginsNumber, IsInCategory, IsNameText, IsNumberAt, IsReadableText, NameThen, PackageThen}
+use Rattle.dep_atom.specs.Naming.{BeginsNumber, HasNoCategory, IsInCategory, IsNameText, IsNumberAt, IsReadableText, NameThen, PackageThen}
 use Rattle.dep_atom.specs.Text.{name_text}
 use Rattle.dep_atom.proofs.Cuts.{cut_once}
 use Rattle.dep_atom.proofs.Joined.{parts_at_seam, parts_are, cut_at}
@@ -36,16 +36,13 @@ name_is m n is form e =
     let once = behind_once (name_text m) m.category m.«package» n n.«package» (record { named = is.category; whole = refl }) form e in
     name_same m.category m.«package» n once.0 once.1
 
-abbrev NoCategory : List ℕ → Type 0
-NoCategory text = (category rest : List ℕ) → IsInCategory text category rest → ⊥
-
 pub name_in : (text category rest : List ℕ) → IsInCategory text category rest → IsName kinds.Package rest → IsNameText text
 name_in text category rest is named = (record { category = category; «package» = rest }, record { category = is.named; «package» = named }, is.whole)
 
 pub package_of : (text category rest : List ℕ) → IsInCategory text category rest → IsNameText text → IsName kinds.Package rest
 package_of text category rest is name = subst (λ l. IsName kinds.Package l) (sym (behind_once text category rest name.0 name.0.«package» is name.1 name.2).1) name.1.«package»
 
-pub no_name : (text : List ℕ) → NoCategory text → IsNameText text → ⊥
+pub no_name : (text : List ℕ) → HasNoCategory text → IsNameText text → ⊥
 no_name text none name = none name.0.category name.0.«package» (record { named = name.1.category; whole = name.2 })
 
 pub then_in : (P : List ℕ → Type 0) (text category rest : List ℕ) → IsInCategory text category rest → PackageThen P rest → NameThen P text
@@ -61,7 +58,7 @@ then_of P text category rest is t =
     let once = behind_once text category rest t.0 (t.0.«package» ++ (45 ∷ t.1)) is t.2 (apart_at_slash P text t) in
     (t.0.«package», t.1, t.2.«package», t.3, once.1)
 
-pub no_then : (P : List ℕ → Type 0) (text : List ℕ) → NoCategory text → NameThen P text → ⊥
+pub no_then : (P : List ℕ → Type 0) (text : List ℕ) → HasNoCategory text → NameThen P text → ⊥
 no_then P text none t = none t.0.category (t.0.«package» ++ (45 ∷ t.1)) (record { named = t.2.category; whole = apart_at_slash P text t })
 
 -- a readable version is one, and each begins with a digit

@@ -28,19 +28,22 @@ IsUseFaultAt at (faults.BadUse k) = k ≡ at
 IsUseFaultAt at faults.Memory = Unit {0}
 IsUseFaultAt at _ = ⊥
 
--- the first fault of what stands in an atom without an operator: a version behind the name, or else the name
+-- the first fault of what stands in an atom without an operator: a version behind the name, or else
+-- the name
 abbrev pub PlainFault : List ℕ → AtomFault → Type 0
 PlainFault text faults.VersionWithoutOperator = NameThen IsVersionText text
 PlainFault text faults.Name = (IsNameText text → ⊥) × (NameThen IsVersionText text → ⊥)
 PlainFault text faults.Memory = Unit {0}
 PlainFault text _ = ⊥
 
--- the first fault of what is to be a name, a hyphen and a version: a name stands alone; or what it begins with is no name with a
--- hyphen and a digit; or it is, but no version within the limits stands behind that hyphen
+-- the first fault of what is to be a name, a hyphen and a version: a name stands alone; or what it
+-- begins with is no name with a hyphen and a digit; or it is, but no version within the limits
+-- stands behind that hyphen
 abbrev pub NameVersionFault : List ℕ → AtomFault → Type 0
 NameVersionFault text faults.OperatorWithoutVersion = IsNameText text
 NameVersionFault text faults.Name = (IsNameText text → ⊥) × (NameThen BeginsNumber text → ⊥)
-NameVersionFault text faults.Version = (IsNameText text → ⊥) × NameThen BeginsNumber text × (NameThen IsReadableText text → ⊥)
+NameVersionFault text faults.Version =
+    (IsNameText text → ⊥) × NameThen BeginsNumber text × (NameThen IsReadableText text → ⊥)
 NameVersionFault text faults.Memory = Unit {0}
 NameVersionFault text _ = ⊥
 
@@ -98,11 +101,13 @@ abbrev pub before_item : List UseDep → List ℕ
 before_item [] = 91 ∷ []
 before_item (first ∷ others) = opened_text (first ∷ others) ++ (44 ∷ [])
 
--- a USE part is in order up to `left`, where an item is to begin and none does, or where the list is to end and doesn't
+-- a USE part is in order up to `left`, where an item is to begin and none does, or the list is to end
+-- and doesn't
 pub record GoesWrong (uses left : List ℕ) : Type 0 where
   pub items : List UseDep
   pub forms : AllByRecursion IsUseForm items
-  pub why : ((uses ≡ before_item items ++ left) × BeginsNoItem left) ⊎ ((0 < length items) × (uses ≡ opened_text items ++ left) × IsNoEnd left)
+  pub why : ((uses ≡ before_item items ++ left) × BeginsNoItem left)
+      ⊎ ((0 < length items) × (uses ≡ opened_text items ++ left) × IsNoEnd left)
 
 -- the fault of the USE item with which the text begins, at `at`
 abbrev pub ItemFault : ℕ → List ℕ → AtomFault → Type 0
@@ -119,12 +124,14 @@ EndFault total uses _ = ⊥
 -- no USE part is so spelled, and it goes wrong `at` bytes behind the beginning of the whole text
 abbrev pub UsesTextFault : List ℕ → List ℕ → AtomFault → Type 0
 UsesTextFault text uses (faults.BadUse at) =
-    ((us : List UseDep) → AllByRecursion IsUseForm us → uses ≡ uses_text us → ⊥) × ((left : List ℕ) × (at + length left ≡ length text) × GoesWrong uses left)
+    ((us : List UseDep) → AllByRecursion IsUseForm us → uses ≡ uses_text us → ⊥)
+    × ((left : List ℕ) × (at + length left ≡ length text) × GoesWrong uses left)
 UsesTextFault text uses faults.Memory = Unit {0}
 UsesTextFault text uses _ = ⊥
 
--- an atom's text as it comes apart: the block and the operator that it begins with, what stands before the first colon or opening
--- bracket, what stands before the first opening bracket behind that, and the rest
+-- an atom's text as it comes apart: the block and the operator that it begins with, what stands
+-- before the first colon or opening bracket, what stands before the first opening bracket behind
+-- that, and the rest
 pub record Cut (text : List ℕ) : Type 0 where
   pub block : Block
   pub op : Op
@@ -141,7 +148,9 @@ pub record Cut (text : List ℕ) : Type 0 where
 
 -- the text between the operator and the slot part is in order
 abbrev pub IsBodyText : Op → List ℕ → Type 0
-IsBodyText op text = (name : Name) × (version : Option Parts) × (star : Bool) × IsPackageForm op name version star × (text ≡ name_text name ++ (version_part version ++ star_text star))
+IsBodyText op text =
+    (name : Name) × (version : Option Parts) × (star : Bool) × IsPackageForm op name version star
+    × (text ≡ name_text name ++ (version_part version ++ star_text star))
 
 abbrev pub IsSlotText : List ℕ → Type 0
 IsSlotText text = (s : SlotPart) × IsSlotForm s × (text ≡ slot_text s)
@@ -149,4 +158,6 @@ IsSlotText text = (s : SlotPart) × IsSlotForm s × (text ≡ slot_text s)
 -- the first fault: of the package, then of the slot part, then of the USE part
 pub record FirstFault (text : List ℕ) (fault : AtomFault) : Type 0 where
   pub cut : Cut text
-  pub why : BodyFault cut.op cut.body fault ⊎ (IsBodyText cut.op cut.body × (SlotTextFault cut.slot fault ⊎ (IsSlotText cut.slot × UsesTextFault text cut.uses fault)))
+  pub why : BodyFault cut.op cut.body fault
+      ⊎ (IsBodyText cut.op cut.body × (SlotTextFault cut.slot fault
+      ⊎ (IsSlotText cut.slot × UsesTextFault text cut.uses fault)))

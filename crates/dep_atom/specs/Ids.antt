@@ -45,7 +45,8 @@ pub record HasNoPackage (bytes : List ℕ) : Type 0 where
   pub not_alone : IsName Package bytes → ⊥
   pub not_numbered : PackageThen BeginsNumber bytes → ⊥
 
--- a package's name alone, or one with a hyphen and a digit, begins the text, but no version within the limits stands behind it
+-- a package's name alone, or one with a hyphen and a digit, begins the text, but no version within
+-- the limits stands behind it
 pub record HasNoVersion (bytes : List ℕ) : Type 0 where
   pub named : IsName Package bytes ⊎ PackageThen BeginsNumber bytes
   pub unversioned : PackageThen IsReadableText bytes → ⊥

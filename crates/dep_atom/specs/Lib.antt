@@ -1,10 +1,12 @@
 pub mod Atoms
+pub mod Body
 pub mod Cuts
 pub mod Faults
 pub mod Form
 pub mod Ids
 pub mod Match
 pub mod Naming
+pub mod Promises
 pub mod Reading
 pub mod Text
 pub mod Values

@@ -26,8 +26,10 @@ abbrev pub version_fits : Op → Bool → Parts → Parts → Bool
 version_fits Any star version candidate = true
 version_fits Less star version candidate = is_lt (version_cmp candidate version)
 version_fits LessEqual star version candidate = is_le (version_cmp candidate version)
-version_fits Equal star version candidate = if star then version_begins version candidate else is_eq (version_cmp candidate version)
-version_fits Similar star version candidate = is_eq (version_cmp (without_revision candidate) (without_revision version))
+version_fits Equal star version candidate =
+    if star then version_begins version candidate else is_eq (version_cmp candidate version)
+version_fits Similar star version candidate =
+    is_eq (version_cmp (without_revision candidate) (without_revision version))
 version_fits GreaterEqual star version candidate = is_ge (version_cmp candidate version)
 version_fits Greater star version candidate = is_gt (version_cmp candidate version)
 
@@ -46,11 +48,13 @@ abbrev pub accepts_slot : SlotPart → List ℕ → List ℕ → Bool
 accepts_slot Free slot subslot = true
 accepts_slot Star slot subslot = true
 accepts_slot Equals slot subslot = true
-accepts_slot (Given written sub equals) slot subslot = bytes_eq written slot && accepts_subslot sub subslot
+accepts_slot (Given written sub equals) slot subslot =
+    bytes_eq written slot && accepts_subslot sub subslot
 
 -- what a package's flag is worth: an unknown one, what the atom says of such, if anything
 abbrev pub value_of : List (List ℕ) → List (List ℕ) → List ℕ → Option Bool → Option Bool
-value_of iuse enabled flag otherwise = if has iuse flag || has enabled flag then Some (has enabled flag) else otherwise
+value_of iuse enabled flag otherwise =
+    if has iuse flag || has enabled flag then Some (has enabled flag) else otherwise
 
 -- the value is one that the kind of item asks for, of an asker that has the flag or hasn't
 abbrev pub agrees : UseKind → Bool → Bool → Bool
@@ -67,12 +71,17 @@ agrees_with kind asker None = false
 agrees_with kind asker (Some value) = agrees kind asker value
 
 abbrev pub accepts_use : List (List ℕ) → List (List ℕ) → List (List ℕ) → UseDep → Bool
-accepts_use iuse enabled asker item = agrees_with item.kind (has asker item.flag) (value_of iuse enabled item.flag item.otherwise)
+accepts_use iuse enabled asker item =
+    agrees_with item.kind (has asker item.flag) (value_of iuse enabled item.flag item.otherwise)
 
--- the name, the version, the slot and each USE item of an atom that says this accept the package, for an asker with these flags
+-- the name, the version, the slot and each USE item of an atom that says this accept the package, for
+-- an asker with these flags
 abbrev pub value_matches : AtomValue → Facts → List (List ℕ) → Bool
 value_matches a target asker =
-    same_name a.name target.id.name && (accepts_version a.op a.star a.version target.id.version && (accepts_slot a.slot target.slot target.subslot && list_all (accepts_use target.iuse target.enabled asker) a.uses))
+    same_name a.name target.id.name
+    && (accepts_version a.op a.star a.version target.id.version
+    && (accepts_slot a.slot target.slot target.subslot
+    && list_all (accepts_use target.iuse target.enabled asker) a.uses))
 
 -- the same of an atom
 abbrev pub matches : Atom → Facts → List (List ℕ) → Bool

@@ -1,4 +1,4 @@
--- The words in which a package's name and version are told, and their faults: names, and what may stand behind them.
+-- The words in which a package's name and version, and their faults, are told.
 use Rattle.std.specs.Prelude.{◌≡◌, ℕ, ◌+◌, ◌<◌, true, List, ◌∷◌, ◌++◌, length, take, drop, slice_index}
 use Rattle.basics.specs.Bytes.{is_digit}
 use Rattle.version_text.specs.Grammar.{Parts, spelling}
@@ -20,15 +20,31 @@ IsNameText text = (n : Name) × IsNameForm n × (text ≡ name_text n)
 
 -- the text is a category, a slash, a package's name, a hyphen, and then what P says
 abbrev pub NameThen : (List ℕ → Type 0) → List ℕ → Type 0
-NameThen P text = (n : Name) × (rest : List ℕ) × IsNameForm n × P rest × (text ≡ name_text n ++ (45 ∷ rest))
+NameThen P text =
+    (n : Name) × (rest : List ℕ) × IsNameForm n × P rest × (text ≡ name_text n ++ (45 ∷ rest))
 
 -- the text is a package's name, a hyphen, and then what P says
 abbrev pub PackageThen : (List ℕ → Type 0) → List ℕ → Type 0
-PackageThen P text = (name : List ℕ) × (rest : List ℕ) × IsName kinds.Package name × P rest × (text ≡ name ++ (45 ∷ rest))
+PackageThen P text =
+    (name : List ℕ) × (rest : List ℕ) × IsName kinds.Package name × P rest × (text ≡ name ++ (45 ∷ rest))
 
 -- the text is a version within the limits
 abbrev pub IsReadableText : List ℕ → Type 0
 IsReadableText text = (p : Parts) × IsReadable p × (text ≡ spelling p)
+
+-- the text is this package's name, a hyphen and this version
+abbrev pub IsPackageVersion : List ℕ → List ℕ → Parts → Type 0
+IsPackageVersion text name version =
+    IsName kinds.Package name × IsReadable version × (text ≡ name ++ (45 ∷ spelling version))
+
+-- the text is this name, a hyphen and this version
+abbrev pub IsNameVersion : List ℕ → Name → Parts → Type 0
+IsNameVersion text name version =
+    IsNameForm name × IsReadable version × (text ≡ name_text name ++ (45 ∷ spelling version))
+
+-- the text begins with no category and slash
+abbrev pub HasNoCategory : List ℕ → Type 0
+HasNoCategory text = (category rest : List ℕ) → IsInCategory text category rest → ⊥
 
 -- the text begins with a digit, as each version does
 abbrev pub BeginsNumber : List ℕ → Type 0

@@ -87,7 +87,8 @@ otherwise_text (Some true) = 40 ∷ 43 ∷ 41 ∷ []
 otherwise_text (Some false) = 40 ∷ 45 ∷ 41 ∷ []
 
 abbrev pub use_text : UseDep → List ℕ
-use_text item = before_flag item.kind ++ (item.flag ++ (otherwise_text item.otherwise ++ after_flag item.kind))
+use_text item =
+    before_flag item.kind ++ (item.flag ++ (otherwise_text item.otherwise ++ after_flag item.kind))
 
 -- a comma and the item
 abbrev pub further_use_text : UseDep → List ℕ
@@ -105,7 +106,9 @@ opened_text (first ∷ others) = 91 ∷ (use_text first ++ flat_map further_use_
 
 -- the one spelling of an atom that says this
 abbrev pub value_text : AtomValue → List ℕ
-value_text a = block_text a.block ++ (op_text a.op ++ (name_text a.name ++ (version_part a.version ++ (star_text a.star ++ (slot_text a.slot ++ uses_text a.uses)))))
+value_text a =
+    block_text a.block ++ (op_text a.op ++ (name_text a.name ++ (version_part a.version
+    ++ (star_text a.star ++ (slot_text a.slot ++ uses_text a.uses)))))
 
 -- the one spelling of the atom
 abbrev pub atom_text : Atom → List ℕ

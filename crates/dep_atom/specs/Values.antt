@@ -18,4 +18,13 @@ pub record AtomValue : Type 0 where
   pub uses : List UseDep
 
 abbrev pub atom_value : Atom → AtomValue
-atom_value a = record { block = a.block; op = a.op; name = a.name; version = a.version; star = a.star; slot = a.slot; uses = a.uses.items }
+atom_value a =
+    record {
+      block = a.block;
+      op = a.op;
+      name = a.name;
+      version = a.version;
+      star = a.star;
+      slot = a.slot;
+      uses = a.uses.items;
+    }

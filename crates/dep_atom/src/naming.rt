@@ -1,11 +1,13 @@
-ghost use Rattle.std.specs.Prelude.{◌≡◌, ℕ, ◌<◌, ◌++◌, ◌∷◌, List, length, slice_index, true, IfOk, IsTrue, ◌↔◌, MatchOption};
+ghost use Rattle.std.specs.Prelude.{◌≡◌, ◌<◌, length, slice_index, IsTrue, ◌↔◌, MatchOption};
 ghost use Rattle.basics.specs.Bytes.{is_digit};
 ghost use Rattle.version_text.specs.Grammar.{IsVersionText, spelling};
 ghost use Rattle.pms_version.specs.Limits.{IsReadable};
 ghost use Rattle.pms_names.specs.Names.{IsName};
-ghost use Rattle.pms_names.specs.declared.kind.Kind.TheVariants as kinds;
 ghost use Rattle.dep_atom.specs.Form.{IsNameForm};
-ghost use Rattle.dep_atom.specs.Naming.{BeginsNumber, IsInCategory, IsNameText, IsNumberAt, IsReadableText, NameThen, PackageThen};
+ghost use Rattle.dep_atom.specs.Naming.{BeginsNumber, HasNoCategory, IsInCategory, IsNameText};
+ghost use Rattle.dep_atom.specs.Naming.{IsNameVersion, IsNumberAt, IsPackageVersion, IsReadableText};
+ghost use Rattle.dep_atom.specs.Naming.{NameThen, PackageThen};
+ghost use Rattle.dep_atom.specs.Promises.{FindsWhere};
 ghost use Rattle.dep_atom.specs.Text.{name_text};
 
 use crate::package::version_hyphen;
@@ -17,7 +19,7 @@ use std::alloc::{AllocError, Global};
 
 // The category with which the text begins, and what stands behind its slash.
 fn split_category(text: &[u8]) -> Option<(&[u8], &[u8])>
-    ensures { MatchOption result ((category rest : List ℕ) → IsInCategory text.now category rest → ⊥) (λ r. IsInCategory text.now r.0.now r.1.now) }
+    ensures { MatchOption result (HasNoCategory text.now) (λ r. IsInCategory text.now r.0.now r.1.now) }
 {
     let (category, rest) = split_before(text, b'/', b'/');
     let Some(rest) = take_byte(rest, b'/') else {
@@ -32,7 +34,7 @@ fn split_category(text: &[u8]) -> Option<(&[u8], &[u8])>
 
 // The whole text as a name of this kind, if it is one.
 fn read_part<K: NameKind>(alloc: Global, text: &[u8]) -> Result<Option<NameOf<K>>, AllocError>
-    ensures { IfOk result (λ r. MatchOption r (IsName K.kind text.now → ⊥) (λ name. IsName K.kind text.now × (name ≡ text.now))) }
+    ensures { FindsWhere (IsName K.kind text.now) (λ n. IsName K.kind n × (n ≡ text.now)) result }
 {
     match NameOf::from_bytes(alloc, text) {
         Ok(name) => Ok(Some(name)),
@@ -42,7 +44,7 @@ fn read_part<K: NameKind>(alloc: Global, text: &[u8]) -> Result<Option<NameOf<K>
 }
 
 fn read_version(alloc: Global, text: &[u8]) -> Result<Option<Version>, AllocError>
-    ensures { IfOk result (λ r. MatchOption r (IsReadableText text.now → ⊥) (λ version. IsReadable version × (text.now ≡ spelling version))) }
+    ensures { FindsWhere (IsReadableText text.now) (λ v. IsReadable v × (text.now ≡ spelling v)) result }
 {
     let Ok(text) = str::from_utf8(text) else {
         return Ok(None);
@@ -56,7 +58,7 @@ fn read_version(alloc: Global, text: &[u8]) -> Result<Option<Version>, AllocErro
 
 /// The whole text as a category, a slash and a package's name.
 pub(crate) fn read_name(alloc: Global, text: &[u8]) -> Result<Option<Name>, AllocError>
-    ensures { IfOk result (λ r. MatchOption r (IsNameText text.now → ⊥) (λ name. IsNameForm name × (text.now ≡ name_text name))) }
+    ensures { FindsWhere (IsNameText text.now) (λ n. IsNameForm n × (text.now ≡ name_text n)) result }
 {
     let Some((category, package)) = split_category(text) else {
         return Ok(None);
@@ -75,7 +77,7 @@ pub(crate) fn read_package_version(
     alloc: Global,
     text: &[u8],
 ) -> Result<Option<(PackageName, Version)>, AllocError>
-    ensures { IfOk result (λ r. MatchOption r (PackageThen IsReadableText text.now → ⊥) (λ p. IsName kinds.Package p.0 × IsReadable p.1 × (text.now ≡ p.0 ++ (45 ∷ spelling p.1)))) }
+    ensures { FindsWhere (PackageThen IsReadableText text.now) (λ p. IsPackageVersion text.now p.0 p.1) result }
 {
     let Some(at) = version_hyphen(text) else {
         return Ok(None);
@@ -96,7 +98,7 @@ pub(crate) fn read_name_version(
     alloc: Global,
     text: &[u8],
 ) -> Result<Option<(Name, Version)>, AllocError>
-    ensures { IfOk result (λ r. MatchOption r (NameThen IsReadableText text.now → ⊥) (λ p. IsNameForm p.0 × IsReadable p.1 × (text.now ≡ name_text p.0 ++ (45 ∷ spelling p.1)))) }
+    ensures { FindsWhere (NameThen IsReadableText text.now) (λ p. IsNameVersion text.now p.0 p.1) result }
 {
     let Some((category, rest)) = split_category(text) else {
         return Ok(None);

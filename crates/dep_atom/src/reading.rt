@@ -1,18 +1,19 @@
-ghost use Rattle.std.specs.Prelude.{◌≡◌, ◌++◌, ◌∷◌, [], ◌-◌, ◌≤◌, ◌<◌, ℕ, Bool, true, false, List, Option, length, slice_index, IfOk, IfErr, IfNone, IfSome, MatchOption, MatchResult};
+ghost use Rattle.std.specs.Prelude.{◌≡◌, ◌++◌, ◌∷◌, [], ◌-◌, ◌≤◌, ◌<◌, ℕ, Bool, true, false, List, Option};
+ghost use Rattle.std.specs.Prelude.{length, slice_index, IfOk, IfErr, IfNone, IfSome, MatchOption, MatchResult};
+ghost use Rattle.std.specs.List.{AllByRecursion};
 ghost use Rattle.pms_names.specs.Names.{IsName};
 ghost use Rattle.pms_names.specs.declared.kind.Kind.TheVariants as kinds;
+ghost use Rattle.dep_atom.specs.Body.{IsBodyForm, IsVersionedBody, body_text};
 ghost use Rattle.dep_atom.specs.Cuts.{is_either, Lacks, Starts, end_text};
-ghost use Rattle.dep_atom.specs.Reading.{block_at, op_at, use_kind_at};
-ghost use Rattle.dep_atom.specs.Text.{before_flag, block_text, op_text, star_text, subslot_text, equals_text, slot_text};
-ghost use Rattle.dep_atom.specs.Form.{IsNameForm, IsSlotForm, IsPackageForm, IsSubslotForm, IsUseForm, IsVersionedForm};
-ghost use Rattle.dep_atom.specs.Text.{name_text, otherwise_text, use_text, uses_text, version_part};
-ghost use Rattle.std.specs.List.{AllByRecursion};
-ghost use Rattle.dep_atom.specs.Faults.{BodyFault, EndFault, IsSlotFault, IsUseFaultAt, ItemFault, NameVersionFault, PlainFault, VersionedFault};
+ghost use Rattle.dep_atom.specs.Faults.{BodyFault, EndFault, IsSlotFault, IsUseFaultAt, ItemFault};
+ghost use Rattle.dep_atom.specs.Faults.{NameVersionFault, PlainFault, VersionedFault};
+ghost use Rattle.dep_atom.specs.Form.{IsNameForm, IsSlotForm, IsSubslotForm, IsUseForm};
 ghost use Rattle.dep_atom.specs.Naming.{IsReadableText, NameThen};
-ghost use Rattle.pms_names.specs.declared.name.Name.{Name as FullName};
+ghost use Rattle.dep_atom.specs.Promises.{ReadsBack};
+ghost use Rattle.dep_atom.specs.Reading.{block_at, op_at, use_kind_at};
+ghost use Rattle.dep_atom.specs.Text.{before_flag, block_text, equals_text, name_text, op_text};
+ghost use Rattle.dep_atom.specs.Text.{otherwise_text, slot_text, subslot_text, use_text, uses_text};
 ghost use Rattle.dep_atom.specs.declared.fault.AtomFault.TheVariants.{Memory};
-ghost use Rattle.dep_atom.specs.declared.reading.Package.{Package as ThePackage};
-ghost use Rattle.dep_atom.specs.declared.slot.SlotPart.{SlotPart as Slots};
 ghost use Rattle.dep_atom.specs.declared.slot.SlotPart.TheVariants.{Given};
 ghost use Rattle.dep_atom.specs.declared.uses.UseDep.{UseDep as Use};
 
@@ -114,9 +115,9 @@ pub(crate) struct Package {
 
 /// Reads what stands between the operator and the slot part.
 pub(crate) fn read_package(alloc: Global, op: Op, text: &[u8]) -> Result<Package, AtomFault>
-    ensures found { IfOk result (λ p. text.now ≡ name_text p.name ++ (version_part p.version ++ star_text p.star)) }
-    ensures form { IfOk result (λ p. IsPackageForm op p.name p.version p.star) }
-    ensures only { (p : ThePackage) → IsPackageForm op p.name p.version p.star → text.now ≡ name_text p.name ++ (version_part p.version ++ star_text p.star) → MatchResult result (λ r. r ≡ p) (λ e. e ≡ Memory) }
+    ensures found { IfOk result (λ p. text.now ≡ body_text p) }
+    ensures form { IfOk result (IsBodyForm op) }
+    ensures only { ReadsBack (IsBodyForm op) body_text text.now result }
     ensures fault { IfErr result (BodyFault op text.now) }
 {
     match op {
@@ -135,9 +136,9 @@ pub(crate) fn read_package(alloc: Global, op: Op, text: &[u8]) -> Result<Package
 
 // A name and a version, with an asterisk where it may stand.
 fn read_versioned(alloc: Global, may_star: bool, text: &[u8]) -> Result<Package, AtomFault>
-    ensures found { IfOk result (λ p. text.now ≡ name_text p.name ++ (version_part p.version ++ star_text p.star)) }
-    ensures form { IfOk result (λ p. IsVersionedForm may_star p.name p.version p.star) }
-    ensures only { (p : ThePackage) → IsVersionedForm may_star p.name p.version p.star → text.now ≡ name_text p.name ++ (version_part p.version ++ star_text p.star) → MatchResult result (λ r. r ≡ p) (λ e. e ≡ Memory) }
+    ensures found { IfOk result (λ p. text.now ≡ body_text p) }
+    ensures form { IfOk result (IsVersionedBody may_star) }
+    ensures only { ReadsBack (IsVersionedBody may_star) body_text text.now result }
     ensures fault { IfErr result (VersionedFault may_star text.now) }
 {
     let (front, star) = take_end(text, b'*');
@@ -174,7 +175,7 @@ fn versioned_fault(text: &[u8]) -> AtomFault
 fn read_unversioned(alloc: Global, text: &[u8]) -> Result<Name, AtomFault>
     ensures found { IfOk result (λ name. text.now ≡ name_text name) }
     ensures form { IfOk result IsNameForm }
-    ensures only { (n : FullName) → IsNameForm n → text.now ≡ name_text n → MatchResult result (λ r. r ≡ n) (λ e. e ≡ Memory) }
+    ensures only { ReadsBack IsNameForm name_text text.now result }
     ensures fault { IfErr result (PlainFault text.now) }
 {
     match read_name(alloc, text) {
@@ -204,7 +205,7 @@ fn read_slot_name(alloc: Global, text: &[u8]) -> Result<SlotName, AtomFault>
 fn read_subslot(alloc: Global, text: &[u8]) -> Result<Option<SlotName>, AtomFault>
     ensures found { IfOk result (λ subslot. text.now ≡ subslot_text subslot) }
     ensures form { IfOk result IsSubslotForm }
-    ensures only { (s : Option (List ℕ)) → IsSubslotForm s → text.now ≡ subslot_text s → MatchResult result (λ r. r ≡ s) (λ e. e ≡ Memory) }
+    ensures only { ReadsBack IsSubslotForm subslot_text text.now result }
     ensures fault { IfErr result IsSlotFault }
 {
     if text.is_empty() {
@@ -246,7 +247,7 @@ fn read_given(alloc: Global, text: &[u8]) -> Result<SlotPart, AtomFault>
 pub(crate) fn read_slot(alloc: Global, text: &[u8]) -> Result<SlotPart, AtomFault>
     ensures found { IfOk result (λ slot. text.now ≡ slot_text slot) }
     ensures form { IfOk result IsSlotForm }
-    ensures only { (s : Slots) → IsSlotForm s → text.now ≡ slot_text s → MatchResult result (λ r. r ≡ s) (λ e. e ≡ Memory) }
+    ensures only { ReadsBack IsSlotForm slot_text text.now result }
     ensures fault { IfErr result IsSlotFault }
 {
     if text.is_empty() {
@@ -324,7 +325,7 @@ fn read_first_use(alloc: Global, text: &[u8], total: usize) -> Result<(UseDep, &
 fn read_use(alloc: Global, item: &[u8], at: usize) -> Result<UseDep, AtomFault>
     ensures found { IfOk result (λ u. item.now ≡ use_text u) }
     ensures form { IfOk result IsUseForm }
-    ensures only { (u : Use) → IsUseForm u → item.now ≡ use_text u → MatchResult result (λ r. r ≡ u) (λ e. e ≡ Memory) }
+    ensures only { ReadsBack IsUseForm use_text item.now result }
     ensures fault { IfErr result (IsUseFaultAt at) }
 {
     let (front, has_equals) = take_end(item, b'=');

@@ -1,5 +1,6 @@
 -- Which texts are names of a kind, and which fault of any other text comes first (PMS 3.1).
 use Rattle.std.specs.Prelude.{◌≡◌, ℕ, ◌+◌, ◌<◌, ◌≤◌, true, false, List, length, drop, slice_index}
+use Rattle.pms_names.specs.declared.limits.TheConstants.{MOST_BYTES}
 use Rattle.pms_names.specs.declared.kind.Kind.{Kind}
 use Rattle.pms_names.specs.declared.kind.Kind.TheVariants.{Category, Package, Slot, Flag}
 use Rattle.pms_names.specs.declared.fault.NameFault.{NameFault}
@@ -7,14 +8,10 @@ use Rattle.pms_names.specs.declared.fault.NameFault.TheVariants.{Empty, BadChar,
 use Rattle.pms_names.specs.Bytes.{hyphen, may_contain, begins_badly}
 use Rattle.version_text.specs.Grammar.{IsVersionText}
 
--- how many bytes a name has at most
-abbrev pub max_length : ℕ
-max_length = 255
-
 -- names have some bytes, and not too many
 pub record HasNameLength (bytes : List ℕ) : Type 0 where
   pub some : 0 < length bytes
-  pub short : length bytes ≤ max_length
+  pub short : length bytes ≤ MOST_BYTES
 
 -- each byte is one that may stand in a name of the kind
 abbrev pub AreNameBytes : Kind → List ℕ → Type 0
@@ -51,7 +48,7 @@ pub record IsFirstBadByte (kind : Kind) (bytes : List ℕ) (at : ℕ) : Type 0 w
 -- the fault is the first that the text has; a name has none, but memory may run out on it
 abbrev pub FirstFault : Kind → List ℕ → NameFault → Type 0
 FirstFault kind bytes Empty = length bytes ≡ 0
-FirstFault kind bytes TooLong = max_length < length bytes
+FirstFault kind bytes TooLong = MOST_BYTES < length bytes
 FirstFault kind bytes BadStart = HasNameLength bytes × (begins_badly kind (slice_index bytes 0) ≡ true)
 FirstFault kind bytes (BadChar at) = HasNameLength bytes × (begins_badly kind (slice_index bytes 0) ≡ false) × IsFirstBadByte kind bytes at
 FirstFault kind bytes EndsLikeVersion = IsSpelled kind bytes × EndsBadly kind bytes

@@ -12,6 +12,7 @@ mod fault;
 mod flags;
 mod kind;
 mod laws;
+mod limits;
 mod name;
 mod version;
 

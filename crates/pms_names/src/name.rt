@@ -5,12 +5,10 @@ ghost use Rattle.pms_names.specs.declared.fault.NameFault.TheVariants.{Memory};
 
 use crate::fault::NameFault;
 use crate::kind::{Kind, NameKind, OfCategory, OfFlag, OfPackage, OfSlot};
+use crate::limits::MOST_BYTES;
 use basics::Text;
 use std::alloc::{AllocError, Global};
 use std::marker::{Model, PhantomData};
-
-// How many bytes a name has at most.
-const MAX_LENGTH: usize = 255;
 
 /// A name of the kind that `K` marks. It is equal and ordered as its bytes are.
 #[derive(Debug, Drop, PartialEq, Eq, PartialOrd, Ord)]
@@ -135,7 +133,7 @@ fn fault_of(kind: Kind, bytes: &[u8]) -> Option<NameFault>
     if bytes.is_empty() {
         return Some(NameFault::Empty);
     }
-    if bytes.len() > MAX_LENGTH {
+    if bytes.len() > MOST_BYTES {
         return Some(NameFault::TooLong);
     }
     if begins_badly(kind, bytes[0]) {

@@ -6,17 +6,14 @@ ghost use Rattle.basics.specs.Bytes.{is_digit};
 ghost use Rattle.version_text.specs.Grammar.{IsVersionText};
 
 use crate::fault::VersionFault;
-use crate::number::MOST_DIGITS;
+use crate::limits::{MOST_BYTES, MOST_DIGITS};
 use basics::is_digit;
 use version_text::version_stop;
-
-/// The most bytes of a version.
-const MOST_BYTES: usize = 255;
 
 /// Is the text a version's, within the limits? Takes no memory.
 pub fn check(bytes: &[u8]) -> Result<(), VersionFault>
     ensures version { OnOk result (IsVersionText bytes.now) }
-    ensures length { OnOk result (length bytes.now ≤ 255) }
+    ensures length { OnOk result (length bytes.now ≤ MOST_BYTES) }
     ensures short { OnOk result (HasShortNumbers bytes.now) }
     ensures fault { IfErr result (FirstFault bytes.now) }
     ensures known { IfErr result (λ e. e ≢ Memory) }
@@ -46,10 +43,10 @@ pub fn check(bytes: &[u8]) -> Result<(), VersionFault>
     }
 }
 
-/// Where more than 38 digits in a row begin.
+/// Where more digits in a row begin than a number has.
 fn long_number(bytes: &[u8]) -> Option<usize>
     ensures none { IfNone result (HasShortNumbers bytes.now) }
-    ensures first { IfSome result (λ at. (38 < digit_count (drop at bytes.now)) × IsShortBefore bytes.now at) }
+    ensures first { IfSome result (λ at. (MOST_DIGITS < digit_count (drop at bytes.now)) × IsShortBefore bytes.now at) }
 {
     let mut start = 0;
     for (at, byte) in bytes.iter().enumerate() {

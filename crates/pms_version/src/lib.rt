@@ -10,6 +10,7 @@
 mod check;
 mod fault;
 mod laws;
+mod limits;
 mod number;
 mod reading;
 mod suffix;

@@ -1,3 +1,4 @@
+ghost use Rattle.pms_version.specs.declared.limits.TheConstants.{MOST_DIGITS};
 ghost use Rattle.pms_version.specs.Order.{begins_zero, decimal, integer_cmp, is_empty, later_number_cmp, trim_zeros};
 ghost use Rattle.std.specs.Prelude.{◌≡◌, ◌≤◌, IfOk, length, not};
 ghost use Rattle.version_text.specs.Grammar.{AreDigits};
@@ -5,9 +6,6 @@ ghost use Rattle.version_text.specs.Grammar.{AreDigits};
 use std::alloc::{AllocError, Global};
 use std::cmp::Ordering;
 use std::marker::Model;
-
-/// The most digits of a number: 10 ^ 38 is below 2 ^ 128.
-pub const MOST_DIGITS: usize = 38;
 
 /// A number as it is written, or none. Contracts see its digits.
 #[derive(Debug, Drop)]
@@ -30,7 +28,7 @@ impl Model for Number {
 impl Number {
     pub fn new(alloc: Global, digits: &[u8]) -> Result<Number, AllocError>
         requires digits { AreDigits digits.now }
-        requires short { length digits.now ≤ 38 }
+        requires short { length digits.now ≤ MOST_DIGITS }
         ensures { IfOk result (λ n. n ≡ digits.now) }
     {
         let value = value_of(digits);
@@ -85,7 +83,7 @@ fn trimmed(digits: &[u8]) -> &[u8]
 
 fn value_of(digits: &[u8]) -> u128
     requires digits { AreDigits digits.now }
-    requires short { length digits.now ≤ 38 }
+    requires short { length digits.now ≤ MOST_DIGITS }
     ensures { result ≡ decimal digits.now }
 {
     let mut value = 0;

@@ -1,3 +1,4 @@
+ghost use Rattle.pms_version.specs.declared.limits.TheConstants.{MOST_BYTES, MOST_DIGITS};
 ghost use Rattle.pms_version.specs.Inside.{kind_of};
 ghost use Rattle.pms_version.specs.Limits.{HasShortNumbers};
 ghost use Rattle.pms_version.specs.Steps.{HasReadLetter, HasReadNumbers, HasReadSuffixes};
@@ -15,7 +16,7 @@ use std::alloc::{AllocError, Global};
 /// Reads a text that is known to be a version's, within the limits.
 pub(crate) fn read(alloc: Global, text: &str) -> Result<Version, AllocError>
     requires version { IsVersionText text.now }
-    requires length { length text.now ≤ 255 }
+    requires length { length text.now ≤ MOST_BYTES }
     requires short { HasShortNumbers text.now }
     ensures { (p : Parts) → IsVersion p → text.now ≡ spelling p → IfOk result (λ v. v ≡ p) }
 {
@@ -64,7 +65,7 @@ fn skip(bytes: &[u8], count: usize) -> &[u8]
 fn split_digits(bytes: &[u8]) -> (&[u8], &[u8])
     requires { HasShortNumbers bytes.now }
     ensures digits { AreDigits result.0.now }
-    ensures short { length result.0.now ≤ 38 }
+    ensures short { length result.0.now ≤ MOST_DIGITS }
     ensures whole { bytes.now ≡ result.0.now ++ result.1.now }
     ensures ends { is_digit (slice_index result.1.now 0) ≡ false }
     ensures rest { HasShortNumbers result.1.now }
