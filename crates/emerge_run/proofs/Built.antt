@@ -1,9 +1,14 @@
 -- What one builder of the pool answered, of the pool.
-use Rattle.std.proofs.Common.{◌≡◌, ◌<◌, ℕ, List, [], ◌∷◌, ◌++◌, length, Some, Ok, Err, inl, inr, ap, sym, ◌∙◌, arith, subst}
-use Rattle.std.specs.Prelude.{All, Contains, IfOk, Result, slice_get}
+use Rattle.std.proofs.Common.{◌≡◌, ◌<◌, ◌-◌, ℕ, List, [], ◌∷◌, ◌++◌, get_or, length, Some, Ok, Err, inl, inr, refl, ap, sym, ◌∙◌, arith, subst, append-nil}
+use Rattle.std.specs.Prelude.{All, Contains, IfOk, Result, remove, slice_get}
+use Rattle.std.proofs.lemmas.Bool.{cases_lt}
+use Rattle.std.proofs.lemmas.List.{length-append}
+use Rattle.std.proofs.lemmas.List.Edits.{remove-append_right}
+use Rattle.std.proofs.lemmas.Option.{get_or_from_slice_get, slice_get_within}
+use Rattle.std.proofs.Math.ListN.{get_or-append}
 use Rattle.std.proofs.lemmas.List.Elements.{All-push, All-weaker, Contains-push}
 use Rattle.file_tree.specs.Disk.{Rose}
-use Rattle.build_pool.specs.Pool.{Kept, PoolRose, faults_of}
+use Rattle.build_pool.specs.Pool.{Kept, LeavesOne, PoolRose, faults_of}
 use Rattle.build_pool.specs.declared.pools.Away.{Away}
 
 pub only_one : {A : Type 0} (xs : List A) (x : A) → length xs ≡ 1 → slice_get xs 0 ≡ Some x → xs ≡ x ∷ []
@@ -31,3 +36,21 @@ pool_rose number faults old mid new lent b b' is other same count rest rose (inl
     inl (subst (λ (n : ℕ). n < faults_of faults new) count (rose all))
 pool_rose {B} number faults old mid new lent b b' is other same count rest rose (inr full) =
     inr (inl (b', subst (λ (l : List B). Contains l b') (sym rest) (Contains-push mid.resting b'), full))
+
+-- a builder that was lent and comes back leaves lent what was lent before
+pub lent_back : {B : Type 0} (number : B → ℕ) (lent mid new : List Away) (b b' : B) (faults : ℕ)
+    → mid ≡ lent ++ record { number = number b; faults = faults } ∷ [] → All (λ a. a.number ≡ number b → ⊥) lent → number b' ≡ number b
+    → LeavesOne (number b') mid new → new ≡ lent
+lent_back number lent mid new b b' faults is other same (i, a, at, its, left) =
+    let w : Away = record { number = number b; faults = faults } in
+    let at' : slice_get (lent ++ w ∷ []) i ≡ Some a = subst (λ (l : List Away). slice_get l i ≡ Some a) is at in
+    let left' : new ≡ remove (lent ++ w ∷ []) i = left ∙ ap (λ (l : List Away). remove l i) is in
+    let reads : get_or (lent ++ w ∷ []) i a ≡ a = get_or_from_slice_get (lent ++ w ∷ []) i a a at' in
+    elim (cases_lt i (length lent)) [
+      | inl lt ↦ absurd (other i a lt (ap (λ (x : Away). x.number) (sym (get_or-append lent (w ∷ []) a i lt) ∙ reads) ∙ (its ∙ same)))
+      | inr ge ↦ (
+          let within : i < length (lent ++ w ∷ []) = slice_get_within (lent ++ w ∷ []) i a at' in
+          let last : i - length lent ≡ 0 = omega (arith, within, ge, length-append lent (w ∷ [])) in
+          left' ∙ (remove-append_right lent (w ∷ []) (length lent) i refl ge
+          ∙ (ap (λ (n : ℕ). lent ++ remove (w ∷ []) n) last ∙ append-nil lent)))
+    ]

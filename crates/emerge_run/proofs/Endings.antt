@@ -1,8 +1,7 @@
 -- How a run's outcome comes of its stages.
-use Rattle.std.proofs.Common.{◌≡◌, ◌⊎◌, ◌≤◌, ℕ, Bool, true, false, List, [], ◌∷◌, ◌++◌, inl, inr, refl, ap, sym, ◌∙◌, arith, subst, append_assoc, append-nil}
+use Rattle.std.proofs.Common.{◌≡◌, ◌⊎◌, ℕ, Bool, true, false, List, [], ◌∷◌, inl, inr, refl, sym, ◌∙◌, subst}
 use Rattle.std.specs.Prelude.{Contains, IsTrue}
-use Rattle.std.specs.List.{flat_map}
-use Rattle.file_tree.specs.Disk.{Disk, Map, Rose, Story}
+use Rattle.file_tree.specs.Disk.{Disk, Map, Story}
 use Rattle.file_tree.specs.Moments.{Leaves, Since}
 use Rattle.file_tree.proofs.Moments.{since_same, since_start, since_then, since_weaker}
 use Rattle.file_tree.specs.declared.objects.Entry.{Entry}
@@ -18,10 +17,9 @@ use Rattle.recovery.specs.declared.fault.RecoverFault.{RecoverFault}
 use Rattle.recovery.specs.declared.fault.RecoverFault.TheVariants as recovery
 use Rattle.emerge_run.specs.Answers.{Asks, AsksFor, IsMet, IsReady}
 use Rattle.emerge_run.specs.Images.{Fits, FitsImage}
-use Rattle.emerge_run.specs.Outcomes.{CarriedOut, EndsWith, HasFiles, ImageAsks, IsAdded, IsApplied, IsAtRest, IsBeforeOrAfter, IsFromBuild, IsKept, IsLate, IsLines, IsNamed, IsOutput, IsPackageOf, OfSomeBuilder, Outcome, Ran, RanTo, RecoversTo, RecoversToEither}
+use Rattle.emerge_run.specs.Outcomes.{CarriedOut, EndsWith, HasFiles, ImageAsks, IsAdded, IsApplied, IsAtRest, IsBeforeOrAfter, IsFromBuild, IsKept, IsLate, IsNamed, IsPackageOf, OfSomeBuilder, Outcome, Ran, RanTo, RecoversTo, RecoversToEither}
 use Rattle.emerge_run.specs.Package.{files, order_of}
 use Rattle.emerge_run.specs.Refusals.{TreeRefuses, status_of, status_of_recovery, status_of_word}
-use Rattle.emerge_run.specs.Texts.{done_line, last_line}
 use Rattle.emerge_run.specs.Words.{IsCommand, IsRequest}
 use Rattle.emerge_run.proofs.Grouped.{closed_at_rest, closed_leaves}
 use Rattle.emerge_run.specs.declared.refusal.Refusal.{Refusal}
@@ -31,14 +29,6 @@ use Rattle.emerge_run.specs.declared.words.WordFault.TheVariants as word
 use Rattle.emerge_run.specs.declared.status.Part.TheVariants.{Database, Image, Journal, Repository}
 use Rattle.emerge_run.specs.declared.status.Status.{Status}
 use Rattle.emerge_run.specs.declared.status.Status.TheVariants as status
-
-pub rose_later : (old mid new : ℕ) → old ≤ mid → Rose mid new → Rose old new
-rose_later old mid new le (inl lt) = inl (omega arith)
-rose_later old mid new le (inr full) = inr full
-
-pub rose_before : (old mid new : ℕ) → mid ≤ new → Rose old mid → Rose old new
-rose_before old mid new le (inl lt) = inl (omega arith)
-rose_before old mid new le (inr full) = inr (omega arith)
 
 -- the whole image function that agrees with what was seen at one order
 pub seen_image : (tells : Bool) (told : Order → List Entry) (o : Order) (seen : List Entry) → (IsTrue tells → seen ≡ told o)
@@ -108,10 +98,10 @@ pub kept_same : (old new : Story) → new ≡ old → Since (IsKept old.now) old
 kept_same old new same = since_same (IsKept old.now) old old new (since_start (IsKept old.now) old (λ c is. inl is)) same
 
 -- a run that ended before its atom was judged
-pub outcome_before : {B : Type 0} (tells : Bool) (told : B → Order → List Entry) (resting : List B) (words : List (List ℕ)) (old new : Story) (s s' : Status) (history : List ℕ) (failed : Type 0)
+pub outcome_before : {B : Type 0} (tells : Bool) (told : B → Order → List Entry) (resting : List B) (words : List (List ℕ)) (old new : Story) (s s' : Status) (history : List ℕ)
     → (b : B) → Contains resting b → Asks words old.now.holds (told b) s → s' ≡ s → history ≡ [] → ((n : ℕ) → s ≡ status.Ok n → ⊥) → Since (IsKept old.now) old new
-    → OfSomeBuilder tells told resting (λ image. Outcome words image old new history s' failed)
-outcome_before tells told resting words old new s s' history failed b has asks same none not_ok since = (
+    → OfSomeBuilder tells told resting (λ image. Outcome words image old new history s')
+outcome_before tells told resting words old new s s' history b has asks same none not_ok since = (
   b,
   has,
   (
@@ -120,7 +110,7 @@ outcome_before tells told resting words old new s s' history failed b has asks s
     record {
       answer = subst (λ (x : Status). Asks words old.now.holds (told b) x) (sym same) asks;
       moments = since_weaker (IsKept old.now) (IsBeforeOrAfter words (told b) old.now) (λ c h. inl h) old new since;
-      tree = subst (λ (h : List ℕ). IsApplied words (told b) h old new failed) (sym none) (inl since.now);
+      tree = subst (λ (h : List ℕ). IsApplied words (told b) h s' old new) (sym none) (λ healthy. since.now);
       done = λ n e. absurd (not_ok n (sym same ∙ e));
     },
   ),
@@ -152,11 +142,10 @@ either_or : (words : List (List ℕ)) (a : AtomValue) (es : List Entry) (image :
 either_or words a es image old m c asked added is (inl before) = inl (kept_if_before old m c is before)
 either_or words a es image old m c asked added is (inr after) = inr (a, asked, (m, is, (es, added, after)))
 
-applied_if_ran : (words : List (List ℕ)) (a : AtomValue) (image : Order → List Entry) (old mid new : Story) (history : List ℕ) (failed failed' : Type 0) → IsRequest words a → IsRecovered old.now.holds mid.now.holds
-    → Since (IsKept old.now) old mid → (failed → failed') → RanTo a image history mid new failed → IsApplied words image history old new failed'
-applied_if_ran words a image old mid new [] failed failed' asked is first so (inl before) = inl (λ c image'. kept_if_before old.now mid.now.holds c is (before c image'))
-applied_if_ran words a image old mid new [] failed failed' asked is first so (inr f) = inr (so f)
-applied_if_ran words a image old mid new (g ∷ gs) failed failed' asked is first so (es, added, (turn, until, from)) = (
+applied_if_ran : (words : List (List ℕ)) (a : AtomValue) (image : Order → List Entry) (old mid new : Story) (history : List ℕ) (s : Status) → IsRequest words a → IsRecovered old.now.holds mid.now.holds
+    → Since (IsKept old.now) old mid → RanTo a image history s mid new → IsApplied words image history s old new
+applied_if_ran words a image old mid new [] s asked is first ran = λ healthy c image'. kept_if_before old.now mid.now.holds c is (ran healthy c image')
+applied_if_ran words a image old mid new (g ∷ gs) s asked is first (es, added, (turn, until, from)) = (
   a,
   asked,
   (
@@ -176,10 +165,10 @@ applied_if_ran words a image old mid new (g ∷ gs) failed failed' asked is firs
 )
 
 -- a run whose atom was judged, over what recovery made of the tree
-pub outcome_ran : {B : Type 0} (tells : Bool) (told : B → Order → List Entry) (resting : List B) (words : List (List ℕ)) (a : AtomValue) (old mid new : Story) (s : Status) (history : List ℕ) (failed failed' : Type 0)
-    → IsRequest words a → IsRecovered old.now.holds mid.now.holds → Since (IsKept old.now) old mid → (failed → failed')
-    → OfSomeBuilder tells told resting (λ image. Ran a image mid new history s failed) → OfSomeBuilder tells told resting (λ image. Outcome words image old new history s failed')
-outcome_ran tells told resting words a old mid new s history failed failed' asked is first so (b, has, (image, its, ran)) = (
+pub outcome_ran : {B : Type 0} (tells : Bool) (told : B → Order → List Entry) (resting : List B) (words : List (List ℕ)) (a : AtomValue) (old mid new : Story) (s : Status) (history : List ℕ)
+    → IsRequest words a → IsRecovered old.now.holds mid.now.holds → Since (IsKept old.now) old mid
+    → OfSomeBuilder tells told resting (λ image. Ran a image mid new history s) → OfSomeBuilder tells told resting (λ image. Outcome words image old new history s)
+outcome_ran tells told resting words a old mid new s history asked is first (b, has, (image, its, ran)) = (
   b,
   has,
   (
@@ -189,17 +178,17 @@ outcome_ran tells told resting words a old mid new s history failed failed' aske
       answer = asks_after words a old.now.holds mid.now.holds image s asked is ran.answer;
       moments = since_then (IsBeforeOrAfter words image old.now) old mid new (since_weaker (IsKept old.now) (IsBeforeOrAfter words image old.now) (λ c h. inl h) old mid first)
           (since_weaker (RecoversTo a image mid.now.holds) (IsBeforeOrAfter words image old.now) (λ c h. before_or_after words a image old.now mid.now.holds c asked is h) mid new ran.moments);
-      tree = applied_if_ran words a image old mid new history failed failed' asked is first so ran.tree;
+      tree = applied_if_ran words a image old mid new history s asked is first ran.tree;
       done = λ n e. (a, asked, (mid.now.holds, is, ran.done n e));
     },
   ),
 )
 
 -- a run for an atom that matches the installed package
-pub ran_installed : {B : Type 0} (tells : Bool) (told : B → Order → List Entry) (resting : List B) (a : AtomValue) (old new : Story) (s : Status) (history : List ℕ) (failed : Type 0)
+pub ran_installed : {B : Type 0} (tells : Bool) (told : B → Order → List Entry) (resting : List B) (a : AtomValue) (old new : Story) (s : Status) (history : List ℕ)
     → (b : B) → Contains resting b → (HasOddEntry old.now.holds a.name → ⊥) × IsMet old.now.holds a → s ≡ status.Ok 0 → history ≡ []
-    → IsAtRest old.now → new ≡ old → OfSomeBuilder tells told resting (λ image. Ran a image old new history s failed)
-ran_installed tells told resting a old new s history failed b has met same none rest unchanged =
+    → IsAtRest old.now → new ≡ old → OfSomeBuilder tells told resting (λ image. Ran a image old new history s)
+ran_installed tells told resting a old new s history b has met same none rest unchanged =
     let leaves = closed_leaves old.now.holds old.now (closed_at_rest old.now rest) in
     let image = told b in
     let reads : HasFiles [] old.now.holds new.now = subst (λ (x : Story). HasFiles [] old.now.holds x.now) (sym unchanged) (record { reads = λ q. refl; untouched = rest.untouched }) in
@@ -212,17 +201,17 @@ ran_installed tells told resting a old new s history failed b has met same none 
         record {
           answer = subst (λ (x : Status). AsksFor a old.now.holds image x) (sym same) (inr (met, refl));
           moments = since_same (RecoversTo a image old.now.holds) old old new (since_start (RecoversTo a image old.now.holds) old (λ c is. inl (leaves c is))) unchanged;
-          tree = subst (λ (h : List ℕ). RanTo a image h old new failed) (sym none) (inl (subst (λ (x : Story). Leaves (λ c. IsRecovered c old.now.holds) x.now) (sym unchanged) leaves));
+          tree = subst (λ (h : List ℕ). RanTo a image h s old new) (sym none) (λ healthy. subst (λ (x : Story). Leaves (λ c. IsRecovered c old.now.holds) x.now) (sym unchanged) leaves);
           done = λ n e. subst (λ (k : ℕ). EndsWith a image k old.now.holds new.now) (number n e) reads;
         },
       ),
     )
 
 -- a run for an atom that ended before its group began
-pub ran_before : {B : Type 0} (tells : Bool) (told : B → Order → List Entry) (resting : List B) (a : AtomValue) (old new : Story) (s s' : Status) (history : List ℕ) (failed : Type 0)
+pub ran_before : {B : Type 0} (tells : Bool) (told : B → Order → List Entry) (resting : List B) (a : AtomValue) (old new : Story) (s s' : Status) (history : List ℕ)
     → (b : B) → Contains resting b → (image : Order → List Entry) → (IsTrue tells → image ≡ told b) → AsksFor a old.now.holds image s → s' ≡ s → history ≡ [] → ((n : ℕ) → s ≡ status.Ok n → ⊥)
-    → IsAtRest old.now → new ≡ old → OfSomeBuilder tells told resting (λ image. Ran a image old new history s' failed)
-ran_before tells told resting a old new s s' history failed b has image its asks same none not_ok rest unchanged =
+    → IsAtRest old.now → new ≡ old → OfSomeBuilder tells told resting (λ image. Ran a image old new history s')
+ran_before tells told resting a old new s s' history b has image its asks same none not_ok rest unchanged =
     let leaves = closed_leaves old.now.holds old.now (closed_at_rest old.now rest) in
     let since = since_same (RecoversTo a image old.now.holds) old old new (since_start (RecoversTo a image old.now.holds) old (λ c is. inl (leaves c is))) unchanged in (
       b,
@@ -233,7 +222,7 @@ ran_before tells told resting a old new s s' history failed b has image its asks
         record {
           answer = subst (λ (x : Status). AsksFor a old.now.holds image x) (sym same) asks;
           moments = since;
-          tree = subst (λ (h : List ℕ). RanTo a image h old new failed) (sym none) (inl (subst (λ (x : Story). Leaves (λ c. IsRecovered c old.now.holds) x.now) (sym unchanged) leaves));
+          tree = subst (λ (h : List ℕ). RanTo a image h s' old new) (sym none) (λ healthy. subst (λ (x : Story). Leaves (λ c. IsRecovered c old.now.holds) x.now) (sym unchanged) leaves);
           done = λ n e. absurd (not_ok n (sym same ∙ e));
         },
       ),
@@ -249,29 +238,23 @@ late_asks a f m image (status.NotBuilt part) late one ready fits = absurd late
 late_asks a f m image (status.NoCandidate atom reasons) late one ready fits = absurd late
 late_asks a f m image (status.BuildFailed id) late one ready fits = absurd late
 
-ran_if_carried : (a : AtomValue) (es : List Entry) (image : Order → List Entry) (history : List ℕ) (old new : Story) (failed : Type 0) → IsAdded a image old.now.holds es → CarriedOut es old.now.holds history old new failed → RanTo a image history old new failed
-ran_if_carried a es image [] old new failed added tree = tree
-ran_if_carried a es image (g ∷ gs) old new failed added tree = (es, added, tree)
+ran_if_carried : (a : AtomValue) (es : List Entry) (image : Order → List Entry) (history : List ℕ) (s : Status) (old new : Story) → IsAdded a image old.now.holds es → CarriedOut es old.now.holds history s old new → RanTo a image history s old new
+ran_if_carried a es image [] s old new added tree = tree
+ran_if_carried a es image (g ∷ gs) s old new added tree = (es, added, tree)
 
 to_if_either : (a : AtomValue) (es : List Entry) (image : Order → List Entry) (m c : Map) → IsAdded a image m es → RecoversToEither es m c → RecoversTo a image m c
 to_if_either a es image m c added (inl before) = inl before
 to_if_either a es image m c added (inr after) = inr (es, added, after)
 
--- another reason for which nothing is said of the tree
-pub carried_other : (es : List Entry) (m : Map) (history : List ℕ) (old new : Story) (failed failed' : Type 0) → (failed → failed') → CarriedOut es m history old new failed → CarriedOut es m history old new failed'
-carried_other es m [] old new failed failed' so (inl before) = inl before
-carried_other es m [] old new failed failed' so (inr f) = inr (so f)
-carried_other es m (g ∷ gs) old new failed failed' so h = h
-
 -- a run whose group was begun
-pub ran_carried : {B : Type 0} (tells : Bool) (told : B → Order → List Entry) (resting : List B) (a : AtomValue) (f : Facts) (old new : Story) (s : Status) (history : List ℕ) (failed : Type 0)
+pub ran_carried : {B : Type 0} (tells : Bool) (told : B → Order → List Entry) (resting : List B) (a : AtomValue) (f : Facts) (old new : Story) (s : Status) (history : List ℕ)
     (e : Entry) (b : B) → Contains resting b → (IsTrue tells → told b (order_of f) ≡ e ∷ []) → IsReady old.now.holds a f → Fits old.now.holds e
-    → IsLate s → ((n : ℕ) → s ≡ status.Ok n → n ≡ 1) → Since (RecoversToEither (files f e) old.now.holds) old new → CarriedOut (files f e) old.now.holds history old new failed
+    → IsLate s → ((n : ℕ) → s ≡ status.Ok n → n ≡ 1) → Since (RecoversToEither (files f e) old.now.holds) old new → CarriedOut (files f e) old.now.holds history s old new
     → ((n : ℕ) → s ≡ status.Ok n → HasFiles (files f e) old.now.holds new.now)
-    → OfSomeBuilder tells told resting (λ image. Ran a image old new history s failed)
-ran_carried tells told resting a f old new s history failed e b has told_is ready fits late one moments tree done =
+    → OfSomeBuilder tells told resting (λ image. Ran a image old new history s)
+ran_carried tells told resting a f old new s history e b has told_is ready fits late one moments tree done =
     let seen = seen_image tells (told b) (order_of f) (e ∷ []) (λ t. sym (told_is t)) in
-    let added : IsAdded a seen.0 old.now.holds (files f e) = (f, ready.chosen, (e, seen.2, refl)) in (
+    let added : IsAdded a seen.0 old.now.holds (files f e) = record { facts = f; ready = ready; entry = e; told = seen.2; fits = fits; are = refl } in (
       b,
       has,
       (
@@ -280,59 +263,44 @@ ran_carried tells told resting a f old new s history failed e b has told_is read
         record {
           answer = late_asks a f old.now.holds seen.0 s late one ready (e, seen.2, fits);
           moments = since_weaker (RecoversToEither (files f e) old.now.holds) (RecoversTo a seen.0 old.now.holds) (λ c h. to_if_either a (files f e) seen.0 old.now.holds c added h) old new moments;
-          tree = ran_if_carried a (files f e) seen.0 history old new failed added tree;
+          tree = ran_if_carried a (files f e) seen.0 history s old new added tree;
           done = λ n is. subst (λ (k : ℕ). EndsWith a seen.0 k old.now.holds new.now) (sym (one n is)) (files f e, added, done n is);
         },
       ),
     )
 
--- another reason for which nothing is said of a run's tree
-ran_other : (a : AtomValue) (image : Order → List Entry) (history : List ℕ) (old new : Story) (failed failed' : Type 0) → (failed → failed') → RanTo a image history old new failed → RanTo a image history old new failed'
-ran_other a image [] old new failed failed' so (inl before) = inl before
-ran_other a image [] old new failed failed' so (inr f) = inr (so f)
-ran_other a image (g ∷ gs) old new failed failed' so h = h
-
 -- a run that went on from a tree that was only looked at
-pub ran_after_looking : {B : Type 0} (tells : Bool) (told : B → Order → List Entry) (resting : List B) (a : AtomValue) (old mid new : Story) (s : Status) (history : List ℕ) (failed failed' : Type 0)
-    → mid ≡ old → (failed → failed') → OfSomeBuilder tells told resting (λ image. Ran a image mid new history s failed) → OfSomeBuilder tells told resting (λ image. Ran a image old new history s failed')
-ran_after_looking tells told resting a old mid new s history failed failed' same so (b, has, (image, its, ran)) =
-    let at = subst (λ (x : Story). Ran a image x new history s failed) same ran in
-    (b, has, (image, its, record { answer = at.answer; moments = at.moments; tree = ran_other a image history old new failed failed' so at.tree; done = at.done }))
+pub ran_after_looking : {B : Type 0} (tells : Bool) (told : B → Order → List Entry) (resting : List B) (a : AtomValue) (old mid new : Story) (s : Status) (history : List ℕ)
+    → mid ≡ old → OfSomeBuilder tells told resting (λ image. Ran a image mid new history s) → OfSomeBuilder tells told resting (λ image. Ran a image old new history s)
+ran_after_looking tells told resting a old mid new s history same (b, has, (image, its, ran)) =
+    (b, has, (image, its, subst (λ (x : Story). Ran a image x new history s) same ran))
+
+-- what is said of a tree with one status holds with another that is the device's fault where that one is
+applied_stays : (words : List (List ℕ)) (image : Order → List Entry) (history : List ℕ) (s s' : Status) (old new : Story) → (s ≡ status.DeviceFault → s' ≡ status.DeviceFault)
+    → IsApplied words image history s old new → IsApplied words image history s' old new
+applied_stays words image [] s s' old new stays applied = λ healthy. applied (λ failed. healthy (stays failed))
+applied_stays words image (g ∷ gs) s s' old new stays applied = applied
+
+-- a run that came to one status ends with another one, which asks for nothing
+outcome_as : (words : List (List ℕ)) (image : Order → List Entry) (old new : Story) (history : List ℕ) (s s' : Status) → (s ≡ status.DeviceFault → s' ≡ status.DeviceFault)
+    → Asks words old.now.holds image s' → ((n : ℕ) → s' ≡ status.Ok n → ⊥) → Outcome words image old new history s → Outcome words image old new history s'
+outcome_as words image old new history s s' stays asks not_ok outcome = record {
+  answer = asks;
+  moments = outcome.moments;
+  tree = applied_stays words image history s s' old new stays outcome.tree;
+  done = λ n e. absurd (not_ok n e);
+}
 
 -- the status that a run ends with is the one it came to, want of memory, or the output's fault
-pub outcome_finished : {B : Type 0} (tells : Bool) (told : B → Order → List Entry) (resting : List B) (words : List (List ℕ)) (old new : Story) (history : List ℕ) (s s' : Status) (failed rose : Type 0)
-    → (s' ≡ s) ⊎ ((s' ≡ status.Memory) ⊎ ((s' ≡ status.OutputFault) × rose))
-    → OfSomeBuilder tells told resting (λ image. Outcome words image old new history s failed) → OfSomeBuilder tells told resting (λ image. Outcome words image old new history s' failed)
-outcome_finished {B} tells told resting words old new history s s' failed rose (inl same) h =
-    subst (λ (x : Status). OfSomeBuilder tells told resting (λ image. Outcome words image old new history x failed)) (sym same) h
-outcome_finished tells told resting words old new history s s' failed rose (inr (inl memory)) (b, has, (image, its, outcome)) = (
-  b,
-  has,
-  (
-    image,
-    its,
-    record {
-      answer = subst (λ (x : Status). Asks words old.now.holds image x) (sym memory) tt;
-      moments = outcome.moments;
-      tree = outcome.tree;
-      done = λ n e. absurd (cc (memory, e));
-    },
-  ),
-)
-outcome_finished tells told resting words old new history s s' failed rose (inr (inr (output, r))) (b, has, (image, its, outcome)) = (
-  b,
-  has,
-  (
-    image,
-    its,
-    record {
-      answer = subst (λ (x : Status). Asks words old.now.holds image x) (sym output) tt;
-      moments = outcome.moments;
-      tree = outcome.tree;
-      done = λ n e. absurd (cc (output, e));
-    },
-  ),
-)
+pub outcome_finished : {B : Type 0} (tells : Bool) (told : B → Order → List Entry) (resting : List B) (words : List (List ℕ)) (old new : Story) (history : List ℕ) (s s' : Status) (rose : Type 0)
+    → (s' ≡ s) ⊎ ((s' ≡ status.Memory) ⊎ ((s' ≡ status.OutputFault) × rose)) → (s ≡ status.DeviceFault → s' ≡ status.DeviceFault)
+    → OfSomeBuilder tells told resting (λ image. Outcome words image old new history s) → OfSomeBuilder tells told resting (λ image. Outcome words image old new history s')
+outcome_finished {B} tells told resting words old new history s s' rose (inl same) stays h =
+    subst (λ (x : Status). OfSomeBuilder tells told resting (λ image. Outcome words image old new history x)) (sym same) h
+outcome_finished tells told resting words old new history s s' rose (inr (inl memory)) stays (b, has, (image, its, outcome)) =
+    (b, has, (image, its, outcome_as words image old new history s s' stays (subst (λ (x : Status). Asks words old.now.holds image x) (sym memory) tt) (λ n e. cc (memory, e)) outcome))
+outcome_finished tells told resting words old new history s s' rose (inr (inr (output, r))) stays (b, has, (image, its, outcome)) =
+    (b, has, (image, its, outcome_as words image old new history s s' stays (subst (λ (x : Status). Asks words old.now.holds image x) (sym output) tt) (λ n e. cc (output, e)) outcome))
 
 -- a run that ends with a builder's failure came to it
 pub built_before : (s s' : Status) (id : PackageId) (rose : Type 0) → (s' ≡ s) ⊎ ((s' ≡ status.Memory) ⊎ ((s' ≡ status.OutputFault) × rose)) → s' ≡ status.BuildFailed id → s ≡ status.BuildFailed id
@@ -342,55 +310,17 @@ built_before s s' id rose (inr (inr (output, r))) is = absurd (cc (output, is))
 
 -- the package that was chosen is the atom's
 pub package_of : (a : AtomValue) (tells : Bool) (m : Map) (f : Facts) → value_matches a f [] ≡ true → (IsTrue tells → IsReady m a f) → IsPackageOf a tells m f.id
-package_of a tells m f matched ready = (f, refl, (matched, λ t. (ready t).chosen))
-
--- the group's line comes once for each acknowledged group
-pub lines_same : (id : PackageId) (acknowledged line : List ℕ) → line ≡ done_line id 1 → (acknowledged ≡ []) ⊎ (acknowledged ≡ 1 ∷ []) → flat_map (λ _. line) acknowledged ≡ flat_map (done_line id) acknowledged
-lines_same id acknowledged line is (inl none) = subst (λ (a : List ℕ). flat_map (λ _. line) a ≡ flat_map (done_line id) a) (sym none) refl
-lines_same id acknowledged line is (inr one) = subst (λ (a : List ℕ). flat_map (λ _. line) a ≡ flat_map (done_line id) a) (sym one) (ap (λ (x : List ℕ). x ++ []) is)
-
-lines_of : (P : PackageId → Type 0) (id : PackageId) (acknowledged : List ℕ) → P id → IsLines P acknowledged (flat_map (done_line id) acknowledged)
-lines_of P id [] is = refl
-lines_of P id (g ∷ gs) is = (id, is, refl)
-
--- the lines of the acknowledged groups, as they were written
-pub lines_written : (P : PackageId → Type 0) (id : PackageId) (acknowledged : List ℕ) (old new : List ℕ) → P id
-    → new ≡ old ++ flat_map (done_line id) acknowledged → (text : List ℕ) × IsLines P acknowledged text × (new ≡ old ++ text)
-lines_written P id acknowledged old new is e = (flat_map (done_line id) acknowledged, lines_of P id acknowledged is, e)
-
--- where no group is acknowledged nothing was written
-pub no_lines : (P : PackageId → Type 0) (acknowledged old : List ℕ) → acknowledged ≡ [] → (text : List ℕ) × IsLines P acknowledged text × (old ≡ old ++ text)
-no_lines P acknowledged old none = ([], subst (λ (a : List ℕ). IsLines P a []) (sym none) refl, sym (append-nil old))
-
-lines_weaker : (P Q : PackageId → Type 0) (acknowledged text : List ℕ) → ((id : PackageId) → P id → Q id) → IsLines P acknowledged text → IsLines Q acknowledged text
-lines_weaker P Q [] text so h = h
-lines_weaker P Q (g ∷ gs) text so h = (h.0, so h.0 h.1, h.2)
-
-pub written_weaker : (P Q : PackageId → Type 0) (acknowledged old new : List ℕ) → ((id : PackageId) → P id → Q id)
-    → ((text : List ℕ) × IsLines P acknowledged text × (new ≡ old ++ text)) → (text : List ℕ) × IsLines Q acknowledged text × (new ≡ old ++ text)
-written_weaker P Q acknowledged old new so h = (h.0, lines_weaker P Q acknowledged h.0 so h.1, h.2)
-
--- what was written, where the output may have failed
-pub or_failed : {A B : Type 0} (failed : Type 0) → (A → B) → A ⊎ failed → B ⊎ failed
-or_failed failed so (inl h) = inl (so h)
-or_failed failed so (inr f) = inr f
+package_of a tells m f matched ready = (f, refl, (matched, ready))
 
 -- the package of the atom is that of the words
 pub named_of : (words : List (List ℕ)) (a : AtomValue) (tells : Bool) (opening m : Map) → IsRequest words a → (IsTrue tells → IsRecovered opening m) → (id : PackageId) → IsPackageOf a tells m id → IsNamed words tells opening id
 named_of words a tells opening m asked is id h = (a, asked, (m, is, h))
 
--- the lines and then the last line
-pub all_told : (P : PackageId → Type 0) (acknowledged : List ℕ) (s : Status) (old mid new : List ℕ)
-    → ((text : List ℕ) × IsLines P acknowledged text × (mid ≡ old ++ text)) → new ≡ mid ++ last_line s
-    → (text : List ℕ) × IsOutput P acknowledged s text × (new ≡ old ++ text)
-all_told P acknowledged s old mid new lines last =
-    (lines.0 ++ last_line s, (lines.0, lines.1, refl), last ∙ (ap (λ (x : List ℕ). x ++ last_line s) lines.2 ∙ append_assoc old lines.0 (last_line s)))
+-- the answer that a run came to is one that it is asked for, and so is want of memory
+pub came_asked : {B : Type 0} (tells : Bool) (told : B → Order → List Entry) (resting : List B) (words : List (List ℕ)) (old new : Story) (history : List ℕ) (s : Status)
+    → OfSomeBuilder tells told resting (λ image. Outcome words image old new history s) → OfSomeBuilder tells told resting (λ image. Asks words old.now.holds image s)
+came_asked tells told resting words old new history s (b, has, (image, its, outcome)) = (b, has, (image, its, outcome.answer))
 
--- the same where the output may have failed
-pub all_written : (P : PackageId → Type 0) (acknowledged : List ℕ) (s : Status) (old mid new : List ℕ) (was between now : ℕ) → was ≤ between → between ≤ now
-    → ((text : List ℕ) × IsLines P acknowledged text × (mid ≡ old ++ text)) ⊎ Rose was between → (new ≡ mid ++ last_line s) ⊎ Rose between now
-    → ((text : List ℕ) × IsOutput P acknowledged s text × (new ≡ old ++ text)) ⊎ Rose was now
-all_written P acknowledged s old mid new was between now le ge (inr rose) last = inr (rose_before was between now ge rose)
-all_written P acknowledged s old mid new was between now le ge (inl lines) (inr rose) = inr (rose_later was between now le rose)
-all_written P acknowledged s old mid new was between now le ge (inl lines) (inl last) =
-    inl (all_told P acknowledged s old mid new lines last)
+pub memory_asked : {B : Type 0} (tells : Bool) (told : B → Order → List Entry) (resting : List B) (words : List (List ℕ)) (opening : Map) (b : B)
+    → Contains resting b → OfSomeBuilder tells told resting (λ image. Asks words opening image status.Memory)
+memory_asked tells told resting words opening b has = (b, has, (told b, (λ t. refl), tt))

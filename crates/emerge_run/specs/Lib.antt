@@ -1,6 +1,7 @@
 pub mod Answers
 pub mod Images
 pub mod Outcomes
+pub mod Output
 pub mod Package
 pub mod Ready
 pub mod Refusals

@@ -1,6 +1,5 @@
 -- What a run leaves: its tree, its groups, and what it wrote.
-use Rattle.std.specs.Prelude.{◌≡◌, ◌⊎◌, true, ℕ, zero, suc, Bool, List, [], ◌∷◌, ◌++◌, Contains, IsTrue}
-use Rattle.std.specs.List.{flat_map}
+use Rattle.std.specs.Prelude.{◌≡◌, ◌≢◌, ◌⊎◌, true, ℕ, zero, suc, Bool, List, [], ◌∷◌, Contains, IsTrue}
 use Rattle.file_tree.specs.Disk.{Disk, HasBelow, IsImage, IsUntouched, Map, Story}
 use Rattle.file_tree.specs.Moments.{Leaves, Since}
 use Rattle.file_tree.specs.declared.objects.Entry.{Entry}
@@ -9,15 +8,13 @@ use Rattle.dep_atom.specs.Match.{value_matches}
 use Rattle.dep_atom.specs.Values.{AtomValue}
 use Rattle.dep_atom.specs.declared.package.Facts.{Facts}
 use Rattle.dep_atom.specs.declared.package.PackageId.{PackageId}
-use Rattle.visible_set.specs.Candidates.{IsChosen}
 use Rattle.group_merge.specs.Phases.{IsShut}
 use Rattle.recovery.specs.Promise.{RecoversAlike}
-use Rattle.emerge_run.specs.Answers.{Asks, AsksFor}
-use Rattle.emerge_run.specs.Images.{FitsImage}
+use Rattle.emerge_run.specs.Answers.{Asks, AsksFor, IsReady}
+use Rattle.emerge_run.specs.Images.{Fits, FitsImage}
 use Rattle.merge_record.specs.Names.{jobs}
 use Rattle.merge_record.specs.Recovered.{IsRecovered}
 use Rattle.emerge_run.specs.Package.{files, order_of, with_files}
-use Rattle.emerge_run.specs.Texts.{done_line, last_line}
 use Rattle.emerge_run.specs.Words.{IsRequest}
 use Rattle.emerge_run.specs.declared.status.Part.TheVariants.{Image}
 use Rattle.emerge_run.specs.declared.status.Status.{Status}
@@ -41,28 +38,35 @@ RecoversToEither es m c = IsRecovered c m ⊎ IsRecovered c (with_files es m)
 abbrev pub GetsFiles : List Entry → Map → Story → Story → Type 0
 GetsFiles es m old new = (mid : Story) × Since (RecoversToEither es m) old mid × Since (λ c. IsRecovered c (with_files es m)) mid new
 
--- what a group of these files leaves, by whether it stands in the history
-abbrev pub CarriedOut : List Entry → Map → List ℕ → Story → Story → Type 0 → Type 0
-CarriedOut es m [] old new failed = Leaves (λ c. IsRecovered c m) new.now ⊎ failed
-CarriedOut es m (g ∷ gs) old new failed = GetsFiles es m old new
+-- what a group of these files leaves, by whether it stands in the history; where it doesn't, only
+-- a device's fault may leave it half done
+abbrev pub CarriedOut : List Entry → Map → List ℕ → Status → Story → Story → Type 0
+CarriedOut es m [] s old new = s ≢ status.DeviceFault → Leaves (λ c. IsRecovered c m) new.now
+CarriedOut es m (g ∷ gs) s old new = GetsFiles es m old new
 
 -- the disk reads as the map with the files, and a crash leaves just that
 pub record HasFiles (es : List Entry) (m : Map) (d : Disk) : Type 0 where
   pub reads : (q : List ℕ) → d.holds q ≡ with_files es m q
   pub untouched : IsUntouched d
 
--- the files of the package that the atom chooses in this map, its image being the one told
-abbrev pub IsAdded : AtomValue → (Order → List Entry) → Map → List Entry → Type 0
-IsAdded a image m es = (f : Facts) × IsChosen m a f × ((e : Entry) × (image (order_of f) ≡ e ∷ []) × (es ≡ files f e))
+-- the files of the package that the atom chooses in this map, where no package is installed; its
+-- image is the one told, and fits
+pub record IsAdded (a : AtomValue) (image : Order → List Entry) (m : Map) (es : List Entry) : Type 0 where
+  pub facts : Facts
+  pub ready : IsReady m a facts
+  pub entry : Entry
+  pub told : image (order_of facts) ≡ entry ∷ []
+  pub fits : Fits m entry
+  pub are : es ≡ files facts entry
 
 -- an image recovers to the map, or to the map with the package
 abbrev pub RecoversTo : AtomValue → (Order → List Entry) → Map → Map → Type 0
 RecoversTo a image m c = IsRecovered c m ⊎ ((es : List Entry) × IsAdded a image m es × IsRecovered c (with_files es m))
 
--- what a run for an atom leaves, by the groups of its history
-abbrev pub RanTo : AtomValue → (Order → List Entry) → List ℕ → Story → Story → Type 0 → Type 0
-RanTo a image [] old new failed = Leaves (λ c. IsRecovered c old.now.holds) new.now ⊎ failed
-RanTo a image (g ∷ gs) old new failed = (es : List Entry) × IsAdded a image old.now.holds es × GetsFiles es old.now.holds old new
+-- what a run for an atom leaves, by the groups of its history and its status
+abbrev pub RanTo : AtomValue → (Order → List Entry) → List ℕ → Status → Story → Story → Type 0
+RanTo a image [] s old new = s ≢ status.DeviceFault → Leaves (λ c. IsRecovered c old.now.holds) new.now
+RanTo a image (g ∷ gs) s old new = (es : List Entry) × IsAdded a image old.now.holds es × GetsFiles es old.now.holds old new
 
 -- the disk reads as the map, with the package where a group was merged, and a crash leaves just that
 abbrev pub EndsWith : AtomValue → (Order → List Entry) → ℕ → Map → Disk → Type 0
@@ -70,10 +74,11 @@ EndsWith a image zero m d = HasFiles [] m d
 EndsWith a image (suc n) m d = (es : List Entry) × IsAdded a image m es × HasFiles es m d
 
 -- how a run for an atom ended, over a tree at rest
-pub record Ran (a : AtomValue) (image : Order → List Entry) (old new : Story) (history : List ℕ) (s : Status) (failed : Type 0) : Type 0 where
+pub record Ran (a : AtomValue) (image : Order → List Entry) (old new : Story)
+    (history : List ℕ) (s : Status) : Type 0 where
   pub answer : AsksFor a old.now.holds image s
   pub moments : Since (RecoversTo a image old.now.holds) old new
-  pub tree : RanTo a image history old new failed
+  pub tree : RanTo a image history s old new
   pub done : (n : ℕ) → s ≡ status.Ok n → EndsWith a image n old.now.holds new.now
 
 -- an image is one of the disk, or it and the disk recover to the same map
@@ -93,10 +98,12 @@ abbrev pub GetsPackage : List (List ℕ) → (Order → List Entry) → Story �
 GetsPackage words image old new = (a : AtomValue) × IsRequest words a × ((m : Map) × IsRecovered old.now.holds m × ((es : List Entry) × IsAdded a image m es
     × ((mid : Story) × Since (IsBeforeOrAfter words image old.now) old mid × Since (λ c. IsRecovered c (with_files es m)) mid new)))
 
--- what a run leaves, by the groups of its history; where there are none a crash recovers to what the tree recovered to, unless a device failed
-abbrev pub IsApplied : List (List ℕ) → (Order → List Entry) → List ℕ → Story → Story → Type 0 → Type 0
-IsApplied words image [] old new failed = Leaves (IsKept old.now) new.now ⊎ failed
-IsApplied words image (g ∷ gs) old new failed = GetsPackage words image old new
+-- what a run leaves, by the groups of its history and its status; where there are no groups a crash
+-- recovers to what the tree recovered to, unless the status is the device's fault
+abbrev pub IsApplied : List (List ℕ) → (Order → List Entry) → List ℕ → Status → Story → Story
+    → Type 0
+IsApplied words image [] s old new = s ≢ status.DeviceFault → Leaves (IsKept old.now) new.now
+IsApplied words image (g ∷ gs) s old new = GetsPackage words image old new
 
 -- the disk reads as the recovered tree, with the package of the words where a group was merged, and a crash leaves just that
 abbrev pub HasPackage : List (List ℕ) → (Order → List Entry) → ℕ → Disk → Disk → Type 0
@@ -104,15 +111,22 @@ HasPackage words image n old new = (a : AtomValue) × IsRequest words a × ((m :
 
 -- How a run over this tree ended: with the answer that it asks for, and a tree that has the groups of its history. A crash at any moment
 -- since it began leaves an image of that beginning, or one that recovers to the tree before or to the tree with the package.
-pub record Outcome (words : List (List ℕ)) (image : Order → List Entry) (old new : Story) (history : List ℕ) (s : Status) (failed : Type 0) : Type 0 where
+pub record Outcome (words : List (List ℕ)) (image : Order → List Entry) (old new : Story)
+    (history : List ℕ) (s : Status) : Type 0 where
   pub answer : Asks words old.now.holds image s
   pub moments : Since (IsBeforeOrAfter words image old.now) old new
-  pub tree : IsApplied words image history old new failed
+  pub tree : IsApplied words image history s old new
   pub done : (n : ℕ) → s ≡ status.Ok n → HasPackage words image n old.now new.now
 
 -- some builder of those at rest tells this image, where builders tell
 abbrev pub OfSomeBuilder : {B : Type 0} → Bool → (B → Order → List Entry) → List B → ((Order → List Entry) → Type 0) → Type 0
 OfSomeBuilder {B} tells told resting P = (b : B) × Contains resting b × ((image : Order → List Entry) × (IsTrue tells → image ≡ told b) × P image)
+
+-- a status that the words, the tree and the image ask for, where trees tell
+abbrev pub IsAnswer : {B : Type 0} → Bool → Bool → (B → Order → List Entry) → List B
+    → List (List ℕ) → Map → Status → Type 0
+IsAnswer tree tells told resting words opening s = IsTrue tree
+    → OfSomeBuilder tells told resting (λ image. Asks words opening image s)
 
 -- what asking the builder gives beside an image that fits
 abbrev pub ImageAsks : Bool → List Entry → Map → PackageId → Status → Type 0
@@ -126,22 +140,15 @@ ImageAsks tells told m id status.Usage = ⊥
 ImageAsks tells told m id (status.NoCandidate atom reasons) = ⊥
 ImageAsks tells told m id (status.Ok groups) = ⊥
 
--- the package that the atom chooses; of a tree that tells nothing only that the atom matches it
+-- the package that the atom chooses, where none is installed; of a tree that tells nothing only
+-- that the atom matches it
 abbrev pub IsPackageOf : AtomValue → Bool → Map → PackageId → Type 0
-IsPackageOf a tells m id = (f : Facts) × (f.id ≡ id) × ((value_matches a f [] ≡ true) × (IsTrue tells → IsChosen m a f))
+IsPackageOf a tells m id = (f : Facts) × (f.id ≡ id)
+    × ((value_matches a f [] ≡ true) × (IsTrue tells → IsReady m a f))
 
 -- the package that the words choose in what recovery makes of a tree
 abbrev pub IsNamed : List (List ℕ) → Bool → Map → PackageId → Type 0
 IsNamed words tells opening id = (a : AtomValue) × IsRequest words a × ((m : Map) × (IsTrue tells → IsRecovered opening m) × IsPackageOf a tells m id)
-
--- the lines of the acknowledged groups, which name such a package
-abbrev pub IsLines : (PackageId → Type 0) → List ℕ → List ℕ → Type 0
-IsLines P [] text = text ≡ []
-IsLines P (g ∷ gs) text = (id : PackageId) × P id × (text ≡ flat_map (done_line id) (g ∷ gs))
-
--- what a run wrote: the lines of the acknowledged groups and the last line
-abbrev pub IsOutput : (PackageId → Type 0) → List ℕ → Status → List ℕ → Type 0
-IsOutput P acknowledged s text = (lines : List ℕ) × IsLines P acknowledged lines × (text ≡ lines ++ last_line s)
 
 -- an answer that is given before anything is changed
 abbrev pub IsRefusal : Status → Type 0

@@ -1,10 +1,10 @@
-ghost use Rattle.std.specs.Prelude.{◌≡◌, ◌≤◌, ◌<◌, ◌⊎◌, ◌++◌, ◌∷◌, [], ℕ, List, IsErrOf, IsTrue, OnOk, string_bytes, vec_capacity, vec_len};
-ghost use Rattle.std.specs.List.{flat_map};
+ghost use Rattle.std.specs.Prelude.{◌≡◌, ◌≤◌, ◌<◌, ◌⊎◌, ◌++◌, ◌∷◌, [], ℕ, List, IsTrue, string_bytes, vec_capacity, vec_len};
 ghost use Rattle.file_tree.specs.Disk.{Map, Rose};
 ghost use Rattle.file_tree.specs.Moments.{Since};
 ghost use Rattle.file_tree.specs.declared.objects.Entry.{Entry};
 ghost use Rattle.merge_record.specs.Recovered.{IsRecovered};
 ghost use Rattle.emerge_run.specs.Outcomes.{CarriedOut, HasFiles, IsAtRest, IsClosed, IsLate, RecoversToEither};
+ghost use Rattle.emerge_run.specs.Output.{AreLines, Wrote};
 ghost use Rattle.emerge_run.specs.Ready.{IsPlacing};
 
 use crate::group::Group;
@@ -37,14 +37,15 @@ pub fn carry_out<T: Tree, S: Sink>(
     ensures moments { IsTrue T.tells → (n : ℕ) (es : List Entry) → IsPlacing prepared.group n es
         → Since (RecoversToEither es (T.story tree.old).now.holds) (T.story tree.old) (T.story tree.new) }
     ensures tree { IsTrue T.tells → (n : ℕ) (es : List Entry) → IsPlacing prepared.group n es
-        → CarriedOut es (T.story tree.old).now.holds result.history.items (T.story tree.old) (T.story tree.new) (Rose (T.faults tree.old) (T.faults tree.new)) }
+        → CarriedOut es (T.story tree.old).now.holds result.history.items result.status
+        (T.story tree.old) (T.story tree.new) }
     ensures done { IsTrue T.tells → (n : ℕ) (es : List Entry) → IsPlacing prepared.group n es → (k : ℕ) → result.status ≡ Status.Ok k → HasFiles es (T.story tree.old).now.holds (T.story tree.new).now }
     ensures late { IsLate result.status }
     ensures ok { (n : ℕ) → result.status ≡ Status.Ok n → (result.acknowledged.items ≡ 1 ∷ []) × (n ≡ 1) }
     ensures history { (result.history.items ≡ []) ⊎ (result.history.items ≡ 1 ∷ []) }
     ensures acknowledged { (result.acknowledged.items ≡ []) ⊎ ((result.acknowledged.items ≡ 1 ∷ []) × (result.history.items ≡ 1 ∷ [])) }
-    ensures written { IsTrue S.tells → (S.written out.new ≡ S.written out.old ++ flat_map (λ _. string_bytes prepared.line) result.acknowledged.items) ⊎ Rose (S.faults out.old) (S.faults out.new) }
-    ensures told { IsTrue S.tells → (n : ℕ) → result.status ≡ Status.Ok n → S.written out.new ≡ S.written out.old ++ flat_map (λ _. string_bytes prepared.line) result.acknowledged.items }
+    ensures written { IsTrue S.tells → Wrote (AreLines (λ _. string_bytes prepared.line)
+        result.history.items result.acknowledged.items) (S.written out.old) (S.written out.new) }
     ensures device { result.status ≡ Status.DeviceFault → Rose (T.faults tree.old) (T.faults tree.new) }
     ensures output { result.status ≡ Status.OutputFault → Rose (S.faults out.old) (S.faults out.new) }
     ensures tree_count { T.faults tree.old ≤ T.faults tree.new }
@@ -96,8 +97,8 @@ fn acknowledge<S: Sink>(
     requires acknowledged { (acknowledged.old.items ≡ []) × (vec_len acknowledged.old < vec_capacity acknowledged.old) }
     ensures history { history.new.items ≡ 1 ∷ [] }
     ensures cases { ((result ≡ Status.Ok 1) × (acknowledged.new.items ≡ 1 ∷ [])) ⊎ ((result ≡ Status.OutputFault) × ((acknowledged.new.items ≡ []) × Rose (S.faults out.old) (S.faults out.new))) }
-    ensures written { IsTrue S.tells → (S.written out.new ≡ S.written out.old ++ flat_map (λ _. line.now) acknowledged.new.items) ⊎ Rose (S.faults out.old) (S.faults out.new) }
-    ensures told { IsTrue S.tells → (n : ℕ) → result ≡ Status.Ok n → S.written out.new ≡ S.written out.old ++ flat_map (λ _. line.now) acknowledged.new.items }
+    ensures written { IsTrue S.tells → Wrote (AreLines (λ _. line.now) history.new.items
+        acknowledged.new.items) (S.written out.old) (S.written out.new) }
     ensures count { S.faults out.old ≤ S.faults out.new }
 {
     add(history, 1);

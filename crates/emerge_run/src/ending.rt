@@ -1,5 +1,6 @@
-ghost use Rattle.std.specs.Prelude.{◌≡◌, ◌≤◌, ◌⊎◌, ◌++◌, ℕ, IsTrue};
+ghost use Rattle.std.specs.Prelude.{◌≡◌, ◌≤◌, ◌⊎◌, IsTrue};
 ghost use Rattle.file_tree.specs.Disk.{Rose};
+ghost use Rattle.emerge_run.specs.Output.{IsEnd, IsLast, Wrote, unwritten};
 ghost use Rattle.emerge_run.specs.Texts.{last_line};
 
 use crate::status::Status;
@@ -10,8 +11,8 @@ use std::alloc::Global;
 /// Writes the last line, and answers the status that it names.
 pub fn finish<S: Sink>(alloc: Global, out: &mut S, status: Status) -> Status
     ensures status { (result ≡ status) ⊎ ((result ≡ Status.Memory) ⊎ ((result ≡ Status.OutputFault) × Rose (S.faults out.old) (S.faults out.new))) }
-    ensures written { IsTrue S.tells → (S.written out.new ≡ S.written out.old ++ last_line result) ⊎ Rose (S.faults out.old) (S.faults out.new) }
-    ensures told { IsTrue S.tells → (n : ℕ) → result ≡ Status.Ok n → (status ≡ Status.Ok n) × (S.written out.new ≡ S.written out.old ++ last_line result) }
+    ensures device { status ≡ Status.DeviceFault → result ≡ Status.DeviceFault }
+    ensures written { IsTrue S.tells → Wrote (IsEnd status result) (S.written out.old) (S.written out.new) }
     ensures count { S.faults out.old ≤ S.faults out.new }
 {
     if let Some(line) = fixed_line(&status) {
@@ -23,20 +24,29 @@ pub fn finish<S: Sink>(alloc: Global, out: &mut S, status: Status) -> Status
     }
 }
 
-/// Writes a status's line. Where it can't be written the status is the output's fault, but a
-/// device's fault stays.
+/// Writes a status's line, and answers the status, or what becomes of it where that failed.
 fn write_last<S: Sink>(out: &mut S, line: &str, status: Status) -> Status
     requires line { line.now ≡ last_line status }
     ensures status { (result ≡ status) ⊎ ((result ≡ Status.OutputFault) × Rose (S.faults out.old) (S.faults out.new)) }
-    ensures written { IsTrue S.tells → (S.written out.new ≡ S.written out.old ++ last_line result) ⊎ Rose (S.faults out.old) (S.faults out.new) }
-    ensures told { IsTrue S.tells → (n : ℕ) → result ≡ Status.Ok n → (status ≡ Status.Ok n) × (S.written out.new ≡ S.written out.old ++ last_line result) }
+    ensures device { status ≡ Status.DeviceFault → result ≡ Status.DeviceFault }
+    ensures written { IsTrue S.tells → Wrote (IsLast status result) (S.written out.old) (S.written out.new) }
     ensures count { S.faults out.old ≤ S.faults out.new }
 {
     match out.write(line.as_bytes()) {
         Ok(()) => status,
-        Err(_) => match status {
-            Status::DeviceFault => Status::DeviceFault,
-            _ => Status::OutputFault,
-        },
+        Err(_) => unwritten(status),
+    }
+}
+
+/// Where the last line can't be written the status is the output's fault, but a device's fault
+/// stays.
+fn unwritten(status: Status) -> Status
+    ensures is { result ≡ unwritten status }
+    ensures cases { (result ≡ status) ⊎ (result ≡ Status.OutputFault) }
+    ensures device { status ≡ Status.DeviceFault → result ≡ Status.DeviceFault }
+{
+    match status {
+        Status::DeviceFault => Status::DeviceFault,
+        _ => Status::OutputFault,
     }
 }

@@ -24,6 +24,7 @@ pub fn built_entry<B: Builder>(
     requires resting { 0 < length pool.old.resting }
     ensures image { IfOk result (λ r. (b : B) × Contains pool.old.resting b × HasOne B.tells (B.told b order.now) r) }
     ensures ids { SameIds B.number pool.old pool.new }
+    ensures lent { pool.new.lent ≡ pool.old.lent }
     ensures count { faults_of B.faults pool.old ≤ faults_of B.faults pool.new }
     ensures cause { IsErrOf result BuildStop.Failed → PoolRose B.faults pool.old pool.new }
 {

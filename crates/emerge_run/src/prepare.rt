@@ -30,6 +30,7 @@ pub fn find_entry<T: Tree, B: Builder>(
     ensures count { T.faults tree.old ≤ T.faults tree.new }
     ensures device { IsErrOf result Status.DeviceFault → Rose (T.faults tree.old) (T.faults tree.new) }
     ensures ids { SameIds B.number pool.old pool.new }
+    ensures lent { pool.new.lent ≡ pool.old.lent }
     ensures builds { faults_of B.faults pool.old ≤ faults_of B.faults pool.new }
     ensures build { (id : PackageId) → IsErrOf result (Status.BuildFailed id) → PoolRose B.faults pool.old pool.new }
 {

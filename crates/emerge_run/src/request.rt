@@ -1,12 +1,12 @@
-ghost use Rattle.std.specs.Prelude.{◌≡◌, ◌≤◌, ◌<◌, ◌⊎◌, ◌++◌, ◌∷◌, [], ℕ, List, true, IfOk, IsTrue, length, string_bytes, vec_capacity, vec_len};
+ghost use Rattle.std.specs.Prelude.{◌≡◌, ◌≤◌, ◌<◌, ◌⊎◌, ◌∷◌, [], ℕ, true, IfOk, IsTrue, length, string_bytes, vec_capacity, vec_len};
 ghost use Rattle.file_tree.specs.Disk.{Rose};
 ghost use Rattle.build_pool.specs.Pool.{PoolRose, SameIds};
-ghost use Rattle.std.specs.List.{flat_map};
 ghost use Rattle.dep_atom.specs.Values.{AtomValue, atom_value};
 ghost use Rattle.emerge_run.specs.Answers.{IsReady};
 ghost use Rattle.dep_atom.specs.declared.package.PackageId.{PackageId};
 ghost use Rattle.merge_record.specs.Judging.{are_free, footprint};
-ghost use Rattle.emerge_run.specs.Outcomes.{IsAtRest, IsLines, IsPackageOf, IsRefusal, OfSomeBuilder, Ran};
+ghost use Rattle.emerge_run.specs.Outcomes.{IsAtRest, IsPackageOf, IsRefusal, OfSomeBuilder, Ran};
+ghost use Rattle.emerge_run.specs.Output.{AreLines, IsLines, Wrote};
 ghost use Rattle.emerge_run.specs.Package.{files, placing};
 ghost use Rattle.emerge_run.specs.Ready.{IsPlacing};
 ghost use Rattle.emerge_run.specs.Texts.{done_line};
@@ -35,21 +35,24 @@ pub fn run_request<T: Tree, S: Sink, B: Builder>(
 ) -> Reached
     requires resting { 0 < length pool.old.resting }
     requires rest { IsTrue T.tells → IsAtRest (T.story tree.old).now }
-    ensures outcome { IsTrue T.tells → OfSomeBuilder B.tells B.told pool.old.resting (λ image. Ran (atom_value atom) image (T.story tree.old) (T.story tree.new) result.history.items result.status (Rose (T.faults tree.old) (T.faults tree.new))) }
-    ensures unchanged { IsTrue T.tells → IsRefusal result.status → T.story tree.new ≡ T.story tree.old }
+    ensures outcome { IsTrue T.tells → OfSomeBuilder B.tells B.told pool.old.resting
+        (λ image. Ran (atom_value atom) image (T.story tree.old) (T.story tree.new)
+        result.history.items result.status) }
     ensures no_usage { result.status ≡ Status.Usage → ⊥ }
     ensures ok { (n : ℕ) → result.status ≡ Status.Ok n → ((n ≡ 0) × (result.acknowledged.items ≡ [])) ⊎ ((n ≡ 1) × (result.acknowledged.items ≡ 1 ∷ [])) }
     ensures history { (result.history.items ≡ []) ⊎ (result.history.items ≡ 1 ∷ []) }
     ensures refused { IsRefusal result.status → result.history.items ≡ [] }
     ensures acknowledged { (result.acknowledged.items ≡ []) ⊎ ((result.acknowledged.items ≡ 1 ∷ []) × (result.history.items ≡ 1 ∷ [])) }
-    ensures written { IsTrue S.tells → ((text : List ℕ) × IsLines (IsPackageOf (atom_value atom) T.tells (T.story tree.old).now.holds) result.acknowledged.items text × (S.written out.new ≡ S.written out.old ++ text)) ⊎ Rose (S.faults out.old) (S.faults out.new) }
-    ensures told { IsTrue S.tells → (n : ℕ) → result.status ≡ Status.Ok n → (text : List ℕ) × IsLines (IsPackageOf (atom_value atom) T.tells (T.story tree.old).now.holds) result.acknowledged.items text × (S.written out.new ≡ S.written out.old ++ text) }
+    ensures written { IsTrue S.tells
+        → Wrote (IsLines (IsPackageOf (atom_value atom) T.tells (T.story tree.old).now.holds)
+        result.history.items result.acknowledged.items) (S.written out.old) (S.written out.new) }
     ensures build { (id : PackageId) → result.status ≡ Status.BuildFailed id → PoolRose B.faults pool.old pool.new }
     ensures device { result.status ≡ Status.DeviceFault → Rose (T.faults tree.old) (T.faults tree.new) }
     ensures output { result.status ≡ Status.OutputFault → Rose (S.faults out.old) (S.faults out.new) }
     ensures tree_count { T.faults tree.old ≤ T.faults tree.new }
     ensures out_count { S.faults out.old ≤ S.faults out.new }
     ensures ids { SameIds B.number pool.old pool.new }
+    ensures lent { pool.new.lent ≡ pool.old.lent }
 {
     match judge_tree(alloc, tree, &atom) {
         Ok(Standing::Chosen(chosen)) => merge_chosen(alloc, &chosen, tree, out, pool),
@@ -69,21 +72,23 @@ fn merge_chosen<T: Tree, S: Sink, B: Builder>(
 ) -> Reached
     requires resting { 0 < length pool.old.resting }
     requires rest { IsTrue T.tells → IsAtRest (T.story tree.old).now }
-    ensures outcome { IsTrue T.tells → (a : AtomValue) → IsReady (T.story tree.old).now.holds a chosen.now → OfSomeBuilder B.tells B.told pool.old.resting (λ image. Ran a image (T.story tree.old) (T.story tree.new) result.history.items result.status (Rose (T.faults tree.old) (T.faults tree.new))) }
-    ensures unchanged { IsTrue T.tells → IsRefusal result.status → T.story tree.new ≡ T.story tree.old }
+    ensures outcome { IsTrue T.tells → (a : AtomValue) → IsReady (T.story tree.old).now.holds a chosen.now
+        → OfSomeBuilder B.tells B.told pool.old.resting (λ image. Ran a image (T.story tree.old)
+        (T.story tree.new) result.history.items result.status) }
     ensures no_usage { result.status ≡ Status.Usage → ⊥ }
     ensures ok { (n : ℕ) → result.status ≡ Status.Ok n → (n ≡ 1) × (result.acknowledged.items ≡ 1 ∷ []) }
     ensures history { (result.history.items ≡ []) ⊎ (result.history.items ≡ 1 ∷ []) }
     ensures refused { IsRefusal result.status → result.history.items ≡ [] }
     ensures acknowledged { (result.acknowledged.items ≡ []) ⊎ ((result.acknowledged.items ≡ 1 ∷ []) × (result.history.items ≡ 1 ∷ [])) }
-    ensures written { IsTrue S.tells → (S.written out.new ≡ S.written out.old ++ flat_map (done_line chosen.now.id) result.acknowledged.items) ⊎ Rose (S.faults out.old) (S.faults out.new) }
-    ensures told { IsTrue S.tells → (n : ℕ) → result.status ≡ Status.Ok n → S.written out.new ≡ S.written out.old ++ flat_map (done_line chosen.now.id) result.acknowledged.items }
+    ensures written { IsTrue S.tells → Wrote (AreLines (done_line chosen.now.id)
+        result.history.items result.acknowledged.items) (S.written out.old) (S.written out.new) }
     ensures build { (id : PackageId) → result.status ≡ Status.BuildFailed id → PoolRose B.faults pool.old pool.new }
     ensures device { result.status ≡ Status.DeviceFault → Rose (T.faults tree.old) (T.faults tree.new) }
     ensures output { result.status ≡ Status.OutputFault → Rose (S.faults out.old) (S.faults out.new) }
     ensures tree_count { T.faults tree.old ≤ T.faults tree.new }
     ensures out_count { S.faults out.old ≤ S.faults out.new }
     ensures ids { SameIds B.number pool.old pool.new }
+    ensures lent { pool.new.lent ≡ pool.old.lent }
 {
     files_apart();
     let entry = match find_entry(alloc, tree, pool, chosen) {

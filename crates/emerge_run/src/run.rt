@@ -1,9 +1,9 @@
-ghost use Rattle.std.specs.Prelude.{◌≡◌, ◌≤◌, ◌<◌, ◌⊎◌, ◌++◌, ◌∷◌, [], ℕ, List, IsTrue, length, map, string_bytes};
+ghost use Rattle.std.specs.Prelude.{◌≡◌, ◌≤◌, ◌<◌, ◌⊎◌, ◌∷◌, [], ℕ, IsTrue, length, map, string_bytes};
 ghost use Rattle.file_tree.specs.Disk.{Rose};
-ghost use Rattle.file_tree.specs.Moments.{Leaves};
 ghost use Rattle.build_pool.specs.Pool.{PoolRose, SameIds};
 ghost use Rattle.dep_atom.specs.declared.package.PackageId.{PackageId};
-ghost use Rattle.emerge_run.specs.Outcomes.{IsKept, IsLines, IsNamed, IsOutput, IsRefusal, OfSomeBuilder, Outcome};
+ghost use Rattle.emerge_run.specs.Outcomes.{IsAnswer, IsNamed, IsRefusal, OfSomeBuilder, Outcome};
+ghost use Rattle.emerge_run.specs.Output.{IsLines, IsOutput, Wrote};
 ghost use Rattle.emerge_run.specs.Words.{IsCommand};
 
 use crate::ending::finish;
@@ -52,18 +52,24 @@ pub fn emerge<T: Tree + Send, S: Sink + Send, B: Builder + Send>(
 ) -> Ended<T, S, B>
     requires resting { 0 < length pool.resting }
 
-    // The answer is the one that the words, the tree and the image ask for, a crash at any moment recovers to before or after, and the tree has the groups of the history.
-    ensures outcome { IsTrue T.tells → OfSomeBuilder B.tells B.told pool.resting (λ image. Outcome (map string_bytes words.now) image (T.story tree) (T.story result.tree) result.history.items result.status (Rose (T.faults tree) (T.faults result.tree))) }
-    ensures kept { IsTrue T.tells → IsRefusal result.status → Leaves (IsKept (T.story tree).now) (T.story result.tree).now }
+    // The answer is the one that the words, the tree and the image ask for, a crash at any moment
+    // recovers to before or after, and the tree has the groups of the history.
+    ensures outcome { IsTrue T.tells → OfSomeBuilder B.tells B.told pool.resting
+        (λ image. Outcome (map string_bytes words.now) image (T.story tree) (T.story result.tree)
+        result.history.items result.status) }
     ensures unchanged { IsTrue T.tells → result.status ≡ Status.Usage → T.story result.tree ≡ T.story tree }
     ensures ok { (n : ℕ) → result.status ≡ Status.Ok n → ((n ≡ 0) × (result.acknowledged.items ≡ [])) ⊎ ((n ≡ 1) × (result.acknowledged.items ≡ 1 ∷ [])) }
     ensures history { (result.history.items ≡ []) ⊎ (result.history.items ≡ 1 ∷ []) }
     ensures refused { IsRefusal result.status → result.history.items ≡ [] }
     ensures acknowledged { (result.acknowledged.items ≡ []) ⊎ (result.acknowledged.items ≡ result.history.items) }
 
-    // What was written is the lines of the acknowledged groups and the last line, unless the output failed.
-    ensures written { IsTrue S.tells → ((text : List ℕ) × IsOutput (IsNamed (map string_bytes words.now) T.tells (T.story tree).now.holds) result.acknowledged.items result.status text × (S.written result.out ≡ S.written out ++ text)) ⊎ Rose (S.faults out) (S.faults result.out) }
-    ensures told { IsTrue S.tells → (n : ℕ) → result.status ≡ Status.Ok n → (text : List ℕ) × IsOutput (IsNamed (map string_bytes words.now) T.tells (T.story tree).now.holds) result.acknowledged.items result.status text × (S.written result.out ≡ S.written out ++ text) }
+    // What was written is the lines of the acknowledged groups, some beginning of those of the other
+    // groups, and the last line; only where the status is a fault may that be cut.
+    ensures written { IsTrue S.tells
+        → Wrote (IsOutput (IsNamed (map string_bytes words.now) T.tells (T.story tree).now.holds)
+        (IsAnswer T.tells B.tells B.told pool.resting (map string_bytes words.now) (T.story tree).now.holds)
+        result.history.items result.acknowledged.items result.status)
+        (S.written out) (S.written result.out) }
 
     // Each answer but want of memory has its cause.
     ensures usage { result.status ≡ Status.Usage → IsCommand (map string_bytes words.now) → ⊥ }
@@ -71,7 +77,10 @@ pub fn emerge<T: Tree + Send, S: Sink + Send, B: Builder + Send>(
     ensures build { (id : PackageId) → result.status ≡ Status.BuildFailed id → PoolRose B.faults pool result.pool }
     ensures device { result.status ≡ Status.DeviceFault → Rose (T.faults tree) (T.faults result.tree) }
     ensures output { result.status ≡ Status.OutputFault → Rose (S.faults out) (S.faults result.out) }
+
+    // The pool has the builders that it had, and none is lent that wasn't.
     ensures ids { SameIds B.number pool result.pool }
+    ensures lent { result.pool.lent ≡ pool.lent }
 {
     let reached = attempt(alloc, words, &mut tree, &mut out, &mut pool);
     let status = finish(alloc, &mut out, reached.status);
@@ -94,15 +103,17 @@ fn attempt<T: Tree, S: Sink, B: Builder>(
     pool: &mut BuildPool<B>,
 ) -> Reached
     requires resting { 0 < length pool.old.resting }
-    ensures outcome { IsTrue T.tells → OfSomeBuilder B.tells B.told pool.old.resting (λ image. Outcome (map string_bytes words.now) image (T.story tree.old) (T.story tree.new) result.history.items result.status (Rose (T.faults tree.old) (T.faults tree.new))) }
-    ensures kept { IsTrue T.tells → IsRefusal result.status → Leaves (IsKept (T.story tree.old).now) (T.story tree.new).now }
+    ensures outcome { IsTrue T.tells → OfSomeBuilder B.tells B.told pool.old.resting
+        (λ image. Outcome (map string_bytes words.now) image (T.story tree.old) (T.story tree.new)
+        result.history.items result.status) }
     ensures unchanged { IsTrue T.tells → result.status ≡ Status.Usage → T.story tree.new ≡ T.story tree.old }
     ensures ok { (n : ℕ) → result.status ≡ Status.Ok n → ((n ≡ 0) × (result.acknowledged.items ≡ [])) ⊎ ((n ≡ 1) × (result.acknowledged.items ≡ 1 ∷ [])) }
     ensures history { (result.history.items ≡ []) ⊎ (result.history.items ≡ 1 ∷ []) }
     ensures refused { IsRefusal result.status → result.history.items ≡ [] }
     ensures acknowledged { (result.acknowledged.items ≡ []) ⊎ (result.acknowledged.items ≡ result.history.items) }
-    ensures written { IsTrue S.tells → ((text : List ℕ) × IsLines (IsNamed (map string_bytes words.now) T.tells (T.story tree.old).now.holds) result.acknowledged.items text × (S.written out.new ≡ S.written out.old ++ text)) ⊎ Rose (S.faults out.old) (S.faults out.new) }
-    ensures told { IsTrue S.tells → (n : ℕ) → result.status ≡ Status.Ok n → (text : List ℕ) × IsLines (IsNamed (map string_bytes words.now) T.tells (T.story tree.old).now.holds) result.acknowledged.items text × (S.written out.new ≡ S.written out.old ++ text) }
+    ensures written { IsTrue S.tells
+        → Wrote (IsLines (IsNamed (map string_bytes words.now) T.tells (T.story tree.old).now.holds)
+        result.history.items result.acknowledged.items) (S.written out.old) (S.written out.new) }
     ensures usage { result.status ≡ Status.Usage → IsCommand (map string_bytes words.now) → ⊥ }
     ensures no_command { (IsCommand (map string_bytes words.now) → ⊥) → (result.status ≡ Status.Usage) ⊎ (result.status ≡ Status.Memory) }
     ensures build { (id : PackageId) → result.status ≡ Status.BuildFailed id → PoolRose B.faults pool.old pool.new }
@@ -110,6 +121,7 @@ fn attempt<T: Tree, S: Sink, B: Builder>(
     ensures output { result.status ≡ Status.OutputFault → Rose (S.faults out.old) (S.faults out.new) }
     ensures out_count { S.faults out.old ≤ S.faults out.new }
     ensures ids { SameIds B.number pool.old pool.new }
+    ensures lent { pool.new.lent ≡ pool.old.lent }
 {
     let atom = match read_request(alloc, words) {
         Ok(atom) => atom,

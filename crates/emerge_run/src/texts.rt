@@ -1,4 +1,4 @@
-ghost use Rattle.std.specs.Prelude.{◌≡◌, ◌++◌, ◌∷◌, [], IfOk, IfSome, OnOk, codes, string_bytes};
+ghost use Rattle.std.specs.Prelude.{◌≡◌, ◌++◌, ◌∷◌, [], IfOk, IfSome, IsSome, OnOk, codes, string_bytes};
 ghost use Rattle.std.specs.List.{flat_map};
 ghost use Rattle.dep_atom.specs.Ids.{id_text};
 ghost use Rattle.dep_atom.specs.Text.{atom_text};
@@ -18,7 +18,8 @@ pub fn line_of_group(alloc: Global, package: &PackageId, group: u32) -> Result<S
 
 /// The last line of a status that names nothing: it takes no memory.
 pub fn fixed_line(status: &Status) -> Option<&'static str>
-    ensures { IfSome result (λ t. t.now ≡ last_line status.now) }
+    ensures line { IfSome result (λ t. t.now ≡ last_line status.now) }
+    ensures device { status.now ≡ Status.DeviceFault → IsSome result }
 {
     match status {
         Status::Ok { .. } | Status::NoCandidate { .. } | Status::BuildFailed { .. } => None,

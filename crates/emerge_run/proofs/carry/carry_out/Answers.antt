@@ -1,9 +1,11 @@
-use Rattle.std.proofs.Common.{◌∙◌, List, ℕ, Err, inl, inr, sym, subst, ap}
-use Rattle.file_tree.specs.Disk.{Rose}
+use Rattle.std.proofs.Common.{◌∙◌, List, ℕ, Err, sym, subst, ap}
+use Rattle.std.specs.Prelude.{string_bytes}
 use Rattle.file_tree.specs.Moments.{Since}
 use Rattle.emerge_run.specs.Outcomes.{CarriedOut, HasFiles, RecoversToEither}
+use Rattle.emerge_run.specs.Output.{AreLines, Wrote}
 use Rattle.emerge_run.specs.Package.{with_files}
 use Rattle.emerge_run.proofs.Grouped.{before_then, either_then, has_files}
+use Rattle.emerge_run.proofs.Lines.{wrote_none, wrote_same}
 use Rattle.emerge_run.proofs.carry.carry_out.Goals.{in-Ok, in-Err-Memory, in-Err-Failed}
 use Rattle.emerge_run.proofs.carry.carry_out.Goals as goal
 
@@ -25,8 +27,7 @@ returns-clause-tree g c t n es placing =
     let old = g.T.Tree.story c.args.tree.now in
     let mid = g.T.Tree.story c.merge.new.tree in
     let m = old.now.holds in
-    let was = g.T.Tree.faults c.args.tree.now in
-    let carried = λ (h : List ℕ) (x : g.row.T.Denot). CarriedOut es m h old (g.T.Tree.story x) (Rose was (g.T.Tree.faults x)) in
+    let carried = λ (h : List ℕ) (x : g.row.T.Denot). CarriedOut es m h c.match-merge.status old (g.T.Tree.story x) in
     let ends = λ (x : g.row.T.Denot). carried c.match-merge.history.items x in
     elim c.match-merge.branch [
       | in-Ok w ↦ (
@@ -36,10 +37,21 @@ returns-clause-tree g c t n es placing =
       | in-Err-Memory w ↦ (
           let new = w.clear-status-in-Err-Memory.new.tree in
           subst ends (sym w.tree-is) (subst (λ (h : List ℕ). carried h new) (sym (ap (λ v. v.items) w.history-is ∙ c.requires.history.0))
-          (inl (w.clear-status-in-Err-Memory.ensures.moments t m (w.in-Err-Memory.ensures.memory t (ap Err w.in-Err-Memory.field-0-is))).now)))
+          (λ healthy. (w.clear-status-in-Err-Memory.ensures.moments t m (w.in-Err-Memory.ensures.memory t (ap Err w.in-Err-Memory.field-0-is))).now)))
       | in-Err-Failed w ↦ (
           let new = c.merge.new.tree in
-          subst ends (sym w.tree-is) (subst (λ (h : List ℕ). carried h new) (sym (ap (λ v. v.items) w.history-is ∙ c.requires.history.0)) (inr (w.in-Err-Failed.ensures.cause (ap Err w.in-Err-Failed.field-0-is)))))
+          subst ends (sym w.tree-is) (subst (λ (h : List ℕ). carried h new) (sym (ap (λ v. v.items) w.history-is ∙ c.requires.history.0)) (λ healthy. absurd (healthy w.status-is))))
+    ]
+
+pub returns-clause-written : goal.returns-clause-written
+returns-clause-written g c t =
+    let line = string_bytes c.args.prepared.line in
+    let was = g.S.Sink.written c.args.out.now in
+    let ends = λ (x : g.row.S.Denot). Wrote (AreLines (λ _. line) c.match-merge.history.items c.match-merge.acknowledged.items) was (g.S.Sink.written x) in
+    elim c.match-merge.branch [
+      | in-Ok w ↦ wrote_same w.as_str.result.now line _ _ _ _ was _ _ w.as_str.ensures.value (ap (λ v. v.items) w.history-is) (ap (λ v. v.items) w.acknowledged-is) (ap g.S.Sink.written w.out-is) (w.acknowledge-status.ensures.written t)
+      | in-Err-Memory w ↦ wrote_none (λ _. line) _ _ was _ (ap (λ v. v.items) w.history-is ∙ c.requires.history.0) (ap (λ v. v.items) w.acknowledged-is ∙ c.requires.acknowledged.0) (ap g.S.Sink.written w.out-is)
+      | in-Err-Failed w ↦ wrote_none (λ _. line) _ _ was _ (ap (λ v. v.items) w.history-is ∙ c.requires.history.0) (ap (λ v. v.items) w.acknowledged-is ∙ c.requires.acknowledged.0) (ap g.S.Sink.written w.out-is)
     ]
 
 pub returns-clause-done : goal.returns-clause-done

@@ -1,7 +1,7 @@
 use Rattle.std.specs.Prelude.{Contains}
 use Rattle.std.proofs.lemmas.List.Elements.{Contains-push}
 use Rattle.emerge_run.specs.Images.{HasOne}
-use Rattle.emerge_run.proofs.Built.{beside_answer, pool_rose}
+use Rattle.emerge_run.proofs.Built.{beside_answer, lent_back, pool_rose}
 use Rattle.emerge_run.proofs.images.built_entry.Goals as goal
 
 pub returns-clause-image : goal.returns-clause-image
@@ -14,3 +14,8 @@ pub returns-clause-cause : goal.returns-clause-cause
 returns-clause-cause g c e =
     pool_rose g.B.Builder.number g.B.Builder.faults c.args.pool.now c.lend.new.self c.take_back.new.self c.args.pool.now.lent c.in-Some.builder c.one_entry-answer.new.builder
     c.in-Some.ensures.some.1 c.in-Some.ensures.other c.one_entry-answer.ensures.same_number c.lend.ensures.faults c.take_back.ensures.resting c.take_back.ensures.rose (c.one_entry-answer.ensures.cause e)
+
+pub returns-clause-lent : goal.returns-clause-lent
+returns-clause-lent g c =
+    lent_back g.B.Builder.number c.args.pool.now.lent c.lend.new.self.lent c.take_back.new.self.lent c.in-Some.builder c.one_entry-answer.new.builder (g.B.Builder.faults c.in-Some.builder)
+    c.in-Some.ensures.some.1 c.in-Some.ensures.other c.one_entry-answer.ensures.same_number c.take_back.ensures.lent

@@ -1,43 +1,34 @@
-use Rattle.std.proofs.Common.{◌∙◌, Err, ap, refl, subst, sym}
-use Rattle.file_tree.specs.Disk.{Rose, Story}
-use Rattle.file_tree.specs.Moments.{Leaves}
+use Rattle.std.proofs.Common.{◌∙◌, Err, ap, refl}
 use Rattle.dep_atom.specs.Values.{atom_value}
-use Rattle.emerge_run.specs.Outcomes.{IsKept, IsNamed, IsPackageOf}
+use Rattle.emerge_run.specs.Outcomes.{IsNamed, IsPackageOf}
 use Rattle.emerge_run.specs.Refusals.{status_of_recovery, status_of_word}
 use Rattle.emerge_run.proofs.Asked.{some_builder, word_refused}
-use Rattle.emerge_run.proofs.Endings.{kept_same, not_ok_recovery, not_ok_word, named_of, outcome_before, outcome_ran, recovery_asks, rose_later, or_failed, written_weaker}
+use Rattle.emerge_run.proofs.Endings.{kept_same, not_ok_recovery, not_ok_word, named_of, outcome_before, outcome_ran, recovery_asks}
+use Rattle.emerge_run.proofs.Lines.{wrote_nothing, wrote_weaker}
 use Rattle.emerge_run.proofs.run.attempt.Goals as goal
 
 pub returns-in-Err-clause-outcome : goal.returns-in-Err-clause-outcome
 returns-in-Err-clause-outcome g c t =
     let b = some_builder c.args.pool.now.resting c.requires.resting in
     let old = g.T.Tree.story c.args.tree.now in
-    outcome_before g.B.Builder.tells g.B.Builder.told c.args.pool.now.resting _ old old (status_of_word c.in-Err.fault) c.stopped.result.status c.stopped.result.history.items _
+    outcome_before g.B.Builder.tells g.B.Builder.told c.args.pool.now.resting _ old old (status_of_word c.in-Err.fault) c.stopped.result.status c.stopped.result.history.items
     b.0 b.1 (word_refused _ old.now.holds (g.B.Builder.told b.0) c.in-Err.fault (λ e. c.in-Err.ensures.usage (ap Err e))) (c.stopped.ensures.status ∙ c.from.ensures) c.stopped.ensures.history
     (not_ok_word c.in-Err.fault) (kept_same old old refl)
 
 pub returns-in-Ok-recover-clause-outcome : goal.returns-in-Ok-recover-clause-outcome
 returns-in-Ok-recover-clause-outcome g c t =
     outcome_ran g.B.Builder.tells g.B.Builder.told c.args.pool.now.resting _ (atom_value c.in-Ok.atom) (g.T.Tree.story c.args.tree.now) (g.T.Tree.story c.recover.new.tree) (g.T.Tree.story c.run_request.new.tree)
-    c.run_request.result.status c.run_request.result.history.items (Rose (g.T.Tree.faults c.recover.new.tree) (g.T.Tree.faults c.run_request.new.tree)) (Rose (g.T.Tree.faults c.args.tree.now) (g.T.Tree.faults c.run_request.new.tree))
-    c.in-Ok.ensures.found (c.in-Ok-recover.ensures.recovered t).0 (c.recover.ensures.moments t) (rose_later (g.T.Tree.faults c.args.tree.now) (g.T.Tree.faults c.recover.new.tree) (g.T.Tree.faults c.run_request.new.tree) c.recover.ensures.count)
-    (c.run_request.ensures.outcome t)
-
-pub returns-in-Ok-recover-clause-kept : goal.returns-in-Ok-recover-clause-kept
-returns-in-Ok-recover-clause-kept g c t refusal =
-    subst (λ (s : Story). Leaves (IsKept (g.T.Tree.story c.args.tree.now).now) s.now) (sym (c.run_request.ensures.unchanged t refusal)) (c.recover.ensures.moments t).now
+    c.run_request.result.status c.run_request.result.history.items
+    c.in-Ok.ensures.found (c.in-Ok-recover.ensures.recovered t).0 (c.recover.ensures.moments t) (c.run_request.ensures.outcome t)
 
 pub returns-in-Err-recover-clause-outcome : goal.returns-in-Err-recover-clause-outcome
 returns-in-Err-recover-clause-outcome g c t =
     let b = some_builder c.args.pool.now.resting c.requires.resting in
     let old = g.T.Tree.story c.args.tree.now in
-    outcome_before g.B.Builder.tells g.B.Builder.told c.args.pool.now.resting _ old (g.T.Tree.story c.recover.new.tree) (status_of_recovery c.in-Err-recover.fault) c.stopped-in-Err-recover.result.status c.stopped-in-Err-recover.result.history.items _
+    outcome_before g.B.Builder.tells g.B.Builder.told c.args.pool.now.resting _ old (g.T.Tree.story c.recover.new.tree) (status_of_recovery c.in-Err-recover.fault) c.stopped-in-Err-recover.result.status c.stopped-in-Err-recover.result.history.items
     b.0 b.1 (recovery_asks _ old.now.holds (g.B.Builder.told b.0) c.in-Err-recover.fault (atom_value c.in-Ok.atom, c.in-Ok.ensures.found) (λ e. (c.in-Err-recover.ensures.refused t (ap Err e)).0))
     (c.stopped-in-Err-recover.ensures.status ∙ c.from-in-Err-recover.ensures) c.stopped-in-Err-recover.ensures.history
     (not_ok_recovery c.in-Err-recover.fault) (c.recover.ensures.moments t)
-
-pub returns-in-Err-recover-clause-kept : goal.returns-in-Err-recover-clause-kept
-returns-in-Err-recover-clause-kept g c t refusal = (c.recover.ensures.moments t).now
 
 pub returns-in-Ok-recover-clause-written : goal.returns-in-Ok-recover-clause-written
 returns-in-Ok-recover-clause-written g c t =
@@ -45,14 +36,13 @@ returns-in-Ok-recover-clause-written g c t =
     let mid = (g.T.Tree.story c.recover.new.tree).now.holds in
     let a = atom_value c.in-Ok.atom in
     let asked = c.in-Ok.ensures.found in
-    or_failed _ (written_weaker (IsPackageOf a g.T.Tree.tells mid) (IsNamed _ g.T.Tree.tells old) c.run_request.result.acknowledged.items (g.S.Sink.written c.args.out.now) (g.S.Sink.written c.run_request.new.out)
-    (named_of _ a g.T.Tree.tells old mid asked (λ u. (c.in-Ok-recover.ensures.recovered u).0))) (c.run_request.ensures.written t)
+    wrote_weaker (IsPackageOf a g.T.Tree.tells mid) (IsNamed _ g.T.Tree.tells old) c.run_request.result.history.items c.run_request.result.acknowledged.items (g.S.Sink.written c.args.out.now) (g.S.Sink.written c.run_request.new.out)
+    (named_of _ a g.T.Tree.tells old mid asked (λ u. (c.in-Ok-recover.ensures.recovered u).0)) (c.run_request.ensures.written t)
 
-pub returns-in-Ok-recover-clause-told : goal.returns-in-Ok-recover-clause-told
-returns-in-Ok-recover-clause-told g c t n is =
-    let old = (g.T.Tree.story c.args.tree.now).now.holds in
-    let mid = (g.T.Tree.story c.recover.new.tree).now.holds in
-    let a = atom_value c.in-Ok.atom in
-    let asked = c.in-Ok.ensures.found in
-    written_weaker (IsPackageOf a g.T.Tree.tells mid) (IsNamed _ g.T.Tree.tells old) c.run_request.result.acknowledged.items (g.S.Sink.written c.args.out.now) (g.S.Sink.written c.run_request.new.out)
-    (named_of _ a g.T.Tree.tells old mid asked (λ u. (c.in-Ok-recover.ensures.recovered u).0)) (c.run_request.ensures.told t n is)
+pub returns-in-Err-clause-written : goal.returns-in-Err-clause-written
+returns-in-Err-clause-written g c t =
+    wrote_nothing _ c.stopped.result.history.items c.stopped.result.acknowledged.items (g.S.Sink.written c.args.out.now) _ c.stopped.ensures.history c.stopped.ensures.acknowledged refl
+
+pub returns-in-Err-recover-clause-written : goal.returns-in-Err-recover-clause-written
+returns-in-Err-recover-clause-written g c t =
+    wrote_nothing _ c.stopped-in-Err-recover.result.history.items c.stopped-in-Err-recover.result.acknowledged.items (g.S.Sink.written c.args.out.now) _ c.stopped-in-Err-recover.ensures.history c.stopped-in-Err-recover.ensures.acknowledged refl

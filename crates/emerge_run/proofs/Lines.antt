@@ -1,0 +1,122 @@
+-- What a run writes, from its group's line to its last line.
+use Rattle.std.proofs.Common.{◌≡◌, ◌⊎◌, ℕ, List, [], ◌∷◌, ◌++◌, inl, inr, refl, ap, sym, ◌∙◌, subst, append_assoc, append-nil, take}
+use Rattle.std.specs.List.{AllByRecursion, flat_map}
+use Rattle.dep_atom.specs.declared.package.PackageId.{PackageId}
+use Rattle.emerge_run.specs.Output.{AreLines, IsBeginning, IsEnd, IsLast, IsLineOf, IsLines, IsOutput, Wrote, unwritten}
+use Rattle.emerge_run.specs.Texts.{done_line, last_line}
+use Rattle.emerge_run.specs.declared.status.Status.{Status}
+use Rattle.emerge_run.specs.declared.status.Status.TheVariants as status
+
+-- the first number of a list
+pub first_pushed : (old new : List ℕ) (n : ℕ) → old ≡ [] → new ≡ old ++ n ∷ [] → new ≡ n ∷ []
+first_pushed old new n none is = is ∙ ap (λ (l : List ℕ). l ++ n ∷ []) none
+
+-- before a group there is no line
+pub no_group : (line : ℕ → List ℕ) → AreLines line [] [] []
+no_group line = record { rest = []; order = refl; cut = []; begun = (0, refl); whole = refl }
+
+-- the line of one group, which is acknowledged
+pub line_whole : (line : List ℕ) (history acknowledged : List ℕ) → history ≡ 1 ∷ [] → acknowledged ≡ 1 ∷ [] → AreLines (λ _. line) history acknowledged line
+line_whole line history acknowledged one is = record {
+  rest = [];
+  order = one ∙ ap (λ (a : List ℕ). a ++ []) (sym is);
+  cut = [];
+  begun = (0, refl);
+  whole = sym (ap (λ (a : List ℕ). flat_map (λ _. line) a ++ []) is ∙ (append-nil (line ++ []) ∙ append-nil line));
+}
+
+-- some beginning of the line of one group, which isn't acknowledged
+pub line_cut : (line : List ℕ) (history acknowledged : List ℕ) (n : ℕ) → history ≡ 1 ∷ [] → acknowledged ≡ [] → AreLines (λ _. line) history acknowledged (take n line)
+line_cut line history acknowledged n one none = record {
+  rest = 1 ∷ [];
+  order = one ∙ ap (λ (a : List ℕ). a ++ 1 ∷ []) (sym none);
+  cut = take n line;
+  begun = (n, ap (take n) (sym (append-nil line)));
+  whole = ap (λ (a : List ℕ). flat_map (λ _. line) a ++ take n line) (sym none);
+}
+
+-- where there is no group nothing was written
+pub wrote_none : (line : ℕ → List ℕ) (history acknowledged old new : List ℕ) → history ≡ [] → acknowledged ≡ [] → new ≡ old → Wrote (AreLines line history acknowledged) old new
+wrote_none line history acknowledged old new none none' same =
+    ([], subst (λ (h : List ℕ). AreLines line h acknowledged []) (sym none) (subst (λ (a : List ℕ). AreLines line [] a []) (sym none') (no_group line)), same ∙ sym (append-nil old))
+
+-- what was written, said of equal lists
+pub wrote_same : (line line' : List ℕ) (history history' acknowledged acknowledged' old new new' : List ℕ) → line ≡ line' → history' ≡ history → acknowledged' ≡ acknowledged → new' ≡ new
+    → Wrote (AreLines (λ _. line) history acknowledged) old new → Wrote (AreLines (λ _. line') history' acknowledged') old new'
+wrote_same line line' history history' acknowledged acknowledged' old new new' is one two three (text, are, e) =
+    let same = subst (λ (l : List ℕ). AreLines (λ _. l) history acknowledged text) is are in
+    (text, subst (λ (h : List ℕ). AreLines (λ _. line') h acknowledged' text) (sym one) (subst (λ (a : List ℕ). AreLines (λ _. line') history a text) (sym two) same), three ∙ e)
+
+all_parts : (P : ℕ → Type 0) (xs ys : List ℕ) → AllByRecursion P (xs ++ ys) → AllByRecursion P xs × AllByRecursion P ys
+all_parts P [] ys h = (tt, h)
+all_parts P (x ∷ xs) ys h = let rest = all_parts P xs ys h.1 in ((h.0, rest.0), rest.1)
+
+same_lines : (f g : ℕ → List ℕ) (xs : List ℕ) → AllByRecursion (λ x. f x ≡ g x) xs → flat_map f xs ≡ flat_map g xs
+same_lines f g [] same = refl
+same_lines f g (x ∷ xs) same = ap (λ (l : List ℕ). l ++ flat_map f xs) same.0 ∙ ap (λ (l : List ℕ). g x ++ l) (same_lines f g xs same.1)
+
+-- lines that are the same at each group of the history
+lines_same : (f g : ℕ → List ℕ) (history acknowledged text : List ℕ) → AllByRecursion (λ x. f x ≡ g x) history → AreLines f history acknowledged text → AreLines g history acknowledged text
+lines_same f g history acknowledged text same are =
+    let parts = all_parts (λ x. f x ≡ g x) acknowledged are.rest (subst (λ (h : List ℕ). AllByRecursion (λ x. f x ≡ g x) h) are.order same) in
+    record {
+      rest = are.rest;
+      order = are.order;
+      cut = are.cut;
+      begun = subst (λ (l : List ℕ). IsBeginning l are.cut) (same_lines f g are.rest parts.1) are.begun;
+      whole = are.whole ∙ ap (λ (l : List ℕ). l ++ are.cut) (same_lines f g acknowledged parts.0);
+    }
+
+-- the line that was made for the one group is that of its package
+pub wrote_lines : (id : PackageId) (line history acknowledged old new : List ℕ) → line ≡ done_line id 1 → (history ≡ []) ⊎ (history ≡ 1 ∷ [])
+    → Wrote (AreLines (λ _. line) history acknowledged) old new → Wrote (AreLines (done_line id) history acknowledged) old new
+wrote_lines id line history acknowledged old new is (inl none) (text, are, e) =
+    (text, lines_same (λ _. line) (done_line id) history acknowledged text (subst (λ (h : List ℕ). AllByRecursion (λ g. line ≡ done_line id g) h) (sym none) tt) are, e)
+wrote_lines id line history acknowledged old new is (inr one) (text, are, e) =
+    (text, lines_same (λ _. line) (done_line id) history acknowledged text (subst (λ (h : List ℕ). AllByRecursion (λ g. line ≡ done_line id g) h) (sym one) (is, tt)) are, e)
+
+all_named : (P : PackageId → Type 0) (id : PackageId) → P id → (history : List ℕ) → AllByRecursion (λ g. IsLineOf P (done_line id g) g) history
+all_named P id is [] = tt
+all_named P id is (g ∷ gs) = ((id, is, refl), all_named P id is gs)
+
+-- the lines name a package that has P
+pub wrote_named : (P : PackageId → Type 0) (id : PackageId) (history acknowledged old new : List ℕ) → P id → Wrote (AreLines (done_line id) history acknowledged) old new → Wrote (IsLines P history acknowledged) old new
+wrote_named P id history acknowledged old new is (text, are, e) = (text, record { line = done_line id; named = all_named P id is history; lines = are }, e)
+
+-- the same of a run that ended without a group
+pub wrote_nothing : (P : PackageId → Type 0) (history acknowledged old new : List ℕ) → history ≡ [] → acknowledged ≡ [] → new ≡ old → Wrote (IsLines P history acknowledged) old new
+wrote_nothing P history acknowledged old new none none' same =
+    let empty = wrote_none (λ _. []) history acknowledged old new none none' same in
+    (empty.0, record { line = λ _. []; named = subst (λ (h : List ℕ). AllByRecursion (λ g. IsLineOf P [] g) h) (sym none) tt; lines = empty.1 }, empty.2)
+
+named_weaker : (P Q : PackageId → Type 0) (line : ℕ → List ℕ) (history : List ℕ) → ((id : PackageId) → P id → Q id)
+    → AllByRecursion (λ g. IsLineOf P (line g) g) history → AllByRecursion (λ g. IsLineOf Q (line g) g) history
+named_weaker P Q line [] so named = tt
+named_weaker P Q line (g ∷ gs) so ((id, is, e), rest) = ((id, so id is, e), named_weaker P Q line gs so rest)
+
+pub wrote_weaker : (P Q : PackageId → Type 0) (history acknowledged old new : List ℕ) → ((id : PackageId) → P id → Q id)
+    → Wrote (IsLines P history acknowledged) old new → Wrote (IsLines Q history acknowledged) old new
+wrote_weaker P Q history acknowledged old new so (text, named, e) =
+    (text, record { line = named.line; named = named_weaker P Q named.line history so named.named; lines = named.lines }, e)
+
+-- the last line, whole
+pub last_whole : (s : Status) (line old new : List ℕ) → line ≡ last_line s → new ≡ old ++ line → Wrote (IsLast s s) old new
+last_whole s line old new is wrote = (line, inl (refl, is), wrote)
+
+-- the last line could not be written
+pub last_cut : (came s : Status) (line old new : List ℕ) → line ≡ last_line came → s ≡ unwritten came → ((n : ℕ) × (new ≡ old ++ take n line)) → Wrote (IsLast came s) old new
+last_cut came s line old new is falls (n, wrote) = (take n line, inr (falls, (n, ap (take n) is)), wrote)
+
+pub end_itself : (came s : Status) (old new : List ℕ) → Wrote (IsLast came s) old new → Wrote (IsEnd came s) old new
+end_itself came s old new (text, last, e) = (text, inl last, e)
+
+pub end_memory : (came s : Status) (old new : List ℕ) → Wrote (IsLast status.Memory s) old new → Wrote (IsEnd came s) old new
+end_memory came s old new (text, last, e) = (text, inr last, e)
+
+-- the lines and then the last line
+pub wrote_all : (P : PackageId → Type 0) (IsAnswer : Status → Type 0) (history acknowledged : List ℕ) (came s : Status) (old mid new : List ℕ) → IsAnswer came → IsAnswer status.Memory
+    → Wrote (IsLines P history acknowledged) old mid → Wrote (IsEnd came s) mid new → Wrote (IsOutput P IsAnswer history acknowledged s) old new
+wrote_all P IsAnswer history acknowledged came s old mid new answer memory (lines, named, first) (last, inl ends, second) =
+    (lines ++ last, record { lines = lines; named = named; came = came; answer = answer; last = last; ends = ends; whole = refl }, second ∙ (ap (λ (x : List ℕ). x ++ last) first ∙ append_assoc old lines last))
+wrote_all P IsAnswer history acknowledged came s old mid new answer memory (lines, named, first) (last, inr ends, second) =
+    (lines ++ last, record { lines = lines; named = named; came = status.Memory; answer = memory; last = last; ends = ends; whole = refl }, second ∙ (ap (λ (x : List ℕ). x ++ last) first ∙ append_assoc old lines last))

@@ -1,0 +1,60 @@
+-- What a run writes: the lines of its groups, and its last line.
+use Rattle.std.specs.Prelude.{◌≡◌, ◌⊎◌, ℕ, List, ◌++◌, take}
+use Rattle.std.specs.List.{AllByRecursion, flat_map}
+use Rattle.dep_atom.specs.declared.package.PackageId.{PackageId}
+use Rattle.emerge_run.specs.Texts.{done_line, last_line}
+use Rattle.emerge_run.specs.declared.status.Status.{Status}
+use Rattle.emerge_run.specs.declared.status.Status.TheVariants as status
+
+-- what was written since then has P
+abbrev pub Wrote : (List ℕ → Type 0) → List ℕ → List ℕ → Type 0
+Wrote P old new = (text : List ℕ) × P text × (new ≡ old ++ text)
+
+-- some beginning of a text
+abbrev pub IsBeginning : List ℕ → List ℕ → Type 0
+IsBeginning whole text = (n : ℕ) × (text ≡ take n whole)
+
+-- the lines of the acknowledged groups, in order, and then some beginning of the lines of the
+-- groups of the history that are not acknowledged
+pub record AreLines (line : ℕ → List ℕ) (history acknowledged text : List ℕ) : Type 0 where
+  pub rest : List ℕ
+  pub order : history ≡ acknowledged ++ rest
+  pub cut : List ℕ
+  pub begun : IsBeginning (flat_map line rest) cut
+  pub whole : text ≡ flat_map line acknowledged ++ cut
+
+-- the line of a group that adds a package which has P
+abbrev pub IsLineOf : (PackageId → Type 0) → List ℕ → ℕ → Type 0
+IsLineOf P line group = (id : PackageId) × P id × (line ≡ done_line id group)
+
+-- the same lines, where each group of the history adds a package that has P
+pub record IsLines (P : PackageId → Type 0) (history acknowledged text : List ℕ) : Type 0 where
+  pub line : ℕ → List ℕ
+  pub named : AllByRecursion (λ g. IsLineOf P (line g) g) history
+  pub lines : AreLines line history acknowledged text
+
+-- what a status becomes where its last line can't be written
+abbrev pub unwritten : Status → Status
+unwritten status.DeviceFault = status.DeviceFault
+unwritten _ = status.OutputFault
+
+-- a run that came to one status ends with it, and its last line is there; or it ends as one whose
+-- last line can't be written, and some beginning of that line is there
+abbrev pub IsLast : Status → Status → List ℕ → Type 0
+IsLast came s text = ((s ≡ came) × (text ≡ last_line came))
+    ⊎ ((s ≡ unwritten came) × IsBeginning (last_line came) text)
+
+-- the same, where want of memory may come in place of the status
+abbrev pub IsEnd : Status → Status → List ℕ → Type 0
+IsEnd came s text = IsLast came s text ⊎ IsLast status.Memory s text
+
+-- what a run with these answers wrote: its lines, and then the last line of one of the answers
+pub record IsOutput (P : PackageId → Type 0) (IsAnswer : Status → Type 0)
+    (history acknowledged : List ℕ) (s : Status) (text : List ℕ) : Type 0 where
+  pub lines : List ℕ
+  pub named : IsLines P history acknowledged lines
+  pub came : Status
+  pub answer : IsAnswer came
+  pub last : List ℕ
+  pub ends : IsLast came s last
+  pub whole : text ≡ lines ++ last
