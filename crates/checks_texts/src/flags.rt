@@ -1,7 +1,7 @@
 use pms_names::{Flag, Flags, NameFault};
-use std::alloc::Global;
+use std::alloc::{AllocError, Global};
 use std::test::Fail;
-use use_flags::{Change, Iuse, UseFault, apply, changes};
+use use_flags::{Change, Iuse, UseFault, apply, changes, one_fault};
 
 fn is_among(alloc: Global, flags: &Flags, text: &str) -> Result<bool, NameFault> {
     let flag = Flag::parse(alloc, text)?;
@@ -51,5 +51,40 @@ fn changes_of_a_set(rt: HostRuntime) -> Result<(), Fail> {
     apply(&mut flags, list.as_slice())?;
     assert!(rt; flags.len() == 1);
     assert!(rt; matches!(is_among(alloc, &flags, "b"), Ok(true)));
+    Ok(())
+}
+
+/// The flags of three letters, from the last in byte order to the first: 70,304 bytes.
+fn falling_flags(alloc: Global) -> Result<String, AllocError> {
+    let letters = "zyxwvutsrqponmlkjihgfedcba";
+    let mut text = String::new(alloc);
+    for a in letters.chars() {
+        for b in letters.chars() {
+            for c in letters.chars() {
+                text.push(a)?;
+                text.push(b)?;
+                text.push(c)?;
+                text.push(' ')?;
+            }
+        }
+    }
+    Ok(text)
+}
+
+#[test]
+fn long_texts_in_falling_order(rt: HostRuntime) -> Result<(), Fail> {
+    one_fault();
+    let alloc = rt.alloc();
+    let text = falling_flags(alloc)?;
+    let Ok(iuse) = Iuse::parse(alloc, text.as_str()) else {
+        return Err(Fail::from("no items"));
+    };
+    assert_eq!(rt; iuse.flags.len(), 17_576);
+    let Ok(list) = changes(alloc, text.as_str()) else {
+        return Err(Fail::from("no changes"));
+    };
+    let mut flags = Flags::new(alloc);
+    apply(&mut flags, list.as_slice())?;
+    assert_eq!(rt; flags.len(), 17_576);
     Ok(())
 }

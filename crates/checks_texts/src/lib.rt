@@ -11,8 +11,6 @@ mod flags;
 #[cfg(test)]
 mod grammar;
 #[cfg(test)]
-mod large;
-#[cfg(test)]
 mod names;
 #[cfg(test)]
 mod slots;

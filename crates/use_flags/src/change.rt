@@ -1,6 +1,6 @@
 ghost use Rattle.std.specs.Prelude.{◌≡◌, ℕ, List, map, IfOk, IfErr, OnOk, OnErr, IfSome, IfNone};
 ghost use Rattle.pms_names.specs.Flags.{has};
-ghost use Rattle.use_flags.specs.Changes.{change_of, IsChange, changed, has_after};
+ghost use Rattle.use_flags.specs.Changes.{Applies, IsChange, change_of, changed};
 ghost use Rattle.use_flags.specs.Words.{EachWord, words};
 ghost use Rattle.use_flags.specs.Faults.{FirstFault};
 ghost use Rattle.use_flags.specs.declared.fault.UseFault.TheVariants.{Memory};
@@ -63,7 +63,7 @@ fn read_change(alloc: Global, word: &[u8]) -> Result<Option<Change>, AllocError>
 
 /// Applies the changes in their order. Where memory runs out, the flags stay as they are.
 pub fn apply(flags: &mut Flags, changes: &[Change]) -> Result<(), AllocError>
-    ensures ok { OnOk result ((q : List ℕ) → has flags.new q ≡ has_after changes.now q (has flags.old q)) }
+    ensures ok { OnOk result (Applies changes.now flags.old flags.new) }
     ensures err { OnErr result (flags.new ≡ flags.old) }
 {
     let mut changed = flags.try_clone()?;

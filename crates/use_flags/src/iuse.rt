@@ -1,7 +1,8 @@
-ghost use Rattle.std.specs.Prelude.{◌≡◌, ◌↔◌, ℕ, List, ◌||◌, bytes_eq, IfOk, IfErr, OnOk, IsTrue, if◌then◌else◌};
+ghost use Rattle.std.specs.Prelude.{◌≡◌, ◌↔◌, ℕ, List, IfOk, IfErr, OnOk, IsTrue};
 ghost use Rattle.std.specs.Bool.{OnTrue};
 ghost use Rattle.pms_names.specs.Flags.{has};
-ghost use Rattle.use_flags.specs.Items.{flag_of, is_on, IsItem, names_flag, last_is_on};
+ghost use Rattle.use_flags.specs.Items.{AddsFlag, IsItem, SetsDefault};
+ghost use Rattle.use_flags.specs.Items.{flag_of, is_on, last_is_on, names_flag};
 ghost use Rattle.use_flags.specs.Words.{EachWord, words};
 ghost use Rattle.use_flags.specs.Faults.{FirstFault};
 ghost use Rattle.use_flags.specs.declared.fault.UseFault.TheVariants.{Memory};
@@ -21,8 +22,8 @@ pub struct Iuse {
 impl Iuse {
     /// Reads the text of IUSE. A flag may have several items, of which the last counts.
     pub fn parse(alloc: Global, text: &str) -> Result<Iuse, UseFault>
-        ensures flags { IfOk result (λ iuse. (q : List ℕ) → has iuse.flags q ≡ names_flag (words text.now) q) }
-        ensures on { IfOk result (λ iuse. (q : List ℕ) → has iuse.on q ≡ last_is_on (words text.now) q) }
+        ensures flags { IfOk result (λ r. (q : List ℕ) → has r.flags q ≡ names_flag (words text.now) q) }
+        ensures on { IfOk result (λ r. (q : List ℕ) → has r.on q ≡ last_is_on (words text.now) q) }
         ensures items { OnOk result (EachWord IsItem text.now) }
         ensures only { EachWord IsItem text.now → IfErr result (λ e. e ≡ Memory) }
         ensures fault { IfErr result (FirstFault IsItem text.now) }
@@ -45,8 +46,8 @@ impl Iuse {
     // Answers whether the word is an item; where it is none, nothing changes.
     fn add_item(&mut self, alloc: Global, word: &[u8]) -> Result<bool, AllocError>
         ensures item { IfOk result (λ added. IsTrue added ↔ IsItem word.now) }
-        ensures flags { IfOk result (λ added. OnTrue added ((q : List ℕ) → has self.new.flags q ≡ (bytes_eq q (flag_of word.now) || has self.old.flags q))) }
-        ensures on { IfOk result (λ added. OnTrue added ((q : List ℕ) → has self.new.on q ≡ (if bytes_eq q (flag_of word.now) then is_on word.now else has self.old.on q))) }
+        ensures flags { IfOk result (λ added. OnTrue added (AddsFlag self.old.flags self.new.flags word.now)) }
+        ensures on { IfOk result (λ added. OnTrue added (SetsDefault self.old.on self.new.on word.now)) }
     {
         let flag = match Flag::from_bytes(alloc, flag_of(word)) {
             Ok(flag) => flag,
