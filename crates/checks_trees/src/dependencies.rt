@@ -162,3 +162,42 @@ fn sixty_four_open_groups(rt: HostRuntime) -> Result<(), Fail> {
     assert_eq!(rt; letter(rt.alloc(), &text), "D");
     Ok(())
 }
+
+/// The atom `c/d` in 64 groups, each with this word before its parenthesis.
+fn nested(alloc: Global, opener: &str) -> Result<String, Fail> {
+    let mut text = String::new(alloc);
+    for _ in 0..64 {
+        push_word(&mut text, "", opener, " (")?;
+    }
+    push_word(&mut text, "", "c/d", "")?;
+    for _ in 0..64 {
+        push_word(&mut text, "", ")", "")?;
+    }
+    Ok(text)
+}
+
+#[test]
+fn sixty_four_groups_in_one_another(rt: HostRuntime) -> Result<(), Fail> {
+    let there = packages(rt.alloc())?;
+    let on = flag_a(rt.alloc())?;
+    for opener in ["||", "a?"] {
+        let text = nested(rt.alloc(), opener)?;
+        let tree = DepTree::parse(rt.alloc(), &text)?;
+        let copy = tree.try_clone()?;
+        assert_eq!(rt; copy.print(rt.alloc())?.as_str(), text.as_str());
+        assert!(rt; tree.holds(&there, &on), "{opener}");
+        assert_eq!(rt; leaves_text(rt.alloc(), &tree, &on)?.as_str(), "c/d");
+    }
+    Ok(())
+}
+
+#[test]
+fn a_text_of_64_kilobytes(rt: HostRuntime) -> Result<(), Fail> {
+    let mut text = String::new(rt.alloc());
+    for _ in 0..16384 {
+        push_word(&mut text, "", "c/d", "")?;
+    }
+    let tree = DepTree::parse(rt.alloc(), &text)?;
+    assert_eq!(rt; tree.print(rt.alloc())?.as_str(), text.as_str());
+    Ok(())
+}

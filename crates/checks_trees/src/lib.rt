@@ -9,6 +9,4 @@ mod dependencies;
 #[cfg(test)]
 mod groups;
 #[cfg(test)]
-mod large;
-#[cfg(test)]
 mod required;

@@ -1,3 +1,4 @@
+use dep_group::push_word;
 use pms_names::{Flag, Flags};
 use required_use::{RequiredFault, RequiredUse, one_fault};
 use std::alloc::Global;
@@ -93,5 +94,43 @@ fn cut_at_every_byte(rt: HostRuntime) -> Result<(), Fail> {
         }
     }
     assert_eq!(rt; found.as_str(), "...IIIOOOIIOOIOOOO.");
+    Ok(())
+}
+
+/// The item `a` in 64 groups, each with this word before its parenthesis.
+fn nested(alloc: Global, opener: &str) -> Result<String, Fail> {
+    let mut text = String::new(alloc);
+    for _ in 0..64 {
+        push_word(&mut text, "", opener, " (")?;
+    }
+    push_word(&mut text, "", "a", "")?;
+    for _ in 0..64 {
+        push_word(&mut text, "", ")", "")?;
+    }
+    Ok(text)
+}
+
+#[test]
+fn sixty_four_groups_in_one_another(rt: HostRuntime) -> Result<(), Fail> {
+    let on = flags(rt.alloc(), ["a"].as_slice())?;
+    let off = Flags::new(rt.alloc());
+    for (opener, without) in [("||", false), ("^^", false), ("a?", true)] {
+        let text = nested(rt.alloc(), opener)?;
+        let required = RequiredUse::parse(rt.alloc(), &text)?;
+        assert_eq!(rt; required.print(rt.alloc())?.as_str(), text.as_str());
+        assert!(rt; required.holds(&on), "{opener}");
+        assert_eq!(rt; required.holds(&off), without, "{opener}");
+    }
+    Ok(())
+}
+
+#[test]
+fn a_text_of_64_kilobytes(rt: HostRuntime) -> Result<(), Fail> {
+    let mut text = String::new(rt.alloc());
+    for _ in 0..16384 {
+        push_word(&mut text, "!", "f0", "")?;
+    }
+    let required = RequiredUse::parse(rt.alloc(), &text)?;
+    assert_eq!(rt; required.print(rt.alloc())?.as_str(), text.as_str());
     Ok(())
 }

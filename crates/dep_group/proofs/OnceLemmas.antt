@@ -10,7 +10,7 @@ use Rattle.dep_group.proofs.OrderLemmas.{EachWord-parted, Reached, closes, close
 use Rattle.dep_group.proofs.ReadingLemmas.{ok_under, ok_unless, read-printed}
 use Rattle.dep_group.proofs.StopLemmas.{place-within}
 use Rattle.dep_group.proofs.TokenLemmas.{token_same}
-use Rattle.dep_group.specs.Faults.{FaultHere, FirstWordFault, IsOutermost, IsParenthesis, IsText, LeavesOpen, OpensHere, closings}
+use Rattle.dep_group.specs.Faults.{Stops, FirstWordFault, IsOutermost, IsParenthesis, IsText, LeavesOpen, FirstIs, closings}
 use Rattle.dep_group.specs.Maps.{answer_map, token_map, tree_map}
 use Rattle.dep_group.specs.Reading.{Opened, all_tokens, in_any_of, list_of, read}
 use Rattle.dep_group.specs.Shapes.{shape}
@@ -233,13 +233,13 @@ opens_marked g barred w Glued e h = absurd (cc)
 opens_marked g barred w Unknown e h = absurd (cc)
 
 -- the word before the closing ones is the one that was there
-opens_first : {L : Type 0} (g : Grammar L) (barred : L → Bool) (mid back : List (List ℕ)) (n : ℕ) (rest : List Marked) → AreMarked g barred (mid ++ closings n) (Opens ∷ rest) → OpensHere g (mid ++ back)
+opens_first : {L : Type 0} (g : Grammar L) (barred : L → Bool) (mid back : List (List ℕ)) (n : ℕ) (rest : List Marked) → AreMarked g barred (mid ++ closings n) (Opens ∷ rest) → FirstIs g (mid ++ back) Opens
 opens_first g barred [] back zero rest h = absurd h
 opens_first g barred [] back (suc n) rest h = let first = opens_marked g barred _ h.0.0 h.0.2 h.0.1 in absurd (cc)
 opens_first g barred (v ∷ mid) back n rest h = opens_marked g barred v h.0.0 h.0.2 h.0.1
 
 -- behind words with a fault no further words are in order
-no_more : {L : Type 0} (g : Grammar L) (barred : L → Bool) → OneMark g barred → (front : List (List ℕ)) (unclosed : ℕ) (w : List ℕ) (mid back : List (List ℕ)) (n : ℕ) (f : GroupFault) → f ≢ fault.Memory → LeavesOpen g barred front unclosed → FaultHere g barred front unclosed (w ∷ (mid ++ back)) f → LeavesOpen g barred (front ++ w ∷ mid) n → ⊥
+no_more : {L : Type 0} (g : Grammar L) (barred : L → Bool) → OneMark g barred → (front : List (List ℕ)) (unclosed : ℕ) (w : List ℕ) (mid back : List (List ℕ)) (n : ℕ) (f : GroupFault) → f ≢ fault.Memory → LeavesOpen g barred front unclosed → Stops g barred front unclosed (w ∷ (mid ++ back)) f → LeavesOpen g barred (front ++ w ∷ mid) n → ⊥
 no_more g barred one front unclosed w mid back n f m order h text = go f m h
   where
     c : Came g barred front unclosed
@@ -251,7 +251,7 @@ no_more g barred one front unclosed w mid back n f m order h text = go f m h
     ok_as : (t : Token (Opener (List ℕ)) _) → IsToken g w t → read is_any_of is_barred (mark barred t ∷ x.rs) (length c.ts) None c.os c.done ≡ Ok x.out
     ok_as t k = ap (λ u. read is_any_of is_barred (u ∷ x.rs) (length c.ts) None c.os c.done) (mark_same g barred one w (mark barred t) x.t (t, k, refl) x.at_word) ∙ x.ok
 
-    go : (f : GroupFault) → f ≢ fault.Memory → FaultHere g barred front unclosed (w ∷ (mid ++ back)) f → ⊥
+    go : (f : GroupFault) → f ≢ fault.Memory → Stops g barred front unclosed (w ∷ (mid ++ back)) f → ⊥
     go (fault.Leaf at) m h = elim h.1 [
       | inl k ↦ no_ok _ x.out (ok_as Unknown k)
       | inr k ↦
@@ -262,7 +262,7 @@ no_more g barred one front unclosed w mid back n f m order h text = go f m h
     go (fault.NoSpace at) m h = no_ok _ x.out (ok_as Glued h.1)
     go (fault.Close at) m h = no_closing is_barred x.rs (length c.ts) c.os c.done x.out (c.count ∙ h.1) (ok_as Closes h.2)
     go (fault.Barred at) m h =
-        let none = h.1.3 in
+        let none = h.1.no_text in
         none (mid ++ closings n, subst (IsText g barred) (append_assoc front (w ∷ mid) (closings n) ∙ sym (append_assoc front (w ∷ []) (mid ++ closings n))) text)
     go fault.Depth m h = elim h.1 [
       | inl k ↦ let r = ok_under (nat_lt (length c.os) 64) _ _ x.out (ok_as Opens k) in no_room (length c.os) (c.count ∙ h.0) r.0
@@ -283,16 +283,16 @@ opens_shape shapes.AtMostOne = false
 opens_shape (shapes.When on) = false
 opens_shape shapes.Item = false
 
--- the test of `OpensHere`
+-- a parenthesis comes first
 abbrev opens_here : Bool → List (List ℕ) → Bool
 opens_here brackets [] = false
 opens_here brackets (w ∷ ws) = opens_shape (shape brackets w)
 
-opens_here-is : {L : Type 0} (g : Grammar L) (ws : List (List ℕ)) → OpensHere g ws → opens_here g.brackets ws ≡ true
+opens_here-is : {L : Type 0} (g : Grammar L) (ws : List (List ℕ)) → FirstIs g ws Opens → opens_here g.brackets ws ≡ true
 opens_here-is g [] h = absurd h
 opens_here-is g (w ∷ ws) h = ap opens_shape h
 
-opens_here-not : {L : Type 0} (g : Grammar L) (ws : List (List ℕ)) → (OpensHere g ws → ⊥) → opens_here g.brackets ws ≡ false
+opens_here-not : {L : Type 0} (g : Grammar L) (ws : List (List ℕ)) → ¬ FirstIs g ws Opens → opens_here g.brackets ws ≡ false
 opens_here-not g [] h = refl
 opens_here-not g (w ∷ ws) h = of_shape (shape g.brackets w) h
   where
@@ -322,7 +322,7 @@ record Told {L : Type 0} (g : Grammar L) (barred : L → Bool) (w : List ℕ) (w
   token : IsMarked g barred w t
   same : f ≡ told t (opens_here g.brackets ws) at
 
-told_here : {L : Type 0} (g : Grammar L) (barred : L → Bool) (front : List (List ℕ)) (unclosed : ℕ) (w : List ℕ) (ws : List (List ℕ)) (f : GroupFault) → f ≢ fault.Memory → FaultHere g barred front unclosed (w ∷ ws) f → Told g barred w ws (length front) f
+told_here : {L : Type 0} (g : Grammar L) (barred : L → Bool) (front : List (List ℕ)) (unclosed : ℕ) (w : List ℕ) (ws : List (List ℕ)) (f : GroupFault) → f ≢ fault.Memory → Stops g barred front unclosed (w ∷ ws) f → Told g barred w ws (length front) f
 told_here g barred front unclosed w ws (fault.Leaf at) m h = elim h.1 [
   | inl k ↦ record { t = Unknown; token = (Unknown, k, refl); same = ap fault.Leaf h.0 }
   | inr k ↦ record {
@@ -333,7 +333,7 @@ told_here g barred front unclosed w ws (fault.Leaf at) m h = elim h.1 [
 ]
 told_here g barred front unclosed w ws (fault.NoSpace at) m h = record { t = Glued; token = (Glued, h.1, refl); same = ap fault.NoSpace h.0 }
 told_here g barred front unclosed w ws (fault.Close at) m h = record { t = Closes; token = (Closes, h.2, refl); same = ap fault.Close h.0 }
-told_here g barred front unclosed w ws (fault.Barred at) m h = record { t = Leaf (barred h.1.0); token = (Leaf h.1.0, h.1.1, refl); same = ap fault.Barred h.0 }
+told_here g barred front unclosed w ws (fault.Barred at) m h = record { t = Leaf (barred h.1.leaf); token = (Leaf h.1.leaf, h.1.token, refl); same = ap fault.Barred h.0 }
 told_here g barred front unclosed w ws fault.Depth m h = elim h.1 [
   | inl k ↦ record { t = Opens; token = (Opens, k, refl); same = refl }
   | inr k ↦ record { t = Begins k.0.0; token = (Begins k.0.0, k.0.1, refl); same = ap (λ b. told (Begins k.0.0) b (length front)) (sym (opens_here-is g ws k.1)) }
@@ -373,7 +373,7 @@ outermost_once g barred ws m n o p = elim (cases_lt o.start p.start) [
 ]
 
 -- at the end of the words a group is open
-end_fault : {L : Type 0} (g : Grammar L) (barred : L → Bool) (front : List (List ℕ)) (unclosed : ℕ) (f : GroupFault) → f ≢ fault.Memory → FaultHere g barred front unclosed [] f → (at : ℕ) × (f ≡ fault.Open at) × IsOutermost g barred front at
+end_fault : {L : Type 0} (g : Grammar L) (barred : L → Bool) (front : List (List ℕ)) (unclosed : ℕ) (f : GroupFault) → f ≢ fault.Memory → Stops g barred front unclosed [] f → (at : ℕ) × (f ≡ fault.Open at) × IsOutermost g barred front at
 end_fault g barred front unclosed (fault.Leaf at) m h = elim h.1 [ inl k ↦ absurd k | inr k ↦ absurd k ]
 end_fault g barred front unclosed (fault.NoSpace at) m h = absurd h.1
 end_fault g barred front unclosed (fault.Close at) m h = absurd h.2
@@ -383,7 +383,7 @@ end_fault g barred front unclosed (fault.Open at) m h = (at, refl, h.1)
 end_fault g barred front unclosed fault.Memory m h = absurd (m refl)
 
 -- one fault fits where words in order end
-same_here : {L : Type 0} (g : Grammar L) (barred : L → Bool) → OneMark g barred → (front back : List (List ℕ)) (m n : ℕ) (e f : GroupFault) → e ≢ fault.Memory → f ≢ fault.Memory → FaultHere g barred front m back e → FaultHere g barred front n back f → e ≡ f
+same_here : {L : Type 0} (g : Grammar L) (barred : L → Bool) → OneMark g barred → (front back : List (List ℕ)) (m n : ℕ) (e f : GroupFault) → e ≢ fault.Memory → f ≢ fault.Memory → Stops g barred front m back e → Stops g barred front n back f → e ≡ f
 same_here g barred one front [] m n e f p q h k =
     let a = end_fault g barred front m e p h in
     let b = end_fault g barred front n f q k in
@@ -415,12 +415,12 @@ ordered g barred one ws e f a b p q le =
   where
     go : (m : List (List ℕ)) → b.front ≡ a.front ++ m → a.back ≡ m ++ b.back → e ≡ f
     go [] whole rest =
-        let P : List (List ℕ) → Type 0 = λ us. FaultHere g barred us b.unclosed b.back f in
-        let Q : List (List ℕ) → Type 0 = λ us. FaultHere g barred a.front a.unclosed us e in
+        let P : List (List ℕ) → Type 0 = λ us. Stops g barred us b.unclosed b.back f in
+        let Q : List (List ℕ) → Type 0 = λ us. Stops g barred a.front a.unclosed us e in
         same_here g barred one a.front b.back a.unclosed b.unclosed e f p q (subst Q rest a.here) (subst P (whole ∙ append-nil a.front) b.here)
     go (w ∷ mid) whole rest =
         let P : List (List ℕ) → Type 0 = λ us. LeavesOpen g barred us b.unclosed in
-        let Q : List (List ℕ) → Type 0 = λ us. FaultHere g barred a.front a.unclosed us e in
+        let Q : List (List ℕ) → Type 0 = λ us. Stops g barred a.front a.unclosed us e in
         absurd (no_more g barred one a.front a.unclosed w mid b.back b.unclosed e p a.order (subst Q rest a.here) (subst P whole b.order))
 
 -- but for want of memory words have one first fault at most
@@ -433,7 +433,7 @@ one_word_fault g barred one ws e f a b p q = elim (cases_lt (length a.front) (le
 not_in_text : {L : Type 0} (g : Grammar L) (barred : L → Bool) → OneMark g barred → (ws : List (List ℕ)) (f : GroupFault) → IsText g barred ws → FirstWordFault g barred ws f → f ≢ fault.Memory → ⊥
 not_in_text g barred one ws f text a p = go a.back a.whole a.here
   where
-    go : (back : List (List ℕ)) → ws ≡ a.front ++ back → FaultHere g barred a.front a.unclosed back f → ⊥
+    go : (back : List (List ℕ)) → ws ≡ a.front ++ back → Stops g barred a.front a.unclosed back f → ⊥
     go [] whole h =
         let b = end_fault g barred a.front a.unclosed f p h in
         let o = b.2 in
@@ -443,7 +443,7 @@ not_in_text g barred one ws f text a p = go a.back a.whole a.here
           | inr more ↦ subst (IsParenthesis g o.start b.0) (drop_of_length-le a.front more) o.place
         ]
     go (w ∷ mid) whole h =
-        let P : List (List ℕ) → Type 0 = λ us. FaultHere g barred a.front a.unclosed (w ∷ us) f in
+        let P : List (List ℕ) → Type 0 = λ us. Stops g barred a.front a.unclosed (w ∷ us) f in
         no_more g barred one a.front a.unclosed w mid [] 0 f p a.order (subst P (sym (append-nil mid)) h) (subst (IsText g barred) (whole ∙ sym (append-nil (a.front ++ w ∷ mid))) text)
 
 -- a text in form has no fault but want of memory

@@ -11,7 +11,7 @@ use Rattle.std.proofs.lemmas.List.Folds.{list_all-append}
 use Rattle.dep_group.proofs.Bools.{and_left, and_right}
 use Rattle.dep_group.proofs.OrderLemmas.{EachWord-append, EachWord-length, Reached, begin-read, leaves_open, text-read}
 use Rattle.dep_group.proofs.TokenLemmas.{token_same}
-use Rattle.dep_group.specs.Faults.{Begin, FaultHere, FirstWordFault, IsOutermost, IsParenthesis, IsText, OpensHere}
+use Rattle.dep_group.specs.Faults.{Begin, Stops, FirstWordFault, IsOutermost, IsParenthesis, IsText, FirstIs}
 use Rattle.dep_group.specs.Reading.{Opened, in_any_of, outermost, read}
 use Rattle.dep_group.specs.Tokens.{AreOnlyTokens, Grammar, IsOnlyToken, IsToken}
 use Rattle.dep_group.specs.Trees.{Tree, group, is_any_of, leaf, trees_of}
@@ -157,7 +157,7 @@ further g barred front more ts us os os' done done' n s only proper room count g
     }
 
 -- the fault is here
-stop : {L : Type 0} (g : Grammar L) (barred : L → Bool) (front back : List (List ℕ)) (ts : List (Token (Opener (List ℕ)) L)) (os : List (Opened (Opener (List ℕ)) L)) (done : List (Tree (Opener (List ℕ)) L)) (e f : GroupFault) → Stands g barred front ts os done → FaultHere g barred front (length os) back e → f ≡ e → FirstWordFault g barred (front ++ back) f
+stop : {L : Type 0} (g : Grammar L) (barred : L → Bool) (front back : List (List ℕ)) (ts : List (Token (Opener (List ℕ)) L)) (os : List (Opened (Opener (List ℕ)) L)) (done : List (Tree (Opener (List ℕ)) L)) (e f : GroupFault) → Stands g barred front ts os done → Stops g barred front (length os) back e → f ≡ e → FirstWordFault g barred (front ++ back) f
 stop g barred front back ts os done e f s h same =
     subst (FirstWordFault g barred (front ++ back)) (sym same)
     (record { front = front; back = back; whole = refl; unclosed = length os; order = leaves_open g barred front ts os done s.proper s.only s.reach; here = h })
@@ -223,7 +223,7 @@ full : (n : ℕ) → n ≤ 64 → nat_lt n 64 ≡ false → n ≡ 64
 full n room h = grind (arith, nat_tests)
 
 -- where an opener has no parenthesis behind it the opener is told
-no_group : {L : Type 0} (g : Grammar L) (barred : L → Bool) (front : List (List ℕ)) (w : List ℕ) (ws : List (List ℕ)) (b : Opener (List ℕ)) (ts : List (Token (Opener (List ℕ)) L)) (os : List (Opened (Opener (List ℕ)) L)) (done : List (Tree (Opener (List ℕ)) L)) (f : GroupFault) → Stands g barred front ts os done → IsOnlyToken g w (Begins b) → (OpensHere g ws → ⊥) → f ≡ fault.Leaf (length ts + 1 - 1) → FirstWordFault g barred (front ++ w ∷ ws) f
+no_group : {L : Type 0} (g : Grammar L) (barred : L → Bool) (front : List (List ℕ)) (w : List ℕ) (ws : List (List ℕ)) (b : Opener (List ℕ)) (ts : List (Token (Opener (List ℕ)) L)) (os : List (Opened (Opener (List ℕ)) L)) (done : List (Tree (Opener (List ℕ)) L)) (f : GroupFault) → Stands g barred front ts os done → IsOnlyToken g w (Begins b) → ¬ FirstIs g ws Opens → f ≡ fault.Leaf (length ts + 1 - 1) → FirstWordFault g barred (front ++ w ∷ ws) f
 no_group g barred front w ws b ts os done f s h none e =
     let back : length ts + 1 - 1 ≡ length ts = omega arith in
     stop g barred front (w ∷ ws) ts os done (fault.Leaf (length ts)) f s (index g barred front ts os done s, inr ((b, h), none)) (e ∙ ap fault.Leaf back)
@@ -245,7 +245,7 @@ stops g barred front (w ∷ ws) ts (Leaf a ∷ us) os done f s h p r = elim (unl
       behind g barred front (w ∷ []) ws f (stops g barred (front ++ w ∷ []) ws (ts ++ Leaf a ∷ []) us os (done ++ leaf a ∷ []) f s' h.1 (and_right _ _ p) (at_index barred us _ _ os _ f (one_more ts (Leaf a)) k.1))
   | inr k ↦
       stop g barred front (w ∷ ws) ts os done (fault.Barred (length ts)) f s
-      (index g barred front ts os done s, (a, h.0.0, and_right _ _ k.0, barred_here g barred front w ts os done a s h.0 k.0)) k.1
+      (index g barred front ts os done s, record { leaf = a; token = h.0.0; is_barred = and_right _ _ k.0; no_text = barred_here g barred front w ts os done a s h.0 k.0 }) k.1
 ]
 stops g barred front (w ∷ ws) ts (Closes ∷ us) [] done f s h p r = stop g barred front (w ∷ ws) ts [] done (fault.Close (length ts)) f s (index g barred front ts [] done s, refl, h.0) (err_of _ f r)
 stops g barred front (w ∷ ws) ts (Closes ∷ us) (o ∷ os) done f s h p r =

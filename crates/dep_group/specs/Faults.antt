@@ -1,6 +1,7 @@
--- The first fault of words that are no text of groups: what stands before it is in order, and why no more is.
+-- The first fault of words that are no text of groups: what stands before is in order, and no more is.
 use Rattle.std.specs.Prelude.{◌≡◌, ℕ, zero, suc, ◌+◌, ◌<◌, ◌≤◌, ◌⊎◌, Bool, true, List, [], ◌∷◌, ◌++◌, length, take, drop}
 use Rattle.dep_group.specs.declared.token.Opener.{Opener}
+use Rattle.dep_group.specs.declared.token.Token.{Token}
 use Rattle.dep_group.specs.declared.token.Token.TheVariants.{Leaf, Begins, Opens, Closes, Glued, Unknown}
 use Rattle.dep_group.specs.declared.token.GroupFault.{GroupFault}
 use Rattle.dep_group.specs.declared.token.GroupFault.TheVariants as fault
@@ -8,90 +9,91 @@ use Rattle.dep_group.specs.Shapes.{close_parenthesis}
 use Rattle.dep_group.specs.Tokens.{Grammar, IsToken, IsInForm, tree_words}
 use Rattle.dep_group.specs.Trees.{Trees}
 
+-- the words of a text, one after another
+abbrev pub WordList : Type 0
+WordList = List (List ℕ)
+
 -- the words are a text in form
-abbrev pub IsText : {L : Type 0} → Grammar L → (L → Bool) → List (List ℕ) → Type 0
-IsText g barred ws = (x : Trees (Opener (List ℕ)) _) × IsInForm g barred x × (ws ≡ tree_words g x)
+abbrev pub IsText : {L : Type 0} → Grammar L → (L → Bool) → WordList → Type 0
+IsText g barred ws =
+    (x : Trees (Opener (List ℕ)) _) × IsInForm g barred x × (ws ≡ tree_words g x)
 
 -- so many closing parentheses
-abbrev pub closings : ℕ → List (List ℕ)
+abbrev pub closings : ℕ → WordList
 closings zero = []
 closings (suc n) = (close_parenthesis ∷ []) ∷ closings n
 
--- the words are in order, and so many groups are open behind them: as many parentheses close the text
-abbrev pub LeavesOpen : {L : Type 0} → Grammar L → (L → Bool) → List (List ℕ) → ℕ → Type 0
+-- the words are in order and leave so many groups open: as many parentheses make them a text
+abbrev pub LeavesOpen : {L : Type 0} → Grammar L → (L → Bool) → WordList → ℕ → Type 0
 LeavesOpen g barred ws unclosed = IsText g barred (ws ++ closings unclosed)
 
 -- some words behind these make them a text in form
-abbrev pub Begin : {L : Type 0} → Grammar L → (L → Bool) → List (List ℕ) → Type 0
-Begin g barred ws = (more : List (List ℕ)) × IsText g barred (ws ++ more)
+abbrev pub Begin : {L : Type 0} → Grammar L → (L → Bool) → WordList → Type 0
+Begin g barred ws = (more : WordList) × IsText g barred (ws ++ more)
 
--- a parenthesis opens here
-abbrev pub OpensHere : {L : Type 0} → Grammar L → List (List ℕ) → Type 0
-OpensHere g [] = ⊥
-OpensHere g (w ∷ ws) = IsToken g w Opens
+-- the first of the words is read as this token
+abbrev pub FirstIs : {L : Type 0} → Grammar L → WordList → Token (Opener (List ℕ)) L → Type 0
+FirstIs g [] token = ⊥
+FirstIs g (w ∷ ws) token = IsToken g w token
 
 -- the word is an opener of the grammar
 abbrev pub IsOpenerWord : {L : Type 0} → Grammar L → List ℕ → Type 0
 IsOpenerWord g w = (opener : Opener (List ℕ)) × IsToken g w (Begins opener)
 
--- an opener stands here, and behind it no parenthesis
-abbrev pub LacksGroup : {L : Type 0} → Grammar L → List (List ℕ) → Type 0
+-- the first of the words is an opener, and the second is no parenthesis to open its group
+abbrev pub LacksGroup : {L : Type 0} → Grammar L → WordList → Type 0
 LacksGroup g [] = ⊥
-LacksGroup g (w ∷ ws) = IsOpenerWord g w × (OpensHere g ws → ⊥)
+LacksGroup g (w ∷ ws) = IsOpenerWord g w × ¬ FirstIs g ws Opens
 
--- a word stands here that is neither a leaf, an opener nor a parenthesis, and has none glued to it
-abbrev pub IsUnknown : {L : Type 0} → Grammar L → List (List ℕ) → Type 0
-IsUnknown g [] = ⊥
-IsUnknown g (w ∷ ws) = IsToken g w Unknown
+-- the first of the words is the parenthesis of a group, or its opener with the parenthesis behind
+abbrev pub BeginsGroup : {L : Type 0} → Grammar L → WordList → Type 0
+BeginsGroup g [] = ⊥
+BeginsGroup g (w ∷ ws) = IsToken g w Opens ⊎ (IsOpenerWord g w × FirstIs g ws Opens)
 
--- a word stands here that has a parenthesis glued to it
-abbrev pub IsGlued : {L : Type 0} → Grammar L → List (List ℕ) → Type 0
-IsGlued g [] = ⊥
-IsGlued g (w ∷ ws) = IsToken g w Glued
+-- the word is a barred leaf, and those before it begin no text with it
+pub record IsBarredBehind {L : Type 0} (g : Grammar L) (barred : L → Bool) (front : WordList) (w : List ℕ) : Type 0 where
+  pub leaf : L
+  pub token : IsToken g w (Leaf leaf)
+  pub is_barred : barred leaf ≡ true
+  pub no_text : ¬ Begin g barred (front ++ w ∷ [])
 
--- a parenthesis closes here
-abbrev pub ClosesHere : {L : Type 0} → Grammar L → List (List ℕ) → Type 0
-ClosesHere g [] = ⊥
-ClosesHere g (w ∷ ws) = IsToken g w Closes
+-- the same of the first of the words
+abbrev pub BeginsBarred : {L : Type 0} → Grammar L → (L → Bool) → WordList → WordList → Type 0
+BeginsBarred g barred front [] = ⊥
+BeginsBarred g barred front (w ∷ ws) = IsBarredBehind g barred front w
 
--- a group begins here
-abbrev pub GroupHere : {L : Type 0} → Grammar L → List (List ℕ) → Type 0
-GroupHere g [] = ⊥
-GroupHere g (w ∷ ws) = IsToken g w Opens ⊎ (IsOpenerWord g w × OpensHere g ws)
-
--- a barred leaf stands here, with which the words before it begin no text in form
-abbrev pub BarredBehind : {L : Type 0} → Grammar L → (L → Bool) → List (List ℕ) → List (List ℕ) → Type 0
-BarredBehind g barred front [] = ⊥
-BarredBehind g barred front (w ∷ ws) = (a : _) × IsToken g w (Leaf a) × (barred a ≡ true) × (Begin g barred (front ++ w ∷ []) → ⊥)
-
--- the parenthesis of the group that begins at `start` is its first word, or its second, behind an opener
-abbrev pub IsParenthesis : {L : Type 0} → Grammar L → ℕ → ℕ → List (List ℕ) → Type 0
+-- the parenthesis of the group that begins at `start` is there, or behind an opener
+abbrev pub IsParenthesis : {L : Type 0} → Grammar L → ℕ → ℕ → WordList → Type 0
 IsParenthesis g start at [] = ⊥
-IsParenthesis g start at (w ∷ ws) = (IsToken g w Opens × (at ≡ start)) ⊎ (IsOpenerWord g w × (at ≡ start + 1))
+IsParenthesis g start at (w ∷ ws) =
+    (IsToken g w Opens × (at ≡ start)) ⊎ (IsOpenerWord g w × (at ≡ start + 1))
 
--- the parenthesis at `at` opens the outermost of the groups that are open: before this group is a text in form, and no longer
--- beginning of the words is one
-pub record IsOutermost {L : Type 0} (g : Grammar L) (barred : L → Bool) (ws : List (List ℕ)) (at : ℕ) : Type 0 where
+-- the parenthesis at `at` opens the outermost of the groups that are open: before this group is a text
+-- in form, and no longer beginning of the words is one
+pub record IsOutermost {L : Type 0} (g : Grammar L) (barred : L → Bool) (ws : WordList) (at : ℕ) : Type 0 where
   pub start : ℕ
   pub before : IsText g barred (take start ws)
-  pub last : (n : ℕ) → start < n → n ≤ length ws → IsText g barred (take n ws) → ⊥
+  pub last : (n : ℕ) → start < n → n ≤ length ws → ¬ IsText g barred (take n ws)
   pub place : IsParenthesis g start at (drop start ws)
 
--- why `back` can't stand behind words that leave so many groups open
-abbrev pub FaultHere : {L : Type 0} → Grammar L → (L → Bool) → List (List ℕ) → ℕ → List (List ℕ) → GroupFault → Type 0
-FaultHere g barred front unclosed back (fault.Leaf at) = (at ≡ length front) × (IsUnknown g back ⊎ LacksGroup g back)
-FaultHere g barred front unclosed back (fault.NoSpace at) = (at ≡ length front) × IsGlued g back
-FaultHere g barred front unclosed back (fault.Close at) = (at ≡ length front) × (unclosed ≡ 0) × ClosesHere g back
-FaultHere g barred front unclosed back (fault.Barred at) = (at ≡ length front) × BarredBehind g barred front back
-FaultHere g barred front unclosed back fault.Depth = (unclosed ≡ 64) × GroupHere g back
-FaultHere g barred front unclosed back (fault.Open at) = (back ≡ []) × IsOutermost g barred front at
-FaultHere g barred front unclosed back fault.Memory = Unit {0}
+-- why `back` can't stand behind words in order that leave so many groups open; memory may always run out
+abbrev pub Stops : {L : Type 0} → Grammar L → (L → Bool) → WordList → ℕ → WordList → GroupFault → Type 0
+Stops g barred front unclosed back (fault.Leaf at) =
+    (at ≡ length front) × (FirstIs g back Unknown ⊎ LacksGroup g back)
+Stops g barred front unclosed back (fault.NoSpace at) = (at ≡ length front) × FirstIs g back Glued
+Stops g barred front unclosed back (fault.Close at) =
+    (at ≡ length front) × (unclosed ≡ 0) × FirstIs g back Closes
+Stops g barred front unclosed back (fault.Barred at) =
+    (at ≡ length front) × BeginsBarred g barred front back
+Stops g barred front unclosed back fault.Depth = (unclosed ≡ 64) × BeginsGroup g back
+Stops g barred front unclosed back (fault.Open at) = (back ≡ []) × IsOutermost g barred front at
+Stops g barred front unclosed back fault.Memory = Unit {0}
 
--- the first fault of the words, from the left: they are in order up to `back`, and why no further; memory may run out on any words
-pub record FirstWordFault {L : Type 0} (g : Grammar L) (barred : L → Bool) (ws : List (List ℕ)) (why : GroupFault) : Type 0 where
-  pub front : List (List ℕ)
-  pub back : List (List ℕ)
+-- the first fault of the words, from the left: they are in order up to `back`, and no further
+pub record FirstWordFault {L : Type 0} (g : Grammar L) (barred : L → Bool) (ws : WordList) (why : GroupFault) : Type 0 where
+  pub front : WordList
+  pub back : WordList
   pub whole : ws ≡ front ++ back
   pub unclosed : ℕ
   pub order : LeavesOpen g barred front unclosed
-  pub here : FaultHere g barred front unclosed back why
+  pub here : Stops g barred front unclosed back why
