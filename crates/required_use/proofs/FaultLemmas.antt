@@ -19,7 +19,8 @@ use Rattle.dep_group.specs.Trees.{Tree, Trees, trees_of, is_any_of}
 use Rattle.required_use.specs.declared.required.Item.{Item}
 use Rattle.required_use.specs.declared.fault.RequiredFault.{RequiredFault}
 use Rattle.required_use.specs.declared.fault.RequiredFault.TheVariants as faults
-use Rattle.required_use.specs.Faults.{FirstFault, HasFault, IsExpression, IsMemory, placed}
+use Rattle.required_use.specs.Faults.{FirstFault, HasFault, IsMemory, placed}
+use Rattle.required_use.specs.Texts.{IsExpression}
 use Rattle.required_use.specs.Grammar.{grammar, never, item_text, IsFlag}
 
 -- what does not begin with an exclamation mark
@@ -104,4 +105,4 @@ once text a b h k =
 
 -- and none an expression
 pub none : (text : List ℕ) (a : RequiredFault) → IsExpression text → ¬ HasFault text a
-none text a x h = let f = h.0 in not_memory text a h (no_word_fault grammar never (λ _ _ _ _ _. refl) (words_of text) f.of_words x f.first)
+none text a x h = let f = h.0 in not_memory text a h (no_word_fault grammar never (λ _ _ _ _ _. refl) (words_of text) f.of_words (x.0, x.1.0, x.1.1) f.first)
