@@ -1,8 +1,8 @@
 -- Words have one first fault at most, and a text in form has none.
-use Rattle.std.specs.Prelude.{map, nat_lt, if◌then◌else◌, ◌&&◌, ◌⊎◌, Option, Some, None, Result, Ok, Err}
-use Rattle.std.proofs.Common.{◌≡◌, ◌≢◌, ℕ, zero, suc, ◌+◌, ◌<◌, ◌≤◌, Bool, true, false, List, [], ◌∷◌, ◌++◌, length, take, drop, refl, ap, sym, ◌∙◌, subst, arith, inl, inr, append_assoc, append-nil}
+use Rattle.std.specs.Prelude.{map, nat_lt, if◌then◌else◌, ◌&&◌, Option, Some, None, Result, Ok, Err}
+use Rattle.std.proofs.Common.{◌≡◌, ◌≢◌, ℕ, zero, suc, ◌+◌, ◌<◌, ◌≤◌, Bool, true, false, List, [], ◌∷◌, ◌++◌, length, drop, refl, ap, sym, ◌∙◌, subst, arith, inl, inr, append_assoc, append-nil}
 use Rattle.std.proofs.Math.ListN.{drop_of_length-le}
-use Rattle.std.proofs.Math.Seq.{take-append-add, take-length}
+use Rattle.std.proofs.Math.Seq.{take-length}
 use Rattle.std.proofs.lemmas.Bool.{cases_lt}
 use Rattle.std.proofs.lemmas.Bool.Decides.{nat_tests}
 use Rattle.dep_group.proofs.MapLemmas.{read-map}
@@ -23,9 +23,6 @@ use Rattle.dep_group.specs.declared.token.GroupFault.TheVariants as fault
 use Rattle.dep_group.specs.declared.token.Opener.{Opener}
 use Rattle.dep_group.specs.declared.token.Token.{Token}
 use Rattle.dep_group.specs.declared.token.Token.TheVariants.{Leaf, Begins, Opens, Closes, Glued, Unknown}
-
-both : {A : Type 0} (r : Result A GroupFault) (e : GroupFault) (a : A) → r ≡ Err e → r ≡ Ok a → ⊥
-both r e a h k = cc
 
 -- the leaves of the grammar that have one text are barred alike
 abbrev pub OneMark : {L : Type 0} → Grammar L → (L → Bool) → Type 0

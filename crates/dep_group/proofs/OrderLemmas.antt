@@ -1,20 +1,18 @@
 -- Words that are in order, and how many groups they leave open.
-use Rattle.std.specs.Prelude.{nat_lt, if◌then◌else◌, ◌&&◌, Option, Some, None, Result, Ok, Err}
+use Rattle.std.specs.Prelude.{◌&&◌, Option, Some, None, Ok}
 use Rattle.std.specs.List.{list_all}
-use Rattle.std.proofs.Common.{◌≡◌, ℕ, zero, suc, ◌+◌, Bool, true, false, List, [], ◌∷◌, ◌++◌, length, refl, ap, sym, ◌∙◌, subst, arith, append_assoc}
+use Rattle.std.proofs.Common.{◌≡◌, ℕ, zero, suc, ◌+◌, Bool, true, List, [], ◌∷◌, ◌++◌, length, refl, ap, sym, ◌∙◌, subst, arith}
 use Rattle.std.proofs.lemmas.List.Folds.{list_all-append}
 use Rattle.dep_group.proofs.ReadingLemmas.{read-printed}
 use Rattle.dep_group.proofs.TokenLemmas.{read-in_form, in_form-read, only_tokens, tokens_same}
 use Rattle.dep_group.specs.Faults.{IsText, LeavesOpen, Begin, closings}
-use Rattle.dep_group.specs.Reading.{Opened, all_tokens, in_any_of, list_of, read}
-use Rattle.dep_group.specs.Tokens.{AreOnlyTokens, AreTokens, EachWord, Grammar, tree_words}
-use Rattle.dep_group.specs.Trees.{Tree, Trees, group, is_any_of, leaf, trees_of}
+use Rattle.dep_group.specs.Reading.{Opened, all_tokens, list_of, read}
+use Rattle.dep_group.specs.Tokens.{AreOnlyTokens, AreTokens, EachWord, Grammar}
+use Rattle.dep_group.specs.Trees.{Tree, group, is_any_of, trees_of}
 use Rattle.dep_group.specs.Words.{is_word}
-use Rattle.dep_group.specs.declared.token.GroupFault.{GroupFault}
-use Rattle.dep_group.specs.declared.token.GroupFault.TheVariants as fault
 use Rattle.dep_group.specs.declared.token.Opener.{Opener}
 use Rattle.dep_group.specs.declared.token.Token.{Token}
-use Rattle.dep_group.specs.declared.token.Token.TheVariants.{Leaf, Begins, Opens, Closes, Glued, Unknown}
+use Rattle.dep_group.specs.declared.token.Token.TheVariants.{Closes}
 
 -- so many tokens that close
 abbrev pub closes : {K L : Type 0} → ℕ → List (Token K L)

@@ -66,7 +66,11 @@ pub ok_unless : {A : Type 0} (b : Bool) (r : Result A GroupFault) (e : GroupFaul
 ok_unless true r e x h = absurd (cc)
 ok_unless false r e x h = (refl, h)
 
-of_ok : {A : Type 0} (r : Result A GroupFault) (a x : A) → r ≡ Ok a → r ≡ Ok x → a ≡ x
+-- a reading has one answer
+pub both : {A : Type 0} (r : Result A GroupFault) (e : GroupFault) (a : A) → r ≡ Err e → r ≡ Ok a → ⊥
+both r e a h k = cc
+
+pub of_ok : {A : Type 0} (r : Result A GroupFault) (a x : A) → r ≡ Ok a → r ≡ Ok x → a ≡ x
 of_ok r a x g h = cc
 
 printed : {K L : Type 0} (any_of : K → Bool) (barred : L → Bool) (ts : List (Token K L)) (at : ℕ) (begun : Option K) (os : List (Opened K L)) (done out : List (Tree K L)) → read any_of barred ts at begun os done ≡ Ok out → led_here os done (with_begun begun ts) ≡ all_tokens (trees_of out) []

@@ -10,6 +10,7 @@ use Rattle.std.proofs.lemmas.List.{drop-append-le, length-append, take-append-le
 use Rattle.std.proofs.lemmas.List.Folds.{list_all-append}
 use Rattle.dep_group.proofs.Bools.{and_left, and_right}
 use Rattle.dep_group.proofs.OrderLemmas.{EachWord-append, EachWord-length, Reached, begin-read, leaves_open, text-read}
+use Rattle.dep_group.proofs.ReadingLemmas.{both}
 use Rattle.dep_group.proofs.TokenLemmas.{token_same}
 use Rattle.dep_group.specs.Faults.{Begin, Stops, FirstWordFault, IsOutermost, IsParenthesis, IsText, FirstIs}
 use Rattle.dep_group.specs.Reading.{Opened, in_any_of, outermost, read}
@@ -34,9 +35,6 @@ pub record Stands {L : Type 0} (g : Grammar L) (barred : L → Bool) (front : Li
   pub room : length os ≤ 64
   pub reach : Reached barred ts os done
   pub outer : Outer g barred front os
-
-both : {A : Type 0} (r : Result A GroupFault) (e : GroupFault) (a : A) → r ≡ Err e → r ≡ Ok a → ⊥
-both r e a h k = cc
 
 err_of : {A : Type 0} (e f : GroupFault) → ◌≡◌ {A = Result A GroupFault} (Err e) (Err f) → f ≡ e
 err_of e f h = cc

@@ -1,5 +1,5 @@
 -- The first fault of words that are no text of groups: what stands before is in order, and no more is.
-use Rattle.std.specs.Prelude.{◌≡◌, ℕ, zero, suc, ◌+◌, ◌<◌, ◌≤◌, ◌⊎◌, Bool, true, List, [], ◌∷◌, ◌++◌, length, take, drop}
+use Rattle.std.specs.Prelude.{◌≡◌, ℕ, zero, suc, ◌+◌, ◌<◌, ◌≤◌, ◌⊎◌, ⊤, Bool, true, List, [], ◌∷◌, ◌++◌, length, take, drop}
 use Rattle.dep_group.specs.declared.token.Opener.{Opener}
 use Rattle.dep_group.specs.declared.token.Token.{Token}
 use Rattle.dep_group.specs.declared.token.Token.TheVariants.{Leaf, Begins, Opens, Closes, Glued, Unknown}
@@ -87,7 +87,7 @@ Stops g barred front unclosed back (fault.Barred at) =
     (at ≡ length front) × BeginsBarred g barred front back
 Stops g barred front unclosed back fault.Depth = (unclosed ≡ 64) × BeginsGroup g back
 Stops g barred front unclosed back (fault.Open at) = (back ≡ []) × IsOutermost g barred front at
-Stops g barred front unclosed back fault.Memory = Unit {0}
+Stops g barred front unclosed back fault.Memory = ⊤
 
 -- the first fault of the words, from the left: they are in order up to `back`, and no further
 pub record FirstWordFault {L : Type 0} (g : Grammar L) (barred : L → Bool) (ws : WordList) (why : GroupFault) : Type 0 where

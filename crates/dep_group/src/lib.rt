@@ -3,7 +3,8 @@
 //! their truth, their printed words, and the reading of such words.
 //!
 //! It promises that the printed words of a tree read as that tree, and that what reads as a tree are
-//! the tree's printed words. It stands on `basics`.
+//! the tree's printed words. It says which fault of words that are no trees comes first, in terms of
+//! words and trees alone (`specs/Faults.antt`). It stands on `basics`.
 #![tactic(auto)]
 
 mod law;

@@ -25,7 +25,8 @@ use Rattle.dep_tree.proofs.AtomWords.{blocks_alike}
 use Rattle.dep_tree.specs.declared.fault.TreeTextFault.{TreeTextFault}
 use Rattle.dep_tree.specs.declared.tree.DepOpener.{DepOpener}
 use Rattle.dep_tree.specs.declared.fault.TreeTextFault.TheVariants as faults
-use Rattle.dep_tree.specs.Faults.{AreDependencies, FirstFault, HasFault, IsMemory, placed}
+use Rattle.dep_tree.specs.Faults.{FirstFault, HasFault, IsMemory, placed}
+use Rattle.dep_tree.specs.Texts.{AreDependencies}
 use Rattle.dep_tree.specs.Grammar.{begins_any_of, blocks_as_atom, grammar, is_block}
 use Rattle.dep_tree.specs.View.{kind_of, token_view}
 
@@ -102,7 +103,7 @@ once text a b h k =
 
 -- and none dependencies
 pub none : (text : List ℕ) (a : TreeTextFault) → AreDependencies text → ¬ HasFault text a
-none text a x h = let f = h.0 in not_memory text a h (no_word_fault grammar is_block blocks_alike (words_of text) f.of_words x f.first)
+none text a x h = let f = h.0 in not_memory text a h (no_word_fault grammar is_block blocks_alike (words_of text) f.of_words (x.0, x.1.0, x.1.1) f.first)
 
 -- one more word with its token
 pub tokens-more : (ws : List Word) (i : ℕ) (w : Word) (ts : List (Token DepOpener Atom)) (t : Token DepOpener Atom) → i < length ws → AreOnlyTokens grammar (texts (map spot (take i ws))) (map token_view ts) → IsOnlyToken grammar (get_or ws i w).text.now (token_view t) → AreOnlyTokens grammar (texts (map spot (take (i + 1) ws))) (map token_view (ts ++ t ∷ []))

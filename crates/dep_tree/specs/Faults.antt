@@ -1,6 +1,6 @@
 -- The first fault of a text that is no dependency tree.
 use Rattle.std.specs.Prelude.{◌≡◌, ℕ, List}
-use Rattle.dep_group.specs.Faults.{FirstWordFault, IsText}
+use Rattle.dep_group.specs.Faults.{FirstWordFault}
 use Rattle.dep_group.specs.Words.{Spot, place, words, words_of}
 use Rattle.dep_group.specs.declared.token.GroupFault.{GroupFault}
 use Rattle.dep_group.specs.declared.token.GroupFault.TheVariants as groups
@@ -30,7 +30,3 @@ pub record FirstFault (text : List ℕ) (fault : TreeTextFault) : Type 0 where
 -- the text has this fault, which isn't want of memory
 abbrev pub HasFault : List ℕ → TreeTextFault → Type 0
 HasFault text fault = FirstFault text fault × ¬ IsMemory fault
-
--- the text's words are dependencies in form
-abbrev pub AreDependencies : List ℕ → Type 0
-AreDependencies text = IsText grammar is_block (words_of text)

@@ -1,5 +1,6 @@
 pub mod View
 pub mod Grammar
 pub mod Truth
+pub mod Texts
 pub mod Faults
 pub mod Printing

@@ -1,13 +1,11 @@
-ghost use Rattle.std.specs.Prelude.{◌≡◌, ℕ, true, IfErr, IfOk, List, MatchOption, MatchResult, map};
-ghost use Rattle.dep_atom.specs.Values.{AtomValue};
-ghost use Rattle.dep_group.specs.declared.token.Opener.{Opener};
-ghost use Rattle.dep_group.specs.Words.{texts, words_of};
+ghost use Rattle.std.specs.Prelude.{◌≡◌, true, IfErr, IfOk, MatchOption, MatchResult, map};
+ghost use Rattle.dep_group.specs.Words.{texts};
 ghost use Rattle.dep_group.specs.Views.{spot};
-ghost use Rattle.dep_group.specs.Tokens.{AreOnlyTokens, IsInForm, IsOnlyToken, tree_words};
-ghost use Rattle.dep_group.specs.Trees.{Trees};
+ghost use Rattle.dep_group.specs.Tokens.{AreOnlyTokens, IsOnlyToken};
 ghost use Rattle.dep_group.specs.Shapes.{shape};
-ghost use Rattle.dep_tree.specs.Grammar.{IsFlag, grammar, is_block};
+ghost use Rattle.dep_tree.specs.Grammar.{IsFlag, grammar};
 ghost use Rattle.dep_tree.specs.Faults.{FirstFault, IsMemory, placed};
+ghost use Rattle.dep_tree.specs.Texts.{Dependencies, Writes};
 ghost use Rattle.dep_tree.specs.View.{token_view, trees_view};
 
 use crate::fault::TreeTextFault;
@@ -19,9 +17,8 @@ use std::alloc::{AllocError, Global};
 
 /// The dependencies that the text is.
 pub fn read(alloc: Global, text: &str) -> Result<Vec<Node>, TreeTextFault>
-    ensures found { IfOk result (λ nodes. words_of text.now ≡ tree_words grammar (trees_view nodes.items)) }
-    ensures form { IfOk result (λ nodes. IsInForm grammar is_block (trees_view nodes.items)) }
-    ensures only { (x : Trees (Opener (List ℕ)) AtomValue) → IsInForm grammar is_block x → words_of text.now ≡ tree_words grammar x → MatchResult result (λ nodes. trees_view nodes.items ≡ x) IsMemory }
+    ensures found { IfOk result (λ nodes. Writes text.now (trees_view nodes.items)) }
+    ensures only { (x : Dependencies) → Writes text.now x → MatchResult result (λ nodes. trees_view nodes.items ≡ x) IsMemory }
     ensures fault { IfErr result (FirstFault text.now) }
 {
     let words = match words(alloc, text) {

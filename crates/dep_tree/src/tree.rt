@@ -1,11 +1,10 @@
 ghost use Rattle.std.specs.Prelude.{◌≡◌, ◌++◌, ◌↔◌, IfErr, IfOk, List, MatchResult, OnOk, map, nat_lt, string_bytes, ℕ};
-ghost use Rattle.dep_atom.specs.Values.{AtomValue, atom_value};
-ghost use Rattle.dep_group.specs.declared.token.Opener.{Opener};
-ghost use Rattle.dep_group.specs.Trees.{Trees, all_hold, all_leaves, group, holds, is_member, is_met, leaves, true_members, trees_of};
-ghost use Rattle.dep_group.specs.Tokens.{IsInForm, tree_words};
-ghost use Rattle.dep_group.specs.Words.{spaced, words_of};
+ghost use Rattle.dep_atom.specs.Values.{atom_value};
+ghost use Rattle.dep_group.specs.Trees.{all_hold, all_leaves, group, holds, is_member, is_met, leaves, true_members, trees_of};
+ghost use Rattle.dep_group.specs.Tokens.{IsInForm};
 ghost use Rattle.pms_names.specs.Flags.{has};
-ghost use Rattle.dep_tree.specs.Faults.{AreDependencies, FirstFault, HasFault, IsMemory};
+ghost use Rattle.dep_tree.specs.Faults.{FirstFault, HasFault, IsMemory};
+ghost use Rattle.dep_tree.specs.Texts.{AreDependencies, Dependencies, Writes, text_of};
 ghost use Rattle.dep_tree.specs.Grammar.{AreAtomsInGroups, grammar, is_block};
 ghost use Rattle.dep_tree.specs.Truth.{is_fact, kind};
 ghost use Rattle.dep_tree.specs.View.{atoms_view, trees, trees_view, view};
@@ -50,9 +49,8 @@ impl DepTree {
     /// Reads the whole text. Its first fault from the left is given; a group that is never closed is
     /// a fault at the end.
     pub fn parse(alloc: Global, text: &str) -> Result<DepTree, TreeTextFault>
-        ensures found { IfOk result (λ t. words_of text.now ≡ tree_words grammar (trees t)) }
-        ensures form { IfOk result (λ t. IsInForm grammar is_block (trees t)) }
-        ensures only { (x : Trees (Opener (List ℕ)) AtomValue) → IsInForm grammar is_block x → words_of text.now ≡ tree_words grammar x → MatchResult result (λ t. trees t ≡ x) IsMemory }
+        ensures found { IfOk result (λ t. Writes text.now (trees t)) }
+        ensures only { (x : Dependencies) → Writes text.now x → MatchResult result (λ t. trees t ≡ x) IsMemory }
         ensures fault { IfErr result (FirstFault text.now) }
     {
         match parse::read(alloc, text) {
@@ -63,7 +61,7 @@ impl DepTree {
 
     /// The text, with one space between each two words.
     pub fn print(&self, alloc: Global) -> Result<String, AllocError>
-        ensures { IfOk result (λ text. string_bytes text ≡ spaced (tree_words grammar (trees self.now))) }
+        ensures { IfOk result (λ text. string_bytes text ≡ text_of (trees self.now)) }
     {
         print::print(alloc, &self.nodes)
     }
@@ -92,16 +90,16 @@ impl DepTree {
     }
 }
 
-/// The text of a tree in form reads as its words: with the clauses of `parse` and `print`, what is
-/// printed is read back.
+/// The text of a tree in form writes it: with the clauses of `parse` and `print`, what is printed is
+/// read back.
 pub fn printed_text_has_the_words()
-    ensures { (x : Trees (Opener (List ℕ)) AtomValue) → IsInForm grammar is_block x → words_of (spaced (tree_words grammar x)) ≡ tree_words grammar x }
+    ensures { (x : Dependencies) → IsInForm grammar is_block x → Writes (text_of x) x }
 {}
 
 /// Trees in form are atoms in groups, at most 64 in one another, with no block in an any-of group: each
 /// such tree has a text, which is read as it.
 pub fn trees_in_form_are_atoms_in_groups()
-    ensures { (x : Trees (Opener (List ℕ)) AtomValue) → IsInForm grammar is_block x ↔ AreAtomsInGroups x }
+    ensures { (x : Dependencies) → IsInForm grammar is_block x ↔ AreAtomsInGroups x }
 {}
 
 /// A law: but for want of memory a text has one fault at most, and dependencies have none.

@@ -12,14 +12,15 @@ use Rattle.dep_group.specs.Reading.{read, list_of}
 use Rattle.dep_group.specs.Tokens.{AreTokens, IsInForm, tree_words}
 use Rattle.dep_group.proofs.WordLemmas.{words-are_words}
 use Rattle.dep_group.proofs.OnceLemmas.{no_word_fault, one_word_fault}
-use Rattle.dep_group.proofs.ReadingLemmas.{trees_of-list_of}
+use Rattle.dep_group.proofs.ReadingLemmas.{both, of_ok, trees_of-list_of}
 use Rattle.dep_group.proofs.StopLemmas.{first_word_fault, memory_word_fault}
 use Rattle.dep_group.proofs.TokenLemmas.{OneSpelling, all_only, read-in_form, in_form-read}
 use Rattle.dep_group.specs.Trees.{Tree, Trees, trees_of, is_any_of}
 use Rattle.required_use.specs.declared.required.Item.{Item}
 use Rattle.required_use.specs.declared.fault.RequiredFault.{RequiredFault}
 use Rattle.required_use.specs.declared.fault.RequiredFault.TheVariants as faults
-use Rattle.required_use.specs.Faults.{FirstFault, HasFault, IsExpression, IsMemory, placed}
+use Rattle.required_use.specs.Faults.{FirstFault, HasFault, IsMemory, placed}
+use Rattle.required_use.specs.Texts.{IsExpression}
 use Rattle.required_use.specs.Grammar.{grammar, never, item_text, IsFlag}
 
 -- what does not begin with an exclamation mark
@@ -58,15 +59,9 @@ read_only text ws ts x e h form same =
     let P : List Spot → Type 0 = λ us. AreTokens grammar (texts us) ts in
     in_form-read grammar never (words_of text) ts x (all_only grammar one_spelling (words_of text) ts (subst P e h)) form same
 
-oks_same : {A : Type 0} (r : Result A GroupFault) (a b : A) → r ≡ Ok a → r ≡ Ok b → a ≡ b
-oks_same r a b h k = cc
-
 -- what is read where trees in form are written are these trees
 pub only_trees : (r : Result (List (Tree (Opener (List ℕ)) Item)) GroupFault) (out : List (Tree (Opener (List ℕ)) Item)) (x : Trees (Opener (List ℕ)) Item) → r ≡ Ok out → r ≡ Ok (list_of x) → trees_of out ≡ x
-only_trees r out x h k = ap trees_of (oks_same r out (list_of x) h k) ∙ trees_of-list_of x
-
-both : {A : Type 0} (r : Result A GroupFault) (e : GroupFault) (a : A) → r ≡ Err e → r ≡ Ok a → ⊥
-both r e a h k = cc
+only_trees r out x h k = ap trees_of (of_ok r out (list_of x) h k) ∙ trees_of-list_of x
 
 -- where trees in form are written only memory can be wanting
 pub only_memory : (r : Result (List (Tree (Opener (List ℕ)) Item)) GroupFault) (ws : List Spot) (e : GroupFault) (out : List (Tree (Opener (List ℕ)) Item)) → (e ≢ groups.Memory → r ≡ Err e) → r ≡ Ok out → IsMemory (placed ws e)
@@ -104,4 +99,4 @@ once text a b h k =
 
 -- and none an expression
 pub none : (text : List ℕ) (a : RequiredFault) → IsExpression text → ¬ HasFault text a
-none text a x h = let f = h.0 in not_memory text a h (no_word_fault grammar never (λ _ _ _ _ _. refl) (words_of text) f.of_words x f.first)
+none text a x h = let f = h.0 in not_memory text a h (no_word_fault grammar never (λ _ _ _ _ _. refl) (words_of text) f.of_words (x.0, x.1.0, x.1.1) f.first)

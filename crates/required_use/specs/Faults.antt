@@ -1,6 +1,6 @@
 -- The first fault of a text that is no REQUIRED_USE.
 use Rattle.std.specs.Prelude.{◌≡◌, ℕ, Bool, true, false, List, ◌∷◌}
-use Rattle.dep_group.specs.Faults.{FirstWordFault, IsText}
+use Rattle.dep_group.specs.Faults.{FirstWordFault}
 use Rattle.dep_group.specs.Shapes.{denies, exclamation_mark}
 use Rattle.dep_group.specs.Words.{Spot, place, words, words_of}
 use Rattle.dep_group.specs.declared.token.GroupFault.{GroupFault}
@@ -31,10 +31,6 @@ pub record FirstFault (text : List ℕ) (fault : RequiredFault) : Type 0 where
 -- the text has this fault, which isn't want of memory
 abbrev pub HasFault : List ℕ → RequiredFault → Type 0
 HasFault text fault = FirstFault text fault × ¬ IsMemory fault
-
--- the text's words are expressions in form
-abbrev pub IsExpression : List ℕ → Type 0
-IsExpression text = IsText grammar never (words_of text)
 
 -- the bytes without the exclamation mark at their beginning, if one is there
 abbrev pub IsDenial : List ℕ → Bool → List ℕ → Type 0

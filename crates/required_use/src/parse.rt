@@ -1,13 +1,12 @@
-ghost use Rattle.std.specs.Prelude.{◌≡◌, ℕ, false, IfErr, IfOk, List, MatchOption, MatchResult, map};
-ghost use Rattle.dep_group.specs.declared.token.Opener.{Opener};
-ghost use Rattle.dep_group.specs.Words.{texts, words, words_of};
+ghost use Rattle.std.specs.Prelude.{◌≡◌, false, IfErr, IfOk, MatchOption, MatchResult, map};
+ghost use Rattle.dep_group.specs.Words.{texts, words};
 ghost use Rattle.dep_group.specs.Views.{spot};
-ghost use Rattle.dep_group.specs.Tokens.{AreTokens, IsInForm, IsToken, tree_words};
-ghost use Rattle.dep_group.specs.Trees.{Trees};
+ghost use Rattle.dep_group.specs.Tokens.{AreTokens, IsToken};
 ghost use Rattle.required_use.specs.declared.required.Item.{Item};
 ghost use Rattle.dep_group.specs.Shapes.{shape};
-ghost use Rattle.required_use.specs.Grammar.{IsFlag, grammar, never};
+ghost use Rattle.required_use.specs.Grammar.{IsFlag, grammar};
 ghost use Rattle.required_use.specs.Faults.{FirstFault, IsDenial, IsMemory, placed};
+ghost use Rattle.required_use.specs.Texts.{Expressions, Writes};
 ghost use Rattle.required_use.specs.View.{trees_view};
 
 use crate::fault::RequiredFault;
@@ -20,9 +19,8 @@ use std::alloc::{AllocError, Global};
 
 /// The expressions that the text is.
 pub fn read(alloc: Global, text: &str) -> Result<Vec<Required>, RequiredFault>
-    ensures found { IfOk result (λ nodes. words_of text.now ≡ tree_words grammar (trees_view nodes.items)) }
-    ensures form { IfOk result (λ nodes. IsInForm grammar never (trees_view nodes.items)) }
-    ensures only { (x : Trees (Opener (List ℕ)) Item) → IsInForm grammar never x → words_of text.now ≡ tree_words grammar x → MatchResult result (λ nodes. trees_view nodes.items ≡ x) IsMemory }
+    ensures found { IfOk result (λ nodes. Writes text.now (trees_view nodes.items)) }
+    ensures only { (x : Expressions) → Writes text.now x → MatchResult result (λ nodes. trees_view nodes.items ≡ x) IsMemory }
     ensures fault { IfErr result (FirstFault text.now) }
 {
     let words = match words(alloc, text) {

@@ -4,11 +4,11 @@ ghost use Rattle.dep_group.specs.declared.token.Token.{Token};
 ghost use Rattle.dep_group.specs.declared.token.Token.TheVariants.{Closes, Opens};
 ghost use Rattle.dep_group.specs.Reading.{all_tokens, tokens};
 ghost use Rattle.dep_group.specs.Shapes.{condition};
-ghost use Rattle.dep_group.specs.Tokens.{tree_words};
-ghost use Rattle.dep_group.specs.Words.{and_space, spaced};
+ghost use Rattle.dep_group.specs.Words.{and_space};
 ghost use Rattle.required_use.specs.declared.required.Item.{Item};
-ghost use Rattle.required_use.specs.Grammar.{grammar, item_text};
+ghost use Rattle.required_use.specs.Grammar.{item_text};
 ghost use Rattle.required_use.specs.Printing.{written};
+ghost use Rattle.required_use.specs.Texts.{text_of};
 ghost use Rattle.required_use.specs.View.{trees_view, view};
 
 use crate::required::Required;
@@ -18,7 +18,7 @@ use std::alloc::{AllocError, Global};
 
 /// The text of the expressions, with one space between each two words.
 pub fn print(alloc: Global, nodes: &[Required]) -> Result<String, AllocError>
-    ensures { IfOk result (λ text. string_bytes text ≡ spaced (tree_words grammar (trees_view nodes.now))) }
+    ensures { IfOk result (λ text. string_bytes text ≡ text_of (trees_view nodes.now)) }
 {
     let mut out = String::new(alloc);
     push_all(nodes, &mut out)?;

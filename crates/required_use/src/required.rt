@@ -1,12 +1,10 @@
 ghost use Rattle.std.specs.Prelude.{◌≡◌, ◌+◌, ◌≤◌, ◌↔◌, Bool, IfErr, IfOk, IsNone, IsTrue, List, MatchResult, map, not, string_bytes, ℕ};
 ghost use Rattle.std.specs.List.{position};
-ghost use Rattle.dep_group.specs.declared.token.Opener.{Opener};
 ghost use Rattle.dep_group.specs.Trees.{Trees, all_hold, group, holds, is_member, is_met, true_members, trees_of};
 ghost use Rattle.pms_names.specs.Flags.{has};
-ghost use Rattle.dep_group.specs.Tokens.{IsInForm, tree_words};
-ghost use Rattle.dep_group.specs.Words.{spaced, words_of};
-ghost use Rattle.required_use.specs.declared.required.Item.{Item};
-ghost use Rattle.required_use.specs.Faults.{FirstFault, HasFault, IsExpression, IsMemory};
+ghost use Rattle.dep_group.specs.Tokens.{IsInForm};
+ghost use Rattle.required_use.specs.Faults.{FirstFault, HasFault, IsMemory};
+ghost use Rattle.required_use.specs.Texts.{Expressions, IsExpression, Writes, text_of};
 ghost use Rattle.required_use.specs.Grammar.{grammar, is_on, kind, never};
 ghost use Rattle.required_use.specs.View.{trees, trees_view, view};
 ghost use Rattle.required_use.specs.declared.fault.RequiredFault.{RequiredFault};
@@ -52,9 +50,8 @@ impl RequiredUse {
     /// Reads the whole text. Its first fault from the left is given; a group that is never closed is
     /// a fault at the end.
     pub fn parse(alloc: Global, text: &str) -> Result<RequiredUse, RequiredFault>
-        ensures found { IfOk result (λ r. words_of text.now ≡ tree_words grammar (trees r)) }
-        ensures form { IfOk result (λ r. IsInForm grammar never (trees r)) }
-        ensures only { (x : Trees (Opener (List ℕ)) Item) → IsInForm grammar never x → words_of text.now ≡ tree_words grammar x → MatchResult result (λ r. trees r ≡ x) IsMemory }
+        ensures found { IfOk result (λ r. Writes text.now (trees r)) }
+        ensures only { (x : Expressions) → Writes text.now x → MatchResult result (λ r. trees r ≡ x) IsMemory }
         ensures fault { IfErr result (FirstFault text.now) }
     {
         match parse::read(alloc, text) {
@@ -65,7 +62,7 @@ impl RequiredUse {
 
     /// The text, with one space between each two words.
     pub fn print(&self, alloc: Global) -> Result<String, AllocError>
-        ensures { IfOk result (λ text. string_bytes text ≡ spaced (tree_words grammar (trees self.now))) }
+        ensures { IfOk result (λ text. string_bytes text ≡ text_of (trees self.now)) }
     {
         print::print(alloc, &self.nodes)
     }
@@ -92,10 +89,10 @@ fn first_false(nodes: &[Required], enabled: &Flags) -> Option<usize>
     nodes.iter().position(|node| !node.holds(enabled))
 }
 
-/// The text of an expression in form reads as its words: with the clauses of `parse` and `print`, what
-/// is printed is read back.
+/// The text of expressions in form writes these: with the clauses of `parse` and `print`, what is
+/// printed is read back.
 pub fn printed_text_has_the_words()
-    ensures { (x : Trees (Opener (List ℕ)) Item) → IsInForm grammar never x → words_of (spaced (tree_words grammar x)) ≡ tree_words grammar x }
+    ensures { (x : Expressions) → IsInForm grammar never x → Writes (text_of x) x }
 {}
 
 /// A law: but for want of memory a text has one fault at most, and an expression has none.

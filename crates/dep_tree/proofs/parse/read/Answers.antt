@@ -11,24 +11,18 @@ pub returns-in-Ok-read_nodes-clause-found : goal.returns-in-Ok-read_nodes-clause
 returns-in-Ok-read_nodes-clause-found c =
     let ws : map spot c.deref.result.now ≡ words 0 c.args.text.now = ap (map spot) c.deref.ensures.value ∙ c.in-Ok.ensures in
     let found = read_found c.args.text.now (map spot c.deref.result.now) c.in-Ok-tokens.tokens.items (map atoms_view c.in-Ok-read_nodes.nodes.items) ws c.in-Ok-tokens.ensures c.in-Ok-read_nodes.ensures.ok in
-    found.0
-
-pub returns-in-Ok-read_nodes-clause-form : goal.returns-in-Ok-read_nodes-clause-form
-returns-in-Ok-read_nodes-clause-form c =
-    let ws : map spot c.deref.result.now ≡ words 0 c.args.text.now = ap (map spot) c.deref.ensures.value ∙ c.in-Ok.ensures in
-    let found = read_found c.args.text.now (map spot c.deref.result.now) c.in-Ok-tokens.tokens.items (map atoms_view c.in-Ok-read_nodes.nodes.items) ws c.in-Ok-tokens.ensures c.in-Ok-read_nodes.ensures.ok in
-    found.1
+    (found.1, found.0)
 
 pub returns-in-Ok-read_nodes-clause-only : goal.returns-in-Ok-read_nodes-clause-only
-returns-in-Ok-read_nodes-clause-only c = λ x form same.
+returns-in-Ok-read_nodes-clause-only c = λ x writes.
     let ws : map spot c.deref.result.now ≡ words 0 c.args.text.now = ap (map spot) c.deref.ensures.value ∙ c.in-Ok.ensures in
-    only_trees c.args.text.now (map spot c.deref.result.now) c.in-Ok-tokens.tokens.items (map atoms_view c.in-Ok-read_nodes.nodes.items) x ws c.in-Ok-tokens.ensures c.in-Ok-read_nodes.ensures.ok form same
+    only_trees c.args.text.now (map spot c.deref.result.now) c.in-Ok-tokens.tokens.items (map atoms_view c.in-Ok-read_nodes.nodes.items) x ws c.in-Ok-tokens.ensures c.in-Ok-read_nodes.ensures.ok writes.0 writes.1
 
 pub returns-clause-only : goal.returns-clause-only
-returns-clause-only c = λ x form same.
+returns-clause-only c = λ x writes.
     let ws : map spot c.deref.result.now ≡ words 0 c.args.text.now = ap (map spot) c.deref.ensures.value ∙ c.in-Ok.ensures in
     subst IsMemory (sym c.placed.ensures)
-    (only_wants_memory c.args.text.now (map spot c.deref.result.now) (map spot c.deref-in-Err-read_nodes.result.now) c.in-Ok-tokens.tokens.items c.in-Err-read_nodes.fault x ws c.in-Ok-tokens.ensures c.in-Err-read_nodes.ensures.err form same)
+    (only_wants_memory c.args.text.now (map spot c.deref.result.now) (map spot c.deref-in-Err-read_nodes.result.now) c.in-Ok-tokens.tokens.items c.in-Err-read_nodes.fault x ws c.in-Ok-tokens.ensures c.in-Err-read_nodes.ensures.err writes.0 writes.1)
 
 pub returns-clause-fault : goal.returns-clause-fault
 returns-clause-fault c =

@@ -11,26 +11,20 @@ pub returns-in-Ok-read_nodes-clause-found : goal.returns-in-Ok-read_nodes-clause
 returns-in-Ok-read_nodes-clause-found c =
     let ws : map spot c.deref.result.now ≡ words 0 c.args.text.now = ap (map spot) c.deref.ensures.value ∙ c.in-Ok.ensures in
     let found = read_found c.args.text.now (map spot c.deref.result.now) c.in-Ok-tokens.tokens.items (map view c.in-Ok-read_nodes.nodes.items) ws c.in-Ok-tokens.ensures c.in-Ok-read_nodes.ensures.ok in
-    found.0
-
-pub returns-in-Ok-read_nodes-clause-form : goal.returns-in-Ok-read_nodes-clause-form
-returns-in-Ok-read_nodes-clause-form c =
-    let ws : map spot c.deref.result.now ≡ words 0 c.args.text.now = ap (map spot) c.deref.ensures.value ∙ c.in-Ok.ensures in
-    let found = read_found c.args.text.now (map spot c.deref.result.now) c.in-Ok-tokens.tokens.items (map view c.in-Ok-read_nodes.nodes.items) ws c.in-Ok-tokens.ensures c.in-Ok-read_nodes.ensures.ok in
-    found.1
+    (found.1, found.0)
 
 pub returns-in-Ok-read_nodes-clause-only : goal.returns-in-Ok-read_nodes-clause-only
-returns-in-Ok-read_nodes-clause-only c = λ x form same.
+returns-in-Ok-read_nodes-clause-only c = λ x writes.
     let ws : map spot c.deref.result.now ≡ words 0 c.args.text.now = ap (map spot) c.deref.ensures.value ∙ c.in-Ok.ensures in
     only_trees _ (map view c.in-Ok-read_nodes.nodes.items) x c.in-Ok-read_nodes.ensures.ok
-    (read_only c.args.text.now (map spot c.deref.result.now) c.in-Ok-tokens.tokens.items x ws c.in-Ok-tokens.ensures form same)
+    (read_only c.args.text.now (map spot c.deref.result.now) c.in-Ok-tokens.tokens.items x ws c.in-Ok-tokens.ensures writes.0 writes.1)
 
 pub returns-clause-only : goal.returns-clause-only
-returns-clause-only c = λ x form same.
+returns-clause-only c = λ x writes.
     let ws : map spot c.deref.result.now ≡ words 0 c.args.text.now = ap (map spot) c.deref.ensures.value ∙ c.in-Ok.ensures in
     subst IsMemory (sym c.placed.ensures)
     (only_memory _ (map spot c.deref-in-Err-read_nodes.result.now) c.in-Err-read_nodes.fault _ c.in-Err-read_nodes.ensures.err
-    (read_only c.args.text.now (map spot c.deref.result.now) c.in-Ok-tokens.tokens.items x ws c.in-Ok-tokens.ensures form same))
+    (read_only c.args.text.now (map spot c.deref.result.now) c.in-Ok-tokens.tokens.items x ws c.in-Ok-tokens.ensures writes.0 writes.1))
 
 pub returns-in-Err-clause-fault : goal.returns-in-Err-clause-fault
 returns-in-Err-clause-fault c = memory_fault c.args.text.now

@@ -4,4 +4,4 @@ use Rattle.required_use.specs.Grammar.{grammar}
 use Rattle.required_use.proofs.required.printed_text_has_the_words.Goals as goal
 
 pub returns : goal.returns
-returns c = λ x form. words_of-spaced (tree_words grammar x) form.words
+returns c = λ x form. (form, words_of-spaced (tree_words grammar x) form.words)
