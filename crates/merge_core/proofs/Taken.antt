@@ -29,4 +29,5 @@ pub only_memory : (k : Keeping) (g : ℕ) (s : Step) (f : Refusal) → IsRefused
 only_memory k g s refusals.OutOfRange h comes a = absurd (h comes)
 only_memory k g s (refusals.WrongPhase has asked) h comes a = absurd (h.3 (subst (IsPhaseFor s) h.1 (admitted k g s a).0))
 only_memory k g s (refusals.NotDue left) h comes a = absurd (h.2 (admitted k g s a).1)
+only_memory k g s refusals.Limit h comes a = absurd h
 only_memory k g s refusals.Memory h comes a = refl

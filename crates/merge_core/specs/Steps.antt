@@ -141,4 +141,5 @@ IsRefused k g s (refusals.NotDue left) = CanCome k g s
     × IsPhaseFor s (standing_in k.standings g).phase
     × (IsDueFor s (standing_in k.standings g) → ⊥)
     × (left ≡ left_for s (standing_in k.standings g))
+IsRefused k g s refusals.Limit = ⊥
 IsRefused k g s refusals.Memory = IsTaken k g s

@@ -26,10 +26,10 @@ pub(crate) struct Settled {
 /// groups came into the tree.
 #[derive(Drop)]
 pub struct Core {
-    standings: Vec<Standing>,
-    order: Vec<Settled>,
-    syncs: u64,
-    stopped: bool,
+    pub(crate) standings: Vec<Standing>,
+    pub(crate) order: Vec<Settled>,
+    pub(crate) syncs: u64,
+    pub(crate) stopped: bool,
 }
 
 impl Model for Core {

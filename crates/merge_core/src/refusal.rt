@@ -11,6 +11,8 @@ pub enum Refusal {
     WrongPhase { has: Phase, wanted: Phase },
     #[error("{left} paths are left")]
     NotDue { left: usize },
+    #[error("too many paths, or too many bytes of them")]
+    Limit,
     #[error("out of memory")]
     Memory,
 }

@@ -1,12 +1,15 @@
 ghost use Rattle.std.specs.Prelude.{◌≡◌};
 ghost use Rattle.merge_core.specs.Roll.{resting};
 
+use crate::limits::MOST_STAGES;
 use crate::phase::Phase;
+use crate::refusal::Refusal;
 use crate::step::Step;
 use file_tree::{Kind, Object, Path};
-use merge_record::Placement;
-use std::alloc::Global;
+use merge_record::{Placement, Record, RecordFault, encode};
+use std::alloc::{AllocError, Global};
 use std::marker::Model;
+use std::mem;
 use std::snapshot::Snapshot;
 
 /// What the machine keeps of one group. Of the objects it keeps no byte.
@@ -64,7 +67,10 @@ impl Standing {
 }
 
 impl Standing {
-    ghost use Rattle.std.specs.Prelude.{◌≡◌, false, IsTrue};
+    ghost use Rattle.std.specs.Prelude.{◌≡◌, ◌⊎◌, ◌<◌, ◌^◌, false, length, IfErr, IfOk, IsErrOf};
+    ghost use Rattle.std.specs.Prelude.{IsTrue, OnErr, OnOk};
+    ghost use Rattle.merge_record.specs.Spelling.{Fits, PassesLimit, spelling};
+    ghost use Rattle.merge_core.specs.Payloads.{IsFull, with_claim, with_record, with_stage};
     ghost use Rattle.merge_core.specs.Roll.{resting};
     ghost use Rattle.merge_core.specs.Phases.{phase_of};
     ghost use Rattle.merge_core.specs.Steps.{IsDueFor, finished, left_for, moved, started};
@@ -156,6 +162,131 @@ impl Standing {
             self.finish(alloc, step, syncs);
         } else {
             self.start(step, syncs);
+        }
+    }
+
+    /// The object was handed to the group's next stage.
+    pub(crate) fn stage(
+        &mut self,
+        placement: Placement,
+        object: &Object,
+        ok: bool,
+        syncs: u64,
+    ) -> Result<(), AllocError>
+        ensures ok { OnOk result (self.new ≡ with_stage ok syncs placement object.now self.old) }
+        ensures kept { OnErr result (self.new ≡ self.old) }
+    {
+        if !ok {
+            self.stamp = syncs;
+            return Ok(());
+        }
+        self.objects.reserve(1)?;
+        self.placements.push(placement)?;
+        if self.objects.push(Snapshot::of(object)).is_err() {
+            unreachable!();
+        }
+        self.stamp = syncs;
+        Ok(())
+    }
+
+    /// The bytes of the record that these removals and the stages make.
+    fn spell(
+        &mut self,
+        alloc: Global,
+        group: u32,
+        removals: Vec<Path>,
+    ) -> Result<(Vec<Path>, Vec<u8>), RecordFault>
+        ensures kept { self.new ≡ self.old }
+        ensures ok { IfOk result (λ r. (r.0.items ≡ removals.items) ×
+            Fits (record {
+              group = group;
+              removals = removals.items;
+              placements = self.old.placements;
+            }) × (r.1.items ≡
+            spelling (record {
+              group = group;
+              removals = removals.items;
+              placements = self.old.placements;
+            }))) }
+        ensures limit { IsErrOf result RecordFault.Limit →
+            PassesLimit (record {
+              group = group;
+              removals = removals.items;
+              placements = self.old.placements;
+            }) }
+        ensures only { IfErr result (λ e. (e ≡ RecordFault.Limit) ⊎ (e ≡ RecordFault.Memory)) }
+    {
+        let placements = mem::replace(&mut self.placements, Vec::new(alloc));
+        let record = Record {
+            group,
+            removals,
+            placements,
+        };
+        let encoded = encode(alloc, &record);
+        let Record {
+            group: _,
+            removals,
+            placements,
+        } = record;
+        self.placements = placements;
+        match encoded {
+            Ok(bytes) => Ok((removals, bytes)),
+            Err(fault) => Err(fault),
+        }
+    }
+
+    /// The record that these removals and the stages make was put.
+    pub(crate) fn put_record(
+        &mut self,
+        alloc: Global,
+        group: u32,
+        removals: Vec<Path>,
+        ok: bool,
+        syncs: u64,
+    ) -> Result<(), Refusal>
+        ensures ok { OnOk result (self.new ≡
+            with_record ok syncs group removals.items self.old) }
+        ensures fits { OnOk result (Fits (record {
+          group = group;
+          removals = removals.items;
+          placements = self.old.placements;
+        })) }
+        ensures limit { IsErrOf result Refusal.Limit →
+            PassesLimit (record {
+              group = group;
+              removals = removals.items;
+              placements = self.old.placements;
+            }) }
+        ensures only { IfErr result (λ e. (e ≡ Refusal.Limit) ⊎ (e ≡ Refusal.Memory)) }
+        ensures kept { OnErr result (self.new ≡ self.old) }
+    {
+        let (removals, bytes) = match self.spell(alloc, group, removals) {
+            Ok(spelled) => spelled,
+            Err(RecordFault::Limit) => return Err(Refusal::Limit),
+            Err(_) => return Err(Refusal::Memory),
+        };
+        self.stamp = syncs;
+        if ok {
+            let kind = Kind::Plain;
+            self.phase = Phase::Recorded;
+            self.removals = removals;
+            self.body = Snapshot::of(&Object { kind, bytes });
+        }
+        Ok(())
+    }
+
+    pub(crate) fn is_full(&self) -> bool
+        ensures full { IsTrue result → IsFull self.now }
+        ensures not { result ≡ false → length self.now.objects < 2 ^ 32 }
+    {
+        self.objects.len() >= MOST_STAGES
+    }
+
+    pub(crate) fn claim(&mut self, ok: bool)
+        ensures { self.new ≡ with_claim ok self.old }
+    {
+        if ok {
+            self.phase = Phase::Claimed;
         }
     }
 }

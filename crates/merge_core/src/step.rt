@@ -78,7 +78,7 @@ fn may_end(phase: Phase) -> bool
 }
 
 #[tactic(auto, using(crate::proofs::Coded::phases_same))]
-fn is_same(one: Phase, other: Phase) -> bool
+pub(crate) fn is_same(one: Phase, other: Phase) -> bool
     ensures same { IsTrue result → phase_of one ≡ phase_of other }
     ensures not { result ≡ false → phase_of one ≡ phase_of other → ⊥ }
 {
