@@ -1,7 +1,8 @@
-ghost use Rattle.std.specs.Prelude.{◌≡◌, ◌∷◌, ◌++◌, ℕ, List, IfOk, MatchOption, string_bytes};
+ghost use Rattle.std.specs.Prelude.{◌≡◌, ◌∷◌, ◌++◌, IfOk, MatchOption, string_bytes};
 ghost use Rattle.pms_names.specs.Names.{IsName};
 ghost use Rattle.pms_names.specs.declared.kind.Kind.TheVariants.{Slot};
-ghost use Rattle.slot_value.specs.Slots.{IsSlotValue, LacksSlash, IsFirstSlash, slot_text};
+ghost use Rattle.slot_value.specs.Reading.{IsSlotName, ReadsSlots};
+ghost use Rattle.slot_value.specs.Slots.{LacksSlash, IsFirstSlash, slot_text};
 
 use pms_names::{NameFault, SlotName};
 use std::alloc::{AllocError, Global};
@@ -16,7 +17,7 @@ pub struct SlotValue {
 impl SlotValue {
     /// What the whole text says, if it is a value of SLOT: `slot` or `slot/subslot`.
     pub fn read(alloc: Global, text: &[u8]) -> Result<Option<SlotValue>, AllocError>
-        ensures { IfOk result (λ r. MatchOption r ((slot subslot : List ℕ) → IsSlotValue text.now slot subslot → ⊥) (λ v. IsSlotValue text.now v.slot v.subslot)) }
+        ensures { ReadsSlots text.now result }
     {
         match first_slash(text) {
             None => read_alone(alloc, text),
@@ -47,7 +48,7 @@ fn first_slash(text: &[u8]) -> Option<usize>
 // The value that a text without a slash says.
 fn read_alone(alloc: Global, slot: &[u8]) -> Result<Option<SlotValue>, AllocError>
     requires { LacksSlash slot.now }
-    ensures { IfOk result (λ r. MatchOption r ((a b : List ℕ) → IsSlotValue slot.now a b → ⊥) (λ v. IsSlotValue slot.now v.slot v.subslot)) }
+    ensures { ReadsSlots slot.now result }
 {
     let Some(slot) = read_name(alloc, slot)? else {
         return Ok(None);
@@ -59,7 +60,7 @@ fn read_alone(alloc: Global, slot: &[u8]) -> Result<Option<SlotValue>, AllocErro
 // The value that these say with a slash between them, which is the first one.
 fn read_both(alloc: Global, slot: &[u8], subslot: &[u8]) -> Result<Option<SlotValue>, AllocError>
     requires { LacksSlash slot.now }
-    ensures { IfOk result (λ r. MatchOption r ((a b : List ℕ) → IsSlotValue (slot.now ++ (47 ∷ subslot.now)) a b → ⊥) (λ v. IsSlotValue (slot.now ++ (47 ∷ subslot.now)) v.slot v.subslot)) }
+    ensures { ReadsSlots (slot.now ++ (47 ∷ subslot.now)) result }
 {
     let Some(slot) = read_name(alloc, slot)? else {
         return Ok(None);
@@ -71,7 +72,7 @@ fn read_both(alloc: Global, slot: &[u8], subslot: &[u8]) -> Result<Option<SlotVa
 }
 
 fn read_name(alloc: Global, bytes: &[u8]) -> Result<Option<SlotName>, AllocError>
-    ensures { IfOk result (λ r. MatchOption r (IsName Slot bytes.now → ⊥) (λ name. (name ≡ bytes.now) × IsName Slot bytes.now)) }
+    ensures { IfOk result (λ r. MatchOption r (IsName Slot bytes.now → ⊥) (IsSlotName bytes.now)) }
 {
     match SlotName::from_bytes(alloc, bytes) {
         Ok(name) => Ok(Some(name)),
