@@ -1,6 +1,6 @@
 -- From what `clap` promises of one call to the words of `specs/Grammar.antt`.
-use Rattle.std.proofs.Common.{◌≡◌, ◌∙◌, true, refl, sym, ap, ap₂, subst, List, [], inl, inr}
-use Rattle.clap.specs.Words.{App, Kinds, FailsBy, HasKind, IsAmong, Row, Text, fault_of, is_simple, is_simple_and_free, kind_of, matches_of}
+use Rattle.std.proofs.Common.{◌≡◌, ◌∙◌, true, refl, sym, ap, subst, List, [], inl, inr}
+use Rattle.clap.specs.Words.{App, Kinds, HasKind, Row, Text, fault_of, is_simple, is_simple_and_free, kind_of, matches_of}
 use Rattle.clap.specs.declared.error.Error.{Error}
 use Rattle.clap.specs.declared.error.kind.ErrorKind.TheVariants.{OutOfMemory}
 use Rattle.clap.proofs.OnLiterals.{clap_on_literals}

@@ -1,5 +1,5 @@
 -- A text of digits is read as the number that it writes.
-use Rattle.std.proofs.Common.{◌≡◌, ◌∙◌, ◌<◌, ◌≤◌, ◌&&◌, ℕ, true, refl, sym, ap, arith, List, ◌∷◌, length, Result, Ok}
+use Rattle.std.proofs.Common.{◌≡◌, ◌&&◌, ℕ, true, refl, arith, List, length, Result, Ok}
 use Rattle.std.specs.Prelude.{nat_le, nat_lt}
 use Rattle.std.specs.Cmp.Derive.{both_true}
 use Rattle.std.specs.List.{list_all}
@@ -8,7 +8,7 @@ use Rattle.std.proofs.lemmas.Bool.{leb-true, le-leb}
 use Rattle.std.proofs.lemmas.Str.Parse.{IsDigitsTest, IsNumeralModel, digits_value_short, numerals_by_value, parse_gives}
 use Rattle.clap.proofs.WalkLemmas.{both}
 use Rattle.basics.specs.Bytes.{is_digit}
-use Rattle.emerge_words.specs.Numbers.{is_numeral, numeral_in}
+use Rattle.emerge_words.specs.Numbers.{is_numeral}
 
 tells_digits : IsDigitsTest (λ ds. list_all is_digit ds ≡ true)
 tells_digits = record {

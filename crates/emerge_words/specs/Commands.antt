@@ -1,10 +1,12 @@
 -- Which command a line is: by its flags, by its options, and by whether further words stand there.
-use Rattle.std.specs.Prelude.{ℕ, Bool, true, ◌&&◌, ◌||◌, ◌==◌, not, if◌then◌else◌, List, length, drop, slice_index, Option, Some, None, is_some}
+use Rattle.std.specs.Prelude.{◌≡◌, ⊤, ℕ, Bool, true, false, ◌&&◌, ◌||◌, ◌==◌, not, if◌then◌else◌, List, [], ◌∷◌, length, Option, Some, None, is_some}
 use Rattle.std.specs.Option.{option_map_or}
 use Rattle.file_tree.specs.Paths.{is_path}
 use Rattle.emerge_words.specs.Lines.{LineValue}
 use Rattle.emerge_words.specs.declared.kind.Kind.{Kind}
 use Rattle.emerge_words.specs.declared.kind.Kind.TheVariants as kinds
+use Rattle.emerge_words.specs.declared.request.WordFault.{WordFault}
+use Rattle.emerge_words.specs.declared.request.WordFault.TheVariants.{Usage, BadAtom, BadNumber, Memory}
 
 -- no word is neither a flag nor an option
 abbrev pub names_none : LineValue → Bool
@@ -47,7 +49,8 @@ kind_of line = if is_merge line then Some kinds.Merge
 
 -- the path of a plan, without the slash that may stand first
 abbrev pub plan_path : List ℕ → List ℕ
-plan_path text = if slice_index text 0 == 47 then drop 1 text else text
+plan_path [] = []
+plan_path (b ∷ text) = if b == 47 then text else b ∷ text
 
 -- where a plan is named, a path names it
 abbrev pub has_plan_path : LineValue → Bool
@@ -56,3 +59,10 @@ has_plan_path line = option_map_or (λ text. is_path (plan_path text)) line.plan
 -- the line is a command, but that its numbers and its atoms may be none
 abbrev pub is_command : LineValue → Bool
 is_command line = is_some (kind_of line) && has_plan_path line
+
+-- a plan is named by no path, or memory ran out
+abbrev pub HasNoPath : LineValue → WordFault → Type 0
+HasNoPath line Usage = has_plan_path line ≡ false
+HasNoPath line (BadAtom word) = ⊥
+HasNoPath line (BadNumber word) = ⊥
+HasNoPath line Memory = ⊤

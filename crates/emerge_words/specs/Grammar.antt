@@ -1,6 +1,6 @@
 -- How a list of words is cut into flags, options and further words: by the rules of `clap`, for one
 -- command without subcommands.
-use Rattle.std.specs.Prelude.{◌≡◌, ℕ, true, Some, List, [], codes}
+use Rattle.std.specs.Prelude.{◌≡◌, true, Some, List, [], codes}
 use Rattle.clap.specs.Words.{App, Row, Rule, Text, fault_of, matches_of, new_app, new_rule, with_rule}
 use Rattle.clap.specs.declared.builder.action.ArgAction.TheVariants.{Set, SetTrue, Append}
 
@@ -20,11 +20,13 @@ further_rule name = record (new_rule name) { action = Some Append }
 abbrev pub start_app : App
 start_app =
     let app = new_app (codes "emerge") in
-    record app { top = record app.top {
-      no_binary_name = true;
-      disable_help_flag = true;
-      disable_version_flag = true;
-    } }
+    record app {
+      top = record app.top {
+        no_binary_name = true;
+        disable_help_flag = true;
+        disable_version_flag = true;
+      };
+    }
 
 abbrev pub with_flag : App → Text → App
 with_flag app name = with_rule app (flag_rule name)

@@ -1,5 +1,5 @@
 -- What a list of words gives: which flags, the text of each option, and the further words.
-use Rattle.std.specs.Prelude.{ℕ, Bool, false, List, [], Option, codes, unwrap_or, map, option_map}
+use Rattle.std.specs.Prelude.{Bool, false, List, [], Option, codes, unwrap_or, map, option_map}
 use Rattle.std.specs.Str.{bytes_eq}
 use Rattle.std.specs.Option.{option_map_or}
 use Rattle.clap.specs.Words.{Row, Text, all_of, first_of}

@@ -1,10 +1,12 @@
 -- The numbers of options, and the texts that are none.
-use Rattle.std.specs.Prelude.{◌≡◌, ℕ, Bool, ◌&&◌, nat_le, nat_lt, if◌then◌else◌, List, [], ◌∷◌, ◌++◌, length, Option, Some, None, is_some, option_and_then}
+use Rattle.std.specs.Prelude.{◌≡◌, ⊤, string_bytes, ℕ, Bool, ◌&&◌, nat_le, nat_lt, if◌then◌else◌, List, [], ◌∷◌, ◌++◌, length, Option, Some, None, is_some, option_and_then}
 use Rattle.std.specs.List.{list_all}
 use Rattle.std.specs.Str.Parse.{digits_value}
 use Rattle.basics.specs.Bytes.{is_digit}
 use Rattle.emerge_words.specs.Lines.{LineValue}
 use Rattle.emerge_words.specs.declared.numbers.Numbers.{Numbers}
+use Rattle.emerge_words.specs.declared.request.WordFault.{WordFault}
+use Rattle.emerge_words.specs.declared.request.WordFault.TheVariants.{Usage, BadAtom, BadNumber, Memory}
 
 abbrev pub most_digits : ℕ
 most_digits = 10
@@ -58,3 +60,10 @@ pub record AreNumbers (line : LineValue) (n : Numbers) : Type 0 where
   pub backtrack : n.backtrack ≡ number_or 10000 line.backtrack
   pub flips : n.flips ≡ number_or 0 line.flag_changes
   pub load : n.load ≡ number_or 0 line.load
+
+-- the fault tells this text as a bad number, or that memory ran out
+abbrev pub TellsNumber : List ℕ → WordFault → Type 0
+TellsNumber text Usage = ⊥
+TellsNumber text (BadAtom told) = ⊥
+TellsNumber text (BadNumber told) = string_bytes told ≡ text
+TellsNumber text Memory = ⊤

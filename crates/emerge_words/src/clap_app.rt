@@ -1,9 +1,8 @@
 ghost use Rattle.std.specs.Prelude.{◌≡◌, IfOk, false};
 ghost use Rattle.clap.specs.Words.{app_of, rule_of, with_rule};
-ghost use Rattle.emerge_words.specs.Grammar.{
-    flag_rule, flags_app, further_rule, numbers_app, option_rule, start_app, texts_app, with_flag,
-    with_option, words_app,
-};
+ghost use Rattle.emerge_words.specs.Grammar.{flag_rule, flags_app, further_rule, numbers_app};
+ghost use Rattle.emerge_words.specs.Grammar.{option_rule, start_app, texts_app, with_flag};
+ghost use Rattle.emerge_words.specs.Grammar.{with_option, words_app};
 
 use clap::{Arg, ArgAction, Command};
 use std::alloc::{AllocError, Global};
@@ -68,9 +67,7 @@ fn with_flag<'a>(
 ) -> Result<Command<'a>, AllocError>
     ensures { IfOk result (λ r. app_of r ≡ with_flag (app_of command.entry) name.now) }
 {
-    let arg = Arg::new(alloc, name)
-        .long(name)
-        .action(ArgAction::SetTrue);
+    let arg = Arg::new(alloc, name).long(name).action(ArgAction::SetTrue);
     command.arg(arg)
 }
 

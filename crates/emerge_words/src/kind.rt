@@ -1,7 +1,6 @@
 ghost use Rattle.std.specs.Prelude.{◌≡◌};
-ghost use Rattle.emerge_words.specs.Commands.{
-    asks_of_merge, asks_of_run, is_load, is_merge, is_plan_file, is_unmerge, kind_of,
-};
+ghost use Rattle.emerge_words.specs.Commands.{asks_of_merge, asks_of_run, is_load, is_merge};
+ghost use Rattle.emerge_words.specs.Commands.{is_plan_file, is_unmerge, kind_of};
 ghost use Rattle.emerge_words.specs.Lines.{line_value};
 
 use crate::line::Line;
@@ -33,7 +32,7 @@ pub(crate) fn kind_of(line: &Line<'_>) -> Option<Kind>
 }
 
 /// Further words, or none with `--repair`.
-fn is_merge(line: &Line<'_>) -> bool
+pub(crate) fn is_merge(line: &Line<'_>) -> bool
     ensures { result ≡ is_merge (line_value line.now) }
 {
     !line.unmerge

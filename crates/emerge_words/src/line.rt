@@ -1,4 +1,5 @@
-ghost use Rattle.std.specs.Prelude.{◌≡◌, IfOk, IfErr, map, option_map, string_bytes, unwrap_or, codes, []};
+ghost use Rattle.std.specs.Prelude.{◌≡◌, IfOk, IfErr, map, option_map, string_bytes, unwrap_or};
+ghost use Rattle.std.specs.Prelude.{codes, []};
 ghost use Rattle.clap.specs.Words.{all_of, found_of, kind_of, rows_of};
 ghost use Rattle.emerge_words.specs.Grammar.{AreCut};
 ghost use Rattle.emerge_words.specs.declared.line.LineFault.TheVariants.{Memory};

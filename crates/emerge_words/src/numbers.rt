@@ -2,10 +2,10 @@ ghost use Rattle.std.specs.Prelude.{◌≡◌, [], ◌∷◌, IfErr, IfOk, Some,
 ghost use Rattle.std.specs.List.{list_all};
 ghost use Rattle.basics.specs.Bytes.{is_digit};
 ghost use Rattle.emerge_words.specs.Lines.{line_value};
-ghost use Rattle.emerge_words.specs.Numbers.{
-    AreNumbers, bad_number, bad_numbers, is_numeral, most_backtrack, most_digits, most_flag_changes, most_jobs,
-    most_load, number_in, number_or, numeral_in,
-};
+ghost use Rattle.emerge_words.specs.Numbers.{AreNumbers, bad_number, bad_numbers, is_numeral};
+ghost use Rattle.emerge_words.specs.Numbers.{most_backtrack, most_digits, most_flag_changes};
+ghost use Rattle.emerge_words.specs.Numbers.{most_jobs, most_load, number_in, number_or};
+ghost use Rattle.emerge_words.specs.Numbers.{numeral_in};
 
 use crate::line::Line;
 use basics::is_digit;
@@ -26,6 +26,7 @@ pub const MOST_LOAD: u32 = 4_000;
 const MOST_DIGITS: usize = 10;
 
 /// The numbers of a line.
+#[derive(Clone, Copy)]
 pub(crate) struct Numbers {
     pub(crate) jobs: u32,
     pub(crate) backtrack: u32,

@@ -5,7 +5,7 @@ ghost use Rattle.emerge_words.specs.declared.request.WordFault.TheVariants.{Memo
 use crate::line::LineFault;
 use dep_atom::Atom;
 use file_tree::Path;
-use std::alloc::AllocError;
+use std::alloc::{AllocError, AllocFailed};
 
 /// What a run shall do.
 #[derive(Debug, Drop)]
@@ -23,11 +23,17 @@ pub enum Command {
         flips: u32,
     },
     /// Does the plan that stands in a file.
-    PlanFile { path: Path },
+    PlanFile {
+        path: Path,
+    },
     /// Removes what the atoms match.
-    Unmerge { atoms: Vec<Atom> },
+    Unmerge {
+        atoms: Vec<Atom>,
+    },
     /// Merges a generated repository of so many packages.
-    Load { n: u32 },
+    Load {
+        n: u32,
+    },
 }
 
 /// A command, and how it shall run.
@@ -65,6 +71,14 @@ impl From<AllocError> for WordFault {
     ghost from_gives = { λ _ fault. fault ≡ Memory };
 
     fn from(_: AllocError) -> WordFault {
+        WordFault::Memory
+    }
+}
+
+impl<T: Drop> From<AllocFailed<T>> for WordFault {
+    ghost from_gives = { λ _ fault. fault ≡ Memory };
+
+    fn from(_: AllocFailed<T>) -> WordFault {
         WordFault::Memory
     }
 }

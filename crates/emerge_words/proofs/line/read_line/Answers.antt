@@ -1,4 +1,4 @@
-use Rattle.std.proofs.Common.{◌∙◌, ap, map, string_bytes}
+use Rattle.std.proofs.Common.{◌∙◌, ap}
 use Rattle.clap.specs.Words.{app_of, found_of, rows_of}
 use Rattle.emerge_words.specs.Lines.{line_of_rows}
 use Rattle.emerge_words.proofs.Cuts.{cut_fails, cut_of, rows_of_words}
