@@ -1,0 +1,5 @@
+pub mod Cuts
+pub mod Named
+pub mod Numerals
+pub mod Plans
+pub mod Refusals

@@ -1,0 +1,7 @@
+pub mod Commands
+pub mod Faults
+pub mod Grammar
+pub mod Lines
+pub mod Named
+pub mod Numbers
+pub mod Requests
