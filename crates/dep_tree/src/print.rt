@@ -1,13 +1,10 @@
-ghost use Rattle.std.specs.Prelude.{◌≡◌, ◌∷◌, ◌++◌, IfOk, List, OnOk, string_bytes, ℕ};
+ghost use Rattle.std.specs.Prelude.{◌≡◌, ◌++◌, IfOk, OnOk, string_bytes};
 ghost use Rattle.dep_atom.specs.Text.{value_text};
-ghost use Rattle.dep_atom.specs.Values.{AtomValue, atom_value};
-ghost use Rattle.dep_group.specs.declared.token.Opener.{Opener};
-ghost use Rattle.dep_group.specs.declared.token.Token.{Token};
-ghost use Rattle.dep_group.specs.declared.token.Token.TheVariants.{Closes, Opens};
+ghost use Rattle.dep_atom.specs.Values.{atom_value};
 ghost use Rattle.dep_group.specs.Reading.{all_tokens, tokens};
 ghost use Rattle.dep_group.specs.Shapes.{condition};
 ghost use Rattle.dep_group.specs.Words.{and_space};
-ghost use Rattle.dep_tree.specs.Printing.{written};
+ghost use Rattle.dep_tree.specs.Printing.{Adds, group_tokens};
 ghost use Rattle.dep_tree.specs.Texts.{text_of};
 ghost use Rattle.dep_tree.specs.View.{trees_view, view};
 
@@ -28,7 +25,7 @@ pub fn print(alloc: Global, nodes: &[Node]) -> Result<String, AllocError>
 
 #[cycle(print)]
 fn push_all(alloc: Global, nodes: &[Node], out: &mut String) -> Result<(), AllocError>
-    ensures { OnOk result ((rest : List (Token (Opener (List ℕ)) AtomValue)) → written (string_bytes out.new) rest ≡ written (string_bytes out.old) (all_tokens (trees_view nodes.now) rest)) }
+    ensures { OnOk result (Adds (string_bytes out.old) (string_bytes out.new) (all_tokens (trees_view nodes.now))) }
 {
     for node in nodes {
         push(alloc, node, out)?;
@@ -38,7 +35,7 @@ fn push_all(alloc: Global, nodes: &[Node], out: &mut String) -> Result<(), Alloc
 
 #[cycle(print)]
 fn push_group(alloc: Global, nodes: &[Node], out: &mut String) -> Result<(), AllocError>
-    ensures { OnOk result ((rest : List (Token (Opener (List ℕ)) AtomValue)) → written (string_bytes out.new) rest ≡ written (string_bytes out.old) (Opens ∷ all_tokens (trees_view nodes.now) (Closes ∷ rest))) }
+    ensures { OnOk result (Adds (string_bytes out.old) (string_bytes out.new) (group_tokens (trees_view nodes.now))) }
 {
     push_word(out, "", "(", "")?;
     push_all(alloc, nodes, out)?;
@@ -48,7 +45,7 @@ fn push_group(alloc: Global, nodes: &[Node], out: &mut String) -> Result<(), All
 
 #[cycle(print)]
 fn push(alloc: Global, node: &Node, out: &mut String) -> Result<(), AllocError>
-    ensures { OnOk result ((rest : List (Token (Opener (List ℕ)) AtomValue)) → written (string_bytes out.new) rest ≡ written (string_bytes out.old) (tokens (view node.now) rest)) }
+    ensures { OnOk result (Adds (string_bytes out.old) (string_bytes out.new) (tokens (view node.now))) }
 {
     match node {
         Node::Leaf(atom) => {

@@ -1,13 +1,9 @@
-ghost use Rattle.std.specs.Prelude.{◌≡◌, ◌∷◌, ◌++◌, IfOk, List, OnOk, string_bytes, ℕ};
-ghost use Rattle.dep_group.specs.declared.token.Opener.{Opener};
-ghost use Rattle.dep_group.specs.declared.token.Token.{Token};
-ghost use Rattle.dep_group.specs.declared.token.Token.TheVariants.{Closes, Opens};
+ghost use Rattle.std.specs.Prelude.{◌≡◌, ◌++◌, IfOk, OnOk, string_bytes};
 ghost use Rattle.dep_group.specs.Reading.{all_tokens, tokens};
 ghost use Rattle.dep_group.specs.Shapes.{condition};
 ghost use Rattle.dep_group.specs.Words.{and_space};
-ghost use Rattle.required_use.specs.declared.required.Item.{Item};
 ghost use Rattle.required_use.specs.Grammar.{item_text};
-ghost use Rattle.required_use.specs.Printing.{written};
+ghost use Rattle.required_use.specs.Printing.{Adds, group_tokens};
 ghost use Rattle.required_use.specs.Texts.{text_of};
 ghost use Rattle.required_use.specs.View.{trees_view, view};
 
@@ -27,7 +23,7 @@ pub fn print(alloc: Global, nodes: &[Required]) -> Result<String, AllocError>
 
 #[cycle(print)]
 fn push_all(nodes: &[Required], out: &mut String) -> Result<(), AllocError>
-    ensures { OnOk result ((rest : List (Token (Opener (List ℕ)) Item)) → written (string_bytes out.new) rest ≡ written (string_bytes out.old) (all_tokens (trees_view nodes.now) rest)) }
+    ensures { OnOk result (Adds (string_bytes out.old) (string_bytes out.new) (all_tokens (trees_view nodes.now))) }
 {
     for node in nodes {
         push(node, out)?;
@@ -37,7 +33,7 @@ fn push_all(nodes: &[Required], out: &mut String) -> Result<(), AllocError>
 
 #[cycle(print)]
 fn push_group(nodes: &[Required], out: &mut String) -> Result<(), AllocError>
-    ensures { OnOk result ((rest : List (Token (Opener (List ℕ)) Item)) → written (string_bytes out.new) rest ≡ written (string_bytes out.old) (Opens ∷ all_tokens (trees_view nodes.now) (Closes ∷ rest))) }
+    ensures { OnOk result (Adds (string_bytes out.old) (string_bytes out.new) (group_tokens (trees_view nodes.now))) }
 {
     push_word(out, "", "(", "")?;
     push_all(nodes, out)?;
@@ -47,7 +43,7 @@ fn push_group(nodes: &[Required], out: &mut String) -> Result<(), AllocError>
 
 #[cycle(print)]
 fn push(node: &Required, out: &mut String) -> Result<(), AllocError>
-    ensures { OnOk result ((rest : List (Token (Opener (List ℕ)) Item)) → written (string_bytes out.new) rest ≡ written (string_bytes out.old) (tokens (view node.now) rest)) }
+    ensures { OnOk result (Adds (string_bytes out.old) (string_bytes out.new) (tokens (view node.now))) }
 {
     match node {
         Required::Item { flag, on } => {
