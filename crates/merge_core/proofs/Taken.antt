@@ -1,5 +1,5 @@
 -- Which steps are taken, and which refused.
-use Rattle.std.proofs.Common.{◌≡◌, ℕ, refl, subst}
+use Rattle.std.proofs.Common.{ℕ, subst}
 use Rattle.merge_core.specs.declared.refusal.Refusal.{Refusal}
 use Rattle.merge_core.specs.declared.refusal.Refusal.TheVariants as refusals
 use Rattle.merge_core.specs.declared.step.Step.{Step}
@@ -24,10 +24,10 @@ admitted k g steps.SyncClosed a = (a, tt)
 admitted k g steps.Acknowledge a = (a, tt)
 admitted k g steps.Abandon a = (a, tt)
 
--- a step that may come is refused for want of memory alone
-pub only_memory : (k : Keeping) (g : ℕ) (s : Step) (f : Refusal) → IsRefused k g s f → CanCome k g s → Admits (machine_of k) (event_of g s) → f ≡ refusals.Memory
-only_memory k g s refusals.OutOfRange h comes a = absurd (h comes)
-only_memory k g s (refusals.WrongPhase has asked) h comes a = absurd (h.3 (subst (IsPhaseFor s) h.1 (admitted k g s a).0))
-only_memory k g s (refusals.NotDue left) h comes a = absurd (h.2 (admitted k g s a).1)
-only_memory k g s refusals.Limit h comes a = absurd h
-only_memory k g s refusals.Memory h comes a = refl
+-- no step that may come is refused
+pub none_admitted : (k : Keeping) (g : ℕ) (s : Step) (f : Refusal) → IsRefused k g s f → CanCome k g s → Admits (machine_of k) (event_of g s) → ⊥
+none_admitted k g s refusals.OutOfRange h comes a = h comes
+none_admitted k g s (refusals.WrongPhase has asked) h comes a = h.3 (subst (IsPhaseFor s) h.1 (admitted k g s a).0)
+none_admitted k g s (refusals.NotDue left) h comes a = h.2 (admitted k g s a).1
+none_admitted k g s refusals.Limit h comes a = h
+none_admitted k g s refusals.Memory h comes a = h

@@ -1,8 +1,9 @@
 -- The machine as its code keeps it: the standings of some groups in a list, all others at rest.
-use Rattle.std.specs.Prelude.{ℕ, Bool, false, List, [], replicate}
+use Rattle.std.specs.Prelude.{◌<◌, ◌≤◌, ◌^◌, ℕ, Bool, false, length, List, [], replicate}
+use Rattle.std.specs.List.{sum_by}
 use Rattle.journal.specs.Group.{Group}
 use Rattle.merge_core.specs.Core.{standing_in}
-use Rattle.merge_core.specs.Roll.{Machine, Standing, resting}
+use Rattle.merge_core.specs.Roll.{Machine, Standing, resting, settled_behind, syncs_behind}
 
 pub record Keeping : Type 0 where
   pub standings : List Standing
@@ -21,3 +22,11 @@ machine_of k = record {
 -- some groups, none of which has begun
 abbrev pub at_rest : ℕ → Keeping
 at_rest n = record { standings = replicate n resting; order = []; syncs = 0; stopped = false }
+
+-- the counts of syncs and of groups in the order are bounded by what the groups have behind them,
+-- and the order has room for each group
+pub record IsCounted (standings : List Standing) (synced settled most : ℕ) : Type 0 where
+  pub groups : length standings < 2 ^ 32
+  pub syncs : synced ≤ sum_by syncs_behind standings
+  pub order : settled ≤ sum_by settled_behind standings
+  pub room : length standings ≤ most

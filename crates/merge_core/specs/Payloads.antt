@@ -1,5 +1,6 @@
 -- Steps that bring something: a stage with its object, a record with its removals, and a claim.
-use Rattle.std.specs.Prelude.{◌≡◌, ◌<◌, ◌≤◌, ◌^◌, ◌++◌, ◌||◌, ℕ, Bool, true, false, not, length, List, [], ◌∷◌, slice_set}
+use Rattle.std.specs.Prelude.{◌≡◌, ◌<◌, ◌≤◌, ◌^◌, ◌++◌, ◌||◌, ℕ, Bool, true, false, not, length}
+use Rattle.std.specs.Prelude.{List, [], ◌∷◌, slice_set}
 use Rattle.file_tree.specs.Thing.{Thing, plain}
 use Rattle.journal.specs.Group.{covers}
 use Rattle.merge_record.specs.Judging.{are_free, footprint}

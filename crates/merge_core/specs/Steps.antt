@@ -1,5 +1,6 @@
 -- Steps that are told by their name alone: when each may come, and what it makes of its group.
-use Rattle.std.specs.Prelude.{◌≡◌, ◌==◌, ◌<◌, ◌+◌, ◌-◌, ◌++◌, ◌&&◌, ◌||◌, ℕ, suc, Bool, true, false, not, cond}
+use Rattle.std.specs.Prelude.{◌≡◌, ◌==◌, ◌<◌, ◌+◌, ◌-◌, ◌++◌, ◌&&◌, ◌||◌, ℕ, suc, Bool, true, false}
+use Rattle.std.specs.Prelude.{not, cond}
 use Rattle.std.specs.Prelude.{length, List, [], ◌∷◌, slice_set}
 use Rattle.journal.specs.Group.{Group}
 use Rattle.merge_core.specs.declared.phase.Phase.{Phase}
@@ -38,6 +39,11 @@ is_sync steps.SyncGate = true
 is_sync steps.SyncPlaced = true
 is_sync steps.SyncClosed = true
 is_sync s = false
+
+-- the step brings its group into the order
+abbrev pub enters : Step → Bool
+enters steps.SyncPlaced = true
+enters s = false
 
 -- the phase that a step asks for; an abandon takes any until the claim
 abbrev pub wanted : Step → Phase
@@ -142,4 +148,4 @@ IsRefused k g s (refusals.NotDue left) = CanCome k g s
     × (IsDueFor s (standing_in k.standings g) → ⊥)
     × (left ≡ left_for s (standing_in k.standings g))
 IsRefused k g s refusals.Limit = ⊥
-IsRefused k g s refusals.Memory = IsTaken k g s
+IsRefused k g s refusals.Memory = ⊥

@@ -1,11 +1,12 @@
 ghost use Rattle.std.specs.Prelude.{◌≡◌, ◌<◌, ◌≤◌, false, length, replicate, IfErr, IfOk, IsTrue};
-ghost use Rattle.std.specs.Prelude.{MatchOption, OnErr, OnOk};
+ghost use Rattle.std.specs.Prelude.{◌+◌, ◌++◌, ◌∷◌, [], cond, IsOk, MatchOption, OnErr, OnOk};
+ghost use Rattle.std.specs.Prelude.{vec_capacity, vec_len};
 ghost use Rattle.merge_core.specs.Event.{Admits, answered, needs_sync};
 ghost use Rattle.merge_core.specs.Keeping.{at_rest, machine_of};
 ghost use Rattle.merge_core.specs.Roll.{idle, phase_at, resting};
 ghost use Rattle.merge_core.specs.Phases.{phase_of};
 ghost use Rattle.merge_core.specs.Steps.{CanCome, IsRefused, IsTaken, after, event_of};
-ghost use Rattle.merge_core.specs.Steps.{order_after, syncs_after};
+ghost use Rattle.merge_core.specs.Steps.{syncs_after};
 
 use crate::phase::Phase;
 use crate::refusal::Refusal;
@@ -33,16 +34,14 @@ pub struct Core {
 }
 
 impl Model for Core {
-    ghost use Rattle.std.specs.Prelude.{◌≤◌, ◌<◌, ◌^◌, length, map};
-    ghost use Rattle.std.specs.List.{sum_by};
-    ghost use Rattle.merge_core.specs.Roll.{syncs_behind};
-    ghost use Rattle.merge_core.specs.Keeping.{Keeping};
+    ghost use Rattle.std.specs.Prelude.{map, vec_capacity, vec_len};
+    ghost use Rattle.merge_core.specs.Keeping.{IsCounted, Keeping};
     ghost use Rattle.merge_core.specs.Roll.{group_of};
 
     ghost Value = { Keeping };
 
-    ghost invariant = { λ c. (length c.standings.items < 2 ^ 32)
-        × (c.syncs ≤ sum_by syncs_behind c.standings.items) };
+    ghost invariant = { λ c. IsCounted c.standings.items c.syncs
+        (vec_len c.order) (vec_capacity c.order) };
 
     ghost view = { λ c. record {
       standings = c.standings.items;
@@ -62,6 +61,19 @@ fn resting_standings(alloc: Global, groups: u32) -> Result<Vec<Standing>, AllocE
     Ok(standings)
 }
 
+/// Puts a group into the order, which has room for it.
+fn enter(order: &mut Vec<Settled>, settled: Settled, enters: bool)
+    requires room { IsTrue enters → vec_len order.old < vec_capacity order.old }
+    ensures enters { IsTrue enters → order.new.items ≡ order.old.items ++ settled ∷ [] }
+    ensures stays { enters ≡ false → order.new.items ≡ order.old.items }
+    ensures len { vec_len order.new ≡ vec_len order.old + cond enters 1 0 }
+    ensures capacity { vec_capacity order.old ≤ vec_capacity order.new }
+{
+    if enters && order.push(settled).is_err() {
+        unreachable!();
+    }
+}
+
 impl Core {
     /// The machine of this number of groups, none of which has begun.
     pub fn new(alloc: Global, groups: u32) -> Result<Core, AllocError>
@@ -70,7 +82,7 @@ impl Core {
     {
         Ok(Core {
             standings: resting_standings(alloc, groups)?,
-            order: Vec::new(alloc),
+            order: Vec::with_capacity(alloc, groups as usize)?,
             syncs: 0,
             stopped: false,
         })
@@ -137,35 +149,25 @@ impl Core {
         }
     }
 
-    /// Takes the room in the order that the step is to need.
-    fn settle(&mut self, group: u32, step: Step, ok: bool) -> Result<(), AllocError>
-        requires { group < length self.old.standings }
-        ensures ok { OnOk result
-            (self.new ≡ record self.old { order = order_after self.old group step ok }) }
-        ensures kept { OnErr result (self.new ≡ self.old) }
-    {
-        if step != Step::SyncPlaced || !ok {
-            return Ok(());
-        }
-        let standing = Snapshot::of(&self.standings[group as usize]);
-        self.order.push(Settled { group, standing })?;
-        Ok(())
-    }
-
     fn go(&mut self, alloc: Global, group: u32, step: Step, ok: bool)
         requires { IsTaken self.old group step }
-        ensures { self.new ≡ record (after self.old group step ok) { order = self.old.order } }
+        ensures { self.new ≡ after self.old group step ok }
     {
         let syncs = self.syncs;
         let next = self.next_syncs(group, step, ok);
         let standing = &mut self.standings[group as usize];
+        let settled = Settled {
+            group,
+            standing: Snapshot::of(standing),
+        };
         standing.go(alloc, step, ok, syncs);
         self.syncs = next;
         self.stopped = !ok || self.stopped;
+        enter(&mut self.order, settled, step.enters(ok));
     }
 
-    /// Takes a step of a group, whose call was answered, or refuses it.
-    #[tactic(auto, using(crate::proofs::Taken::only_memory))]
+    /// Takes a step of a group, whose call was answered, or refuses it. It takes no memory.
+    #[tactic(auto, using(crate::proofs::Taken::none_admitted))]
     pub fn step(&mut self, alloc: Global, group: u32, step: Step, ok: bool) -> Result<(), Refusal>
         ensures comes { OnOk result (CanCome self.old group step) }
         ensures admitted { OnOk result (Admits (machine_of self.old) (event_of group step)) }
@@ -174,12 +176,10 @@ impl Core {
         ensures groups { length self.new.standings ≡ length self.old.standings }
         ensures refused { IfErr result (IsRefused self.old group step) }
         ensures only { CanCome self.old group step →
-            Admits (machine_of self.old) (event_of group step) →
-            IfErr result (λ f. f ≡ Refusal.Memory) }
+            Admits (machine_of self.old) (event_of group step) → IsOk result }
         ensures kept { OnErr result (self.new ≡ self.old) }
     {
         self.judge(group, step)?;
-        self.settle(group, step, ok)?;
         self.go(alloc, group, step, ok);
         Ok(())
     }

@@ -1,5 +1,5 @@
 ghost use Rattle.std.specs.Prelude.{◌≡◌, ◌<◌, ◌≤◌, ◌^◌, false, length, Some, IfErr, IfOk, IsTrue};
-ghost use Rattle.std.specs.Prelude.{OnErr, OnOk};
+ghost use Rattle.std.specs.Prelude.{IsOk, OnErr, OnOk};
 ghost use Rattle.merge_record.specs.Judging.{IsStaged};
 ghost use Rattle.merge_record.specs.Spelling.{Fits, PassesLimit};
 ghost use Rattle.merge_core.specs.Core.{standing_in};
@@ -22,6 +22,7 @@ impl Core {
     fn judge_at(&self, group: u32, asked: Phase) -> Result<(), Refusal>
         ensures at { OnOk result (IsAt self.now group asked) }
         ensures refused { IfErr result (IsRefusedAt self.now group asked ⊥) }
+        ensures admits { IsAt self.now group asked → IsOk result }
     {
         if group as usize >= self.standings.len() || self.stopped {
             return Err(Refusal::OutOfRange);
@@ -158,6 +159,7 @@ impl Core {
             (machine_of self.new ≡ answered (machine_of self.old) (Claim group) ok) }
         ensures groups { length self.new.standings ≡ length self.old.standings }
         ensures refused { IfErr result (IsRefusedAt self.old group Phase.Sealed ⊥) }
+        ensures admits { IsAt self.old group Phase.Sealed → IsOk result }
         ensures kept { OnErr result (self.new ≡ self.old) }
     {
         self.judge_at(group, Phase::Sealed)?;

@@ -1,7 +1,7 @@
-ghost use Rattle.std.specs.Prelude.{◌≡◌, ℕ, false, IsTrue};
+ghost use Rattle.std.specs.Prelude.{◌≡◌, ◌&&◌, ℕ, false, IsTrue};
 ghost use Rattle.merge_core.specs.Phase.{may_end};
 ghost use Rattle.merge_core.specs.Phases.{phase_of};
-ghost use Rattle.merge_core.specs.Steps.{IsPhaseFor, event_of, is_sync, wanted};
+ghost use Rattle.merge_core.specs.Steps.{IsPhaseFor, enters, event_of, is_sync, wanted};
 ghost use Rattle.merge_core.specs.Event.{is_abandon};
 
 use crate::phase::Phase;
@@ -37,6 +37,13 @@ impl Step {
             self,
             Step::SyncSealed | Step::SyncGate | Step::SyncPlaced | Step::SyncClosed
         )
+    }
+
+    /// Whether the step brings its group into the order, where its call answered so.
+    pub(crate) fn enters(self, ok: bool) -> bool
+        ensures { result ≡ (ok && enters self) }
+    {
+        ok && matches!(self, Step::SyncPlaced)
     }
 
     /// The phase that the step asks for; an abandon takes any until the claim.
