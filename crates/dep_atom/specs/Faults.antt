@@ -101,8 +101,8 @@ abbrev pub before_item : List UseDep → List ℕ
 before_item [] = 91 ∷ []
 before_item (first ∷ others) = opened_text (first ∷ others) ++ (44 ∷ [])
 
--- a USE part is in order up to `left`, where an item is to begin and none does, or the list is to end
--- and doesn't
+-- a USE part is in order up to `left`, where an item is to begin and none does, or the list is to
+-- end and doesn't
 pub record GoesWrong (uses left : List ℕ) : Type 0 where
   pub items : List UseDep
   pub forms : AllByRecursion IsUseForm items
@@ -117,7 +117,8 @@ ItemFault at text _ = ⊥
 
 -- the fault of a USE part with which a text of `total` bytes ends
 abbrev pub EndFault : ℕ → List ℕ → AtomFault → Type 0
-EndFault total uses (faults.BadUse at) = (left : List ℕ) × (at ≡ total - length left) × GoesWrong uses left
+EndFault total uses (faults.BadUse at) =
+    (left : List ℕ) × (at ≡ total - length left) × GoesWrong uses left
 EndFault total uses faults.Memory = Unit {0}
 EndFault total uses _ = ⊥
 
@@ -140,7 +141,8 @@ pub record Cut (text : List ℕ) : Type 0 where
   pub uses : List ℕ
   pub whole : text ≡ block_text block ++ (op_text op ++ (body ++ (slot ++ uses)))
   pub block_told : block ≡ block_at (slice_index text 0) (slice_index text 1)
-  pub op_told : op ≡ op_at (slice_index (op_text op ++ (body ++ (slot ++ uses))) 0) (slice_index (op_text op ++ (body ++ (slot ++ uses))) 1)
+  pub op_told : op ≡ op_at (slice_index (op_text op ++ (body ++ (slot ++ uses))) 0)
+      (slice_index (op_text op ++ (body ++ (slot ++ uses))) 1)
   pub body_lacks : Lacks 58 91 body
   pub slot_starts : Starts 58 91 (slot ++ uses)
   pub slot_lacks : Lacks 91 91 slot

@@ -37,7 +37,8 @@ IsVersionForm Equal (Some version) star = IsReadable version
 IsVersionForm op None star = ⊥
 IsVersionForm op (Some version) star = IsReadable version × (star ≡ false)
 
-pub record IsPackageForm (op : Op) (name : Name) (version : Option Parts) (star : Bool) : Type 0 where
+pub record IsPackageForm (op : Op) (name : Name) (version : Option Parts)
+    (star : Bool) : Type 0 where
   pub named : IsNameForm name
   pub versioned : IsVersionForm op version star
 
@@ -46,7 +47,8 @@ IsReadableOption None = ⊥
 IsReadableOption (Some version) = IsReadable version
 
 -- a name and a version, with an asterisk only where it may stand
-pub record IsVersionedForm (may_star : Bool) (name : Name) (version : Option Parts) (star : Bool) : Type 0 where
+pub record IsVersionedForm (may_star : Bool) (name : Name) (version : Option Parts)
+    (star : Bool) : Type 0 where
   pub named : IsNameForm name
   pub readable : IsReadableOption version
   pub starred : may_star ≡ false → star ≡ false

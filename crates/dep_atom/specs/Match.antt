@@ -74,8 +74,8 @@ abbrev pub accepts_use : List (List ℕ) → List (List ℕ) → List (List ℕ)
 accepts_use iuse enabled asker item =
     agrees_with item.kind (has asker item.flag) (value_of iuse enabled item.flag item.otherwise)
 
--- the name, the version, the slot and each USE item of an atom that says this accept the package, for
--- an asker with these flags
+-- the name, the version, the slot and each USE item of an atom that says this accept the package,
+-- for an asker with these flags
 abbrev pub value_matches : AtomValue → Facts → List (List ℕ) → Bool
 value_matches a target asker =
     same_name a.name target.id.name

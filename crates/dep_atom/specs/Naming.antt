@@ -26,7 +26,8 @@ NameThen P text =
 -- the text is a package's name, a hyphen, and then what P says
 abbrev pub PackageThen : (List ℕ → Type 0) → List ℕ → Type 0
 PackageThen P text =
-    (name : List ℕ) × (rest : List ℕ) × IsName kinds.Package name × P rest × (text ≡ name ++ (45 ∷ rest))
+    (name : List ℕ) × (rest : List ℕ) × IsName kinds.Package name × P rest ×
+    (text ≡ name ++ (45 ∷ rest))
 
 -- the text is a version within the limits
 abbrev pub IsReadableText : List ℕ → Type 0

@@ -1,4 +1,5 @@
--- What a text's first bytes, or its last, say of its block, its operator and the kind of a USE item.
+-- What a text's first bytes, or its last, say of its block, its operator and the kind of a USE
+-- item.
 use Rattle.std.specs.Prelude.{ℕ, Bool, true, false, ◌==◌, if◌then◌else◌}
 use Rattle.dep_atom.specs.declared.atom.Block.{Block}
 use Rattle.dep_atom.specs.declared.atom.Block.TheVariants.{No, Weak, Strong}

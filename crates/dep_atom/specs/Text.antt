@@ -97,7 +97,8 @@ further_use_text item = 44 ∷ use_text item
 -- the items with commas between them, in brackets; nothing where there are none
 abbrev pub uses_text : List UseDep → List ℕ
 uses_text [] = []
-uses_text (first ∷ others) = 91 ∷ (use_text first ++ (flat_map further_use_text others ++ (93 ∷ [])))
+uses_text (first ∷ others) =
+    91 ∷ (use_text first ++ (flat_map further_use_text others ++ (93 ∷ [])))
 
 -- the same without the closing bracket, as far as the items go
 abbrev pub opened_text : List UseDep → List ℕ

@@ -1,7 +1,8 @@
 ghost use Rattle.std.specs.Prelude.{◌≡◌, ◌++◌, Some, IfErr, IfOk, MatchResult, OnOk, string_bytes};
 ghost use Rattle.std.specs.List.{list_all};
 ghost use Rattle.dep_atom.specs.Match.{accepts_version, version_fits, accepts_use, matches};
-ghost use Rattle.dep_atom.specs.Text.{block_text, op_text, name_text, version_part, star_text, atom_text, keeps_equals, SameAtom};
+ghost use Rattle.dep_atom.specs.Text.{block_text, op_text, name_text, version_part, star_text};
+ghost use Rattle.dep_atom.specs.Text.{atom_text, keeps_equals, SameAtom};
 ghost use Rattle.dep_atom.specs.declared.slot.SlotPart.TheVariants.{Given};
 
 use crate::fault::AtomFault;
@@ -79,7 +80,8 @@ impl Atom {
     pub fn parse(alloc: Global, text: &str) -> Result<Atom, AtomFault>
         ensures found { IfOk result (λ atom. text.now ≡ atom_text atom) }
         ensures form { IfOk result IsAtom }
-        ensures only { (a : AtomValue) → IsAtomValue a → text.now ≡ value_text a → MatchResult result (λ r. atom_value r ≡ a) (λ e. e ≡ Memory) }
+        ensures only { (a : AtomValue) → IsAtomValue a → text.now ≡ value_text a →
+            MatchResult result (λ r. atom_value r ≡ a) (λ e. e ≡ Memory) }
         ensures fault { IfErr result (FirstFault text.now) }
     {
         let total = text.len();
@@ -131,7 +133,9 @@ impl Atom {
 
     /// The atom with this slot and subslot written, and with its equals sign kept.
     pub fn bind(&self, to: &Bind) -> Result<Atom, AllocError>
-        ensures { IfOk result (λ atom. SameAtom atom (record self.now { slot = Given to.now.slot (Some to.now.subslot) (keeps_equals self.now.slot) })) }
+        ensures { IfOk result (λ atom.
+            SameAtom atom (record self.now
+            { slot = Given to.now.slot (Some to.now.subslot) (keeps_equals self.now.slot) })) }
     {
         let slot = to.slot.try_clone()?;
         let subslot = to.subslot.try_clone()?;
@@ -167,7 +171,8 @@ impl Atom {
     }
 
     fn write_name(&self, text: &mut String) -> Result<(), AllocError>
-        ensures { OnOk result (string_bytes text.new ≡ string_bytes text.old ++ name_text self.now.name) }
+        ensures { OnOk result (string_bytes text.new ≡
+            string_bytes text.old ++ name_text self.now.name) }
     {
         text.push_str(self.name.category.text())?;
         text.push_str("/")?;
@@ -175,7 +180,8 @@ impl Atom {
     }
 
     fn write_version(&self, text: &mut String) -> Result<(), AllocError>
-        ensures { OnOk result (string_bytes text.new ≡ string_bytes text.old ++ (version_part self.now.version ++ star_text self.now.star)) }
+        ensures { OnOk result (string_bytes text.new ≡
+            string_bytes text.old ++ (version_part self.now.version ++ star_text self.now.star)) }
     {
         if let Some(version) = &self.version {
             text.push_str("-")?;
@@ -185,7 +191,8 @@ impl Atom {
     }
 
     fn accepts_version(&self, candidate: &Version) -> bool
-        ensures { result ≡ accepts_version self.now.op self.now.star self.now.version candidate.now }
+        ensures { result ≡
+            accepts_version self.now.op self.now.star self.now.version candidate.now }
     {
         match &self.version {
             Some(version) => version_fits(self.op, self.star, version, candidate),
@@ -194,7 +201,8 @@ impl Atom {
     }
 
     fn accepts_uses(&self, target: &Facts, asker: &Flags) -> bool
-        ensures { result ≡ list_all (accepts_use target.now.iuse target.now.enabled asker.now) self.now.uses.items }
+        ensures { result ≡ list_all
+            (accepts_use target.now.iuse target.now.enabled asker.now) self.now.uses.items }
     {
         self.uses.iter().all(|item| item.accepts(target, asker))
     }

@@ -11,7 +11,9 @@ ghost use Rattle.dep_atom.specs.declared.package.PackageId.{PackageId};
 /// fault at most, and that of a package or an atom none.
 pub fn one_fault()
     ensures packages { (category pf : List ℕ) → HasOneFault (FirstIdFault category pf) }
-    ensures no_package { (id : PackageId) → IsId id → HasNoFault (FirstIdFault id.name.category (name_and_version id)) }
+    ensures no_package { (id : PackageId) → IsId id → HasNoFault
+        (FirstIdFault id.name.category (name_and_version id)) }
     ensures atoms { (text : List ℕ) → HasOneFault (FirstFault text) }
-    ensures no_atom { (atom : AtomValue) → IsAtomValue atom → HasNoFault (FirstFault (value_text atom)) }
+    ensures no_atom { (atom : AtomValue) → IsAtomValue atom →
+        HasNoFault (FirstFault (value_text atom)) }
 {}

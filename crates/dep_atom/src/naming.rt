@@ -5,7 +5,8 @@ ghost use Rattle.pms_version.specs.Limits.{IsReadable};
 ghost use Rattle.pms_names.specs.Names.{IsName};
 ghost use Rattle.dep_atom.specs.Form.{IsNameForm};
 ghost use Rattle.dep_atom.specs.Naming.{BeginsNumber, HasNoCategory, IsInCategory, IsNameText};
-ghost use Rattle.dep_atom.specs.Naming.{IsNameVersion, IsNumberAt, IsPackageVersion, IsReadableText};
+ghost use Rattle.dep_atom.specs.Naming.{IsNameVersion, IsNumberAt, IsPackageVersion};
+ghost use Rattle.dep_atom.specs.Naming.{IsReadableText};
 ghost use Rattle.dep_atom.specs.Naming.{NameThen, PackageThen};
 ghost use Rattle.dep_atom.specs.Promises.{FindsWhere};
 ghost use Rattle.dep_atom.specs.Text.{name_text};
@@ -19,7 +20,8 @@ use std::alloc::{AllocError, Global};
 
 // The category with which the text begins, and what stands behind its slash.
 fn split_category(text: &[u8]) -> Option<(&[u8], &[u8])>
-    ensures { MatchOption result (HasNoCategory text.now) (λ r. IsInCategory text.now r.0.now r.1.now) }
+    ensures { MatchOption result (HasNoCategory text.now)
+        (λ r. IsInCategory text.now r.0.now r.1.now) }
 {
     let (category, rest) = split_before(text, b'/', b'/');
     let Some(rest) = take_byte(rest, b'/') else {
@@ -44,7 +46,8 @@ fn read_part<K: NameKind>(alloc: Global, text: &[u8]) -> Result<Option<NameOf<K>
 }
 
 fn read_version(alloc: Global, text: &[u8]) -> Result<Option<Version>, AllocError>
-    ensures { FindsWhere (IsReadableText text.now) (λ v. IsReadable v × (text.now ≡ spelling v)) result }
+    ensures { FindsWhere (IsReadableText text.now)
+        (λ v. IsReadable v × (text.now ≡ spelling v)) result }
 {
     let Ok(text) = str::from_utf8(text) else {
         return Ok(None);
@@ -58,7 +61,8 @@ fn read_version(alloc: Global, text: &[u8]) -> Result<Option<Version>, AllocErro
 
 /// The whole text as a category, a slash and a package's name.
 pub(crate) fn read_name(alloc: Global, text: &[u8]) -> Result<Option<Name>, AllocError>
-    ensures { FindsWhere (IsNameText text.now) (λ n. IsNameForm n × (text.now ≡ name_text n)) result }
+    ensures { FindsWhere (IsNameText text.now) (λ n. IsNameForm n ×
+        (text.now ≡ name_text n)) result }
 {
     let Some((category, package)) = split_category(text) else {
         return Ok(None);
@@ -77,7 +81,8 @@ pub(crate) fn read_package_version(
     alloc: Global,
     text: &[u8],
 ) -> Result<Option<(PackageName, Version)>, AllocError>
-    ensures { FindsWhere (PackageThen IsReadableText text.now) (λ p. IsPackageVersion text.now p.0 p.1) result }
+    ensures { FindsWhere (PackageThen IsReadableText text.now)
+        (λ p. IsPackageVersion text.now p.0 p.1) result }
 {
     let Some(at) = version_hyphen(text) else {
         return Ok(None);
@@ -98,7 +103,8 @@ pub(crate) fn read_name_version(
     alloc: Global,
     text: &[u8],
 ) -> Result<Option<(Name, Version)>, AllocError>
-    ensures { FindsWhere (NameThen IsReadableText text.now) (λ p. IsNameVersion text.now p.0 p.1) result }
+    ensures { FindsWhere (NameThen IsReadableText text.now)
+        (λ p. IsNameVersion text.now p.0 p.1) result }
 {
     let Some((category, rest)) = split_category(text) else {
         return Ok(None);

@@ -1,5 +1,6 @@
 ghost use Rattle.std.specs.Prelude.{◌≡◌, ℕ, IfOk, IfErr, MatchResult, MatchOption, string_bytes};
-ghost use Rattle.dep_atom.specs.Ids.{FirstIdFault, IsId, PackageFault, PartsAt, name_and_version, name_fault};
+ghost use Rattle.dep_atom.specs.Ids.{FirstIdFault, IsId, PackageFault, PartsAt, name_and_version};
+ghost use Rattle.dep_atom.specs.Ids.{name_fault};
 ghost use Rattle.dep_atom.specs.Naming.{IsReadableText, PackageThen};
 ghost use Rattle.dep_atom.specs.declared.fault.AtomFault.TheVariants.{Memory};
 
@@ -34,8 +35,10 @@ impl PackageId {
 
     /// Reads a category, and a package's name with a hyphen and its version.
     pub fn parse(alloc: Global, category: &str, pf: &str) -> Result<PackageId, AtomFault>
-        ensures found { IfOk result (λ id. IsId id × (category.now ≡ id.name.category) × (pf.now ≡ name_and_version id)) }
-        ensures only { (id : Id) → IsId id → category.now ≡ id.name.category → pf.now ≡ name_and_version id → MatchResult result (λ r. r ≡ id) (λ e. e ≡ Memory) }
+        ensures found { IfOk result (λ id. IsId id × (category.now ≡ id.name.category) ×
+            (pf.now ≡ name_and_version id)) }
+        ensures only { (id : Id) → IsId id → category.now ≡ id.name.category →
+            pf.now ≡ name_and_version id → MatchResult result (λ r. r ≡ id) (λ e. e ≡ Memory) }
         ensures fault { IfErr result (FirstIdFault category.now pf.now) }
     {
         let category = match Category::parse(alloc, category) {

@@ -1,5 +1,7 @@
-ghost use Rattle.std.specs.Prelude.{◌≡◌, ◌++◌, ◌∷◌, [], ◌-◌, ◌≤◌, ◌<◌, ℕ, Bool, true, false, List, Option};
-ghost use Rattle.std.specs.Prelude.{length, slice_index, IfOk, IfErr, IfNone, IfSome, MatchOption, MatchResult};
+ghost use Rattle.std.specs.Prelude.{◌≡◌, ◌++◌, ◌∷◌, [], ◌-◌, ◌≤◌, ◌<◌, ℕ, Bool, true, false, List};
+ghost use Rattle.std.specs.Prelude.{Option};
+ghost use Rattle.std.specs.Prelude.{length, slice_index, IfOk, IfErr, IfNone, IfSome, MatchOption};
+ghost use Rattle.std.specs.Prelude.{MatchResult};
 ghost use Rattle.std.specs.List.{AllByRecursion};
 ghost use Rattle.pms_names.specs.Names.{IsName};
 ghost use Rattle.pms_names.specs.declared.kind.Kind.TheVariants as kinds;
@@ -57,9 +59,12 @@ pub(crate) fn take_op(text: &[u8]) -> (Op, &[u8])
 
 // Where the first of two bytes stands.
 fn first_of(text: &[u8], one: u8, other: u8) -> Option<usize>
-    ensures none { IfNone result ((k : ℕ) → k < length text.now → is_either one other (slice_index text.now k) ≡ false) }
-    ensures before { IfSome result (λ at. (k : ℕ) → k < at → is_either one other (slice_index text.now k) ≡ false) }
-    ensures found { IfSome result (λ at. (at < length text.now) × (is_either one other (slice_index text.now at) ≡ true)) }
+    ensures none { IfNone result ((k : ℕ) → k < length text.now →
+        is_either one other (slice_index text.now k) ≡ false) }
+    ensures before { IfSome result (λ at. (k : ℕ) → k < at →
+        is_either one other (slice_index text.now k) ≡ false) }
+    ensures found { IfSome result (λ at. (at < length text.now) ×
+        (is_either one other (slice_index text.now at) ≡ true)) }
 {
     text.iter().position(|b| *b == one || *b == other)
 }
@@ -79,7 +84,8 @@ pub(crate) fn split_before(text: &[u8], one: u8, other: u8) -> (&[u8], &[u8])
 
 /// What stands behind the byte, where the text begins with it.
 pub(crate) fn take_byte(text: &[u8], byte: u8) -> Option<&[u8]>
-    ensures { MatchOption result ((rest : List ℕ) → text.now ≡ byte ∷ rest → ⊥) (λ rest. text.now ≡ byte ∷ rest.now) }
+    ensures { MatchOption result ((rest : List ℕ) → text.now ≡ byte ∷ rest → ⊥)
+        (λ rest. text.now ≡ byte ∷ rest.now) }
 {
     if text.is_empty() || text[0] != byte {
         return None;
@@ -224,7 +230,10 @@ fn read_subslot(alloc: Global, text: &[u8]) -> Result<Option<SlotName>, AtomFaul
 fn read_given(alloc: Global, text: &[u8]) -> Result<SlotPart, AtomFault>
     ensures found { IfOk result (λ slot. 58 ∷ text.now ≡ slot_text slot) }
     ensures form { IfOk result IsSlotForm }
-    ensures only { (slot : List ℕ) (subslot : Option (List ℕ)) (equals : Bool) → IsName kinds.Slot slot → IsSubslotForm subslot → text.now ≡ slot ++ (subslot_text subslot ++ equals_text equals) → MatchResult result (λ r. r ≡ Given slot subslot equals) (λ e. e ≡ Memory) }
+    ensures only { (slot : List ℕ) (subslot : Option (List ℕ)) (equals : Bool) →
+        IsName kinds.Slot slot → IsSubslotForm subslot →
+        text.now ≡ slot ++ (subslot_text subslot ++ equals_text equals) →
+        MatchResult result (λ r. r ≡ Given slot subslot equals) (λ e. e ≡ Memory) }
     ensures fault { IfErr result IsSlotFault }
 {
     let (text, equals) = take_end(text, b'=');
@@ -268,7 +277,8 @@ pub(crate) fn read_slot(alloc: Global, text: &[u8]) -> Result<SlotPart, AtomFaul
 pub(crate) fn read_uses(alloc: Global, text: &[u8], total: usize) -> Result<Vec<UseDep>, AtomFault>
     ensures found { IfOk result (λ uses. text.now ≡ uses_text uses.items) }
     ensures form { IfOk result (λ uses. AllByRecursion IsUseForm uses.items) }
-    ensures only { (us : List Use) → AllByRecursion IsUseForm us → text.now ≡ uses_text us → MatchResult result (λ r. r.items ≡ us) (λ e. e ≡ Memory) }
+    ensures only { (us : List Use) → AllByRecursion IsUseForm us → text.now ≡ uses_text us →
+        MatchResult result (λ r. r.items ≡ us) (λ e. e ≡ Memory) }
     ensures fault { IfErr result (λ e. Starts 91 91 text.now → EndFault total text.now e) }
 {
     let Some(first) = take_byte(text, b'[') else {
@@ -310,7 +320,9 @@ fn read_first_use(alloc: Global, text: &[u8], total: usize) -> Result<(UseDep, &
     ensures found { IfOk result (λ r. text.now ≡ use_text r.0 ++ r.1.now) }
     ensures form { IfOk result (λ r. IsUseForm r.0) }
     ensures shorter { IfOk result (λ r. length r.1.now ≤ length text.now) }
-    ensures only { (u : Use) (rest : List ℕ) → IsUseForm u → Starts 44 93 rest → text.now ≡ use_text u ++ rest → MatchResult result (λ r. (r.0 ≡ u) × (r.1.now ≡ rest)) (λ e. e ≡ Memory) }
+    ensures only { (u : Use) (rest : List ℕ) → IsUseForm u → Starts 44 93 rest →
+        text.now ≡ use_text u ++ rest → MatchResult result (λ r. (r.0 ≡ u) × (r.1.now ≡ rest))
+        (λ e. e ≡ Memory) }
     ensures starts { IfOk result (λ r. Starts 44 93 r.1.now) }
     ensures fault { IfErr result (ItemFault (total - length text.now) text.now) }
 {
@@ -380,7 +392,8 @@ fn take_kind(text: &[u8], has_equals: bool, has_question: bool) -> (UseKind, &[u
 
 // Reads `(+)`, `(-)` or nothing.
 fn read_otherwise(text: &[u8]) -> Option<Option<bool>>
-    ensures { MatchOption result ((o : Option Bool) → text.now ≡ otherwise_text o → ⊥) (λ o. text.now ≡ otherwise_text o) }
+    ensures { MatchOption result ((o : Option Bool) → text.now ≡ otherwise_text o → ⊥)
+        (λ o. text.now ≡ otherwise_text o) }
 {
     match text {
         [] => Some(None),

@@ -90,7 +90,8 @@ impl SlotPart {
 
     /// Writes the slot part of an atom behind the text.
     pub(crate) fn write(&self, text: &mut String) -> Result<(), AllocError>
-        ensures { OnOk result (string_bytes text.new ≡ string_bytes text.old ++ slot_text self.now) }
+        ensures { OnOk result (string_bytes text.new ≡
+            string_bytes text.old ++ slot_text self.now) }
     {
         match self {
             SlotPart::Free => Ok(()),

@@ -1,6 +1,7 @@
 ghost use Rattle.std.specs.Prelude.{◌≡◌, ◌++◌, IfOk, OnOk, string_bytes};
 ghost use Rattle.dep_atom.specs.Match.{agrees, accepts_use};
-ghost use Rattle.dep_atom.specs.Text.{before_flag, after_flag, otherwise_text, further_use_text, use_text, uses_text};
+ghost use Rattle.dep_atom.specs.Text.{before_flag, after_flag, otherwise_text, further_use_text};
+ghost use Rattle.dep_atom.specs.Text.{use_text, uses_text};
 ghost use Rattle.std.specs.List.{flat_map};
 
 use crate::package::Facts;
@@ -96,7 +97,8 @@ pub(crate) fn write_uses(uses: &[UseDep], text: &mut String) -> Result<(), Alloc
 }
 
 fn write_others(others: &[UseDep], text: &mut String) -> Result<(), AllocError>
-    ensures { OnOk result (string_bytes text.new ≡ string_bytes text.old ++ flat_map further_use_text others.now) }
+    ensures { OnOk result (string_bytes text.new ≡
+        string_bytes text.old ++ flat_map further_use_text others.now) }
 {
     for item in others {
         text.push_str(",")?;

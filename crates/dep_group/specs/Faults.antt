@@ -1,4 +1,5 @@
--- The first fault of words that are no text of groups: what stands before is in order, and no more is.
+-- The first fault of words that are no text of groups: what stands before is in order, and no more
+-- is.
 use Rattle.std.specs.Prelude.{◌≡◌, ℕ, zero, suc, ◌+◌, ◌<◌, ◌≤◌, ◌⊎◌, ⊤, Bool, true, List, [], ◌∷◌, ◌++◌, length, take, drop}
 use Rattle.dep_group.specs.declared.token.Opener.{Opener}
 use Rattle.dep_group.specs.declared.token.Token.{Token}
@@ -51,7 +52,8 @@ BeginsGroup g [] = ⊥
 BeginsGroup g (w ∷ ws) = IsToken g w Opens ⊎ (IsOpenerWord g w × FirstIs g ws Opens)
 
 -- the word is a barred leaf, and those before it begin no text with it
-pub record IsBarredBehind {L : Type 0} (g : Grammar L) (barred : L → Bool) (front : WordList) (w : List ℕ) : Type 0 where
+pub record IsBarredBehind {L : Type 0} (g : Grammar L) (barred : L → Bool) (front : WordList)
+    (w : List ℕ) : Type 0 where
   pub leaf : L
   pub token : IsToken g w (Leaf leaf)
   pub is_barred : barred leaf ≡ true
@@ -68,16 +70,19 @@ IsParenthesis g start at [] = ⊥
 IsParenthesis g start at (w ∷ ws) =
     (IsToken g w Opens × (at ≡ start)) ⊎ (IsOpenerWord g w × (at ≡ start + 1))
 
--- the parenthesis at `at` opens the outermost of the groups that are open: before this group is a text
--- in form, and no longer beginning of the words is one
-pub record IsOutermost {L : Type 0} (g : Grammar L) (barred : L → Bool) (ws : WordList) (at : ℕ) : Type 0 where
+-- the parenthesis at `at` opens the outermost of the groups that are open: before this group is a
+-- text in form, and no longer beginning of the words is one
+pub record IsOutermost {L : Type 0} (g : Grammar L) (barred : L → Bool) (ws : WordList)
+    (at : ℕ) : Type 0 where
   pub start : ℕ
   pub before : IsText g barred (take start ws)
   pub last : (n : ℕ) → start < n → n ≤ length ws → ¬ IsText g barred (take n ws)
   pub place : IsParenthesis g start at (drop start ws)
 
--- why `back` can't stand behind words in order that leave so many groups open; memory may always run out
-abbrev pub Stops : {L : Type 0} → Grammar L → (L → Bool) → WordList → ℕ → WordList → GroupFault → Type 0
+-- why `back` can't stand behind words in order that leave so many groups open; memory may always
+-- run out
+abbrev pub Stops : {L : Type 0} → Grammar L → (L → Bool) → WordList → ℕ → WordList → GroupFault →
+    Type 0
 Stops g barred front unclosed back (fault.Leaf at) =
     (at ≡ length front) × (FirstIs g back Unknown ⊎ LacksGroup g back)
 Stops g barred front unclosed back (fault.NoSpace at) = (at ≡ length front) × FirstIs g back Glued
@@ -90,7 +95,8 @@ Stops g barred front unclosed back (fault.Open at) = (back ≡ []) × IsOutermos
 Stops g barred front unclosed back fault.Memory = ⊤
 
 -- the first fault of the words, from the left: they are in order up to `back`, and no further
-pub record FirstWordFault {L : Type 0} (g : Grammar L) (barred : L → Bool) (ws : WordList) (why : GroupFault) : Type 0 where
+pub record FirstWordFault {L : Type 0} (g : Grammar L) (barred : L → Bool) (ws : WordList)
+    (why : GroupFault) : Type 0 where
   pub front : WordList
   pub back : WordList
   pub whole : ws ≡ front ++ back

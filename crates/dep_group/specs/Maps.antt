@@ -28,8 +28,10 @@ token_map f g Glued = Glued
 token_map f g Unknown = Unknown
 
 abbrev pub opened_map : {J K L M : Type 0} → (J → K) → (L → M) → Opened J L → Opened K M
-opened_map f g o = record { opener = opener_map f o.opener; at = o.at; before = map (tree_map f g) o.before }
+opened_map f g o =
+    record { opener = opener_map f o.opener; at = o.at; before = map (tree_map f g) o.before }
 
-abbrev pub answer_map : {J K L M : Type 0} → (J → K) → (L → M) → Result (List (Tree J L)) GroupFault → Result (List (Tree K M)) GroupFault
+abbrev pub answer_map : {J K L M : Type 0} → (J → K) → (L → M) →
+    Result (List (Tree J L)) GroupFault → Result (List (Tree K M)) GroupFault
 answer_map f g (Ok ts) = Ok (map (tree_map f g) ts)
 answer_map f g (Err e) = Err e

@@ -23,10 +23,12 @@ is_parenthesis b = b == open_parenthesis || b == close_parenthesis
 abbrev pub stays_inside : Bool → ℕ → Bool
 stays_inside inside b = b == 91 || (inside && not (b == 93))
 
--- a parenthesis stands in the bytes outside square brackets, in which the values of unknown flags are written
+-- a parenthesis stands in the bytes outside square brackets, in which the values of unknown flags
+-- are written
 abbrev pub has_parenthesis : Bool → List ℕ → Bool
 has_parenthesis inside [] = false
-has_parenthesis inside (b ∷ bs) = (not inside && is_parenthesis b) || has_parenthesis (stays_inside inside b) bs
+has_parenthesis inside (b ∷ bs) =
+    (not inside && is_parenthesis b) || has_parenthesis (stays_inside inside b) bs
 
 -- a parenthesis stands in the word; where brackets keep what stands in them, outside of these
 abbrev pub is_glued : Bool → List ℕ → Bool

@@ -25,8 +25,8 @@ opener_shape ExactlyOne = shapes.ExactlyOne
 opener_shape AtMostOne = shapes.AtMostOne
 opener_shape (When flag on) = shapes.When on
 
--- what a grammar of groups fixes: its leaves, their texts, its flags, whether it has groups that count their members, and whether
--- brackets keep the parentheses in them
+-- what a grammar of groups fixes: its leaves, their texts, its flags, whether it has groups that
+-- count their members, and whether brackets keep the parentheses in them
 pub record Grammar (L : Type 0) : Type 1 where
   pub spell : L → List ℕ
   pub IsLeaf : L → Type 0
@@ -53,7 +53,8 @@ token_text g Unknown = []
 -- the word spells the token
 abbrev pub Spells : {L : Type 0} → Grammar L → List ℕ → Token (Opener (List ℕ)) L → Type 0
 Spells g word (Leaf a) = (word ≡ g.spell a) × g.IsLeaf a × (shape g.brackets word ≡ shapes.Item)
-Spells g word (Begins opener) = (word ≡ opener_text opener) × IsOpener g opener × (shape g.brackets word ≡ opener_shape opener)
+Spells g word (Begins opener) =
+    (word ≡ opener_text opener) × IsOpener g opener × (shape g.brackets word ≡ opener_shape opener)
 Spells g word Opens = shape g.brackets word ≡ shapes.Opens
 Spells g word Closes = shape g.brackets word ≡ shapes.Closes
 Spells g word Glued = ⊥
@@ -66,11 +67,13 @@ IsToken g word (Begins opener) = Spells g word (Begins opener)
 IsToken g word Opens = Spells g word Opens
 IsToken g word Closes = Spells g word Closes
 IsToken g word Glued = shape g.brackets word ≡ shapes.Glued
-IsToken g word Unknown = (shape g.brackets word ≡ shapes.Glued → ⊥) × ((token : Token (Opener (List ℕ)) _) → Spells g word token → ⊥)
+IsToken g word Unknown = (shape g.brackets word ≡ shapes.Glued → ⊥) ×
+    ((token : Token (Opener (List ℕ)) _) → Spells g word token → ⊥)
 
 -- the token is what the word is read as, and no other leaf is spelled so
 abbrev pub IsOnlyToken : {L : Type 0} → Grammar L → List ℕ → Token (Opener (List ℕ)) L → Type 0
-IsOnlyToken g word (Leaf a) = IsToken g word (Leaf a) × ((b : _) → g.IsLeaf b → word ≡ g.spell b → a ≡ b)
+IsOnlyToken g word (Leaf a) =
+    IsToken g word (Leaf a) × ((b : _) → g.IsLeaf b → word ≡ g.spell b → a ≡ b)
 IsOnlyToken g word (Begins opener) = IsToken g word (Begins opener)
 IsOnlyToken g word Opens = IsToken g word Opens
 IsOnlyToken g word Closes = IsToken g word Closes
@@ -78,18 +81,21 @@ IsOnlyToken g word Glued = IsToken g word Glued
 IsOnlyToken g word Unknown = IsToken g word Unknown
 
 -- the relation is between each word and its token
-abbrev pub EachWord : {L : Type 0} → (List ℕ → Token (Opener (List ℕ)) L → Type 0) → List (List ℕ) → List (Token (Opener (List ℕ)) L) → Type 0
+abbrev pub EachWord : {L : Type 0} → (List ℕ → Token (Opener (List ℕ)) L → Type 0) → List (List ℕ) →
+    List (Token (Opener (List ℕ)) L) → Type 0
 EachWord R [] [] = Unit {0}
 EachWord R (w ∷ ws) (t ∷ ts) = R w t × EachWord R ws ts
 EachWord R [] (t ∷ ts) = ⊥
 EachWord R (w ∷ ws) [] = ⊥
 
 -- each word with what it is read as
-abbrev pub AreTokens : {L : Type 0} → Grammar L → List (List ℕ) → List (Token (Opener (List ℕ)) L) → Type 0
+abbrev pub AreTokens : {L : Type 0} → Grammar L → List (List ℕ) → List (Token (Opener (List ℕ)) L) →
+    Type 0
 AreTokens g ws ts = EachWord (IsToken g) ws ts
 
 -- the same, where no other leaf is spelled as one of the words
-abbrev pub AreOnlyTokens : {L : Type 0} → Grammar L → List (List ℕ) → List (Token (Opener (List ℕ)) L) → Type 0
+abbrev pub AreOnlyTokens : {L : Type 0} → Grammar L → List (List ℕ) →
+    List (Token (Opener (List ℕ)) L) → Type 0
 AreOnlyTokens g ws ts = EachWord (IsOnlyToken g) ws ts
 
 -- a group has no opener, or one of the grammar's
@@ -111,8 +117,10 @@ abbrev mutual
 abbrev pub tree_words : {L : Type 0} → Grammar L → Trees (Opener (List ℕ)) L → List (List ℕ)
 tree_words g ts = map (token_text g) (all_tokens ts [])
 
--- the trees are in form: each of their words spells its token, no leaf is deeper than 64 groups, and no barred leaf stands in an any-of group
-pub record IsInForm {L : Type 0} (g : Grammar L) (barred : L → Bool) (ts : Trees (Opener (List ℕ)) L) : Type 0 where
+-- the trees are in form: each of their words spells its token, no leaf is deeper than 64 groups,
+-- and no barred leaf stands in an any-of group
+pub record IsInForm {L : Type 0} (g : Grammar L) (barred : L → Bool)
+    (ts : Trees (Opener (List ℕ)) L) : Type 0 where
   pub spelled : AreTokens g (tree_words g ts) (all_tokens ts [])
   pub words : list_all is_word (tree_words g ts) ≡ true
   pub low : all_depth ts ≤ 64

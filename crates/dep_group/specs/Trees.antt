@@ -3,7 +3,8 @@ use Rattle.std.specs.Prelude.{ℕ, ◌+◌, Bool, true, false, not, if◌then◌
 use Rattle.dep_group.specs.declared.token.Opener.{Opener}
 use Rattle.dep_group.specs.declared.token.Opener.TheVariants.{AnyOf, ExactlyOne, AtMostOne, When}
 
--- a leaf, or a group of trees, where the openers of groups are of any kind; a group with no opener wants all its members
+-- a leaf, or a group of trees, where the openers of groups are of any kind; a group with no opener
+-- wants all its members
 mutual
   pub data Tree (K L : Type 0) : Type 0 where
     leaf : L → Tree K L
@@ -29,14 +30,16 @@ counts_as_member has ExactlyOne = true
 counts_as_member has AtMostOne = true
 counts_as_member has (When flag on) = is_met has flag on
 
--- the truth of a group, where `all` says whether each of its trees holds, and `count` is how many members hold
+-- the truth of a group, where `all` says whether each of its trees holds, and `count` is how many
+-- members hold
 abbrev pub group_holds : {F : Type 0} → (F → Bool) → Opener F → Bool → ℕ → Bool
 group_holds has AnyOf all count = nat_lt 0 count
 group_holds has ExactlyOne all count = count == 1
 group_holds has AtMostOne all count = nat_le count 1
 group_holds has (When flag on) all count = not (is_met has flag on) || all
 
--- the tree is a member of the group around it; `kind` says what an opener opens, and `has` which flags are on
+-- the tree is a member of the group around it; `kind` says what an opener opens, and `has` which
+-- flags are on
 abbrev pub is_member : {F K L : Type 0} → (K → Opener F) → (F → Bool) → Tree K L → Bool
 is_member kind has (leaf a) = true
 is_member kind has (group None ts) = true
@@ -47,7 +50,8 @@ abbrev mutual
   pub holds : {F K L : Type 0} → (K → Opener F) → (L → Bool) → (F → Bool) → Tree K L → Bool
   holds kind fact has (leaf a) = fact a
   holds kind fact has (group None ts) = all_hold kind fact has ts
-  holds kind fact has (group (Some opener) ts) = group_holds has (kind opener) (all_hold kind fact has ts) (true_members kind fact has ts)
+  holds kind fact has (group (Some opener) ts) =
+      group_holds has (kind opener) (all_hold kind fact has ts) (true_members kind fact has ts)
 
   -- each of the trees holds
   pub all_hold : {F K L : Type 0} → (K → Opener F) → (L → Bool) → (F → Bool) → Trees K L → Bool
@@ -57,14 +61,17 @@ abbrev mutual
   -- how many members hold
   pub true_members : {F K L : Type 0} → (K → Opener F) → (L → Bool) → (F → Bool) → Trees K L → ℕ
   true_members kind fact has no_trees = 0
-  true_members kind fact has (tree t ts) = (if is_member kind has t && holds kind fact has t then 1 else 0) + true_members kind fact has ts
+  true_members kind fact has (tree t ts) =
+      (if is_member kind has t &&
+      holds kind fact has t then 1 else 0) + true_members kind fact has ts
 
 -- the leaves that no unmet condition excludes, in the order in which they are written
 abbrev mutual
   pub leaves : {F K L : Type 0} → (K → Opener F) → (F → Bool) → Tree K L → List L
   leaves kind has (leaf a) = a ∷ []
   leaves kind has (group None ts) = all_leaves kind has ts
-  leaves kind has (group (Some opener) ts) = if counts_as_member has (kind opener) then all_leaves kind has ts else []
+  leaves kind has (group (Some opener) ts) =
+      if counts_as_member has (kind opener) then all_leaves kind has ts else []
 
   pub all_leaves : {F K L : Type 0} → (K → Opener F) → (F → Bool) → Trees K L → List L
   all_leaves kind has no_trees = []
@@ -92,12 +99,15 @@ abbrev pub opens_any : {K : Type 0} → (K → Bool) → Option K → Bool
 opens_any any_of None = false
 opens_any any_of (Some opener) = any_of opener
 
--- no barred leaf stands inside an any-of group, at any depth; `inside` says whether the tree itself stands in one
+-- no barred leaf stands inside an any-of group, at any depth; `inside` says whether the tree itself
+-- stands in one
 abbrev mutual
   pub is_free : {K L : Type 0} → (K → Bool) → (L → Bool) → Bool → Tree K L → Bool
   is_free any_of barred inside (leaf a) = not (inside && barred a)
-  is_free any_of barred inside (group opener ts) = all_free any_of barred (opens_any any_of opener || inside) ts
+  is_free any_of barred inside (group opener ts) =
+      all_free any_of barred (opens_any any_of opener || inside) ts
 
   pub all_free : {K L : Type 0} → (K → Bool) → (L → Bool) → Bool → Trees K L → Bool
   all_free any_of barred inside no_trees = true
-  all_free any_of barred inside (tree t ts) = is_free any_of barred inside t && all_free any_of barred inside ts
+  all_free any_of barred inside (tree t ts) =
+      is_free any_of barred inside t && all_free any_of barred inside ts

@@ -15,7 +15,8 @@ abbrev pub begins_word : List ℕ → Bool
 begins_word [] = false
 begins_word (b ∷ bs) = not (is_blank b)
 
--- the byte before a text with these words: in front of its first word where that follows at once, else a word of its own
+-- the byte before a text with these words: in front of its first word where that follows at once,
+-- else a word of its own
 abbrev pub with_letter : ℕ → ℕ → Bool → List Spot → List Spot
 with_letter at b true (w ∷ ws) = record { at = at; bytes = b ∷ w.bytes } ∷ ws
 with_letter at b true [] = record { at = at; bytes = b ∷ [] } ∷ []
@@ -24,7 +25,8 @@ with_letter at b false ws = record { at = at; bytes = b ∷ [] } ∷ ws
 -- the words of a text whose first byte stands at `at`
 abbrev pub words : ℕ → List ℕ → List Spot
 words at [] = []
-words at (b ∷ bs) = if is_blank b then words (at + 1) bs else with_letter at b (begins_word bs) (words (at + 1) bs)
+words at (b ∷ bs) =
+    if is_blank b then words (at + 1) bs else with_letter at b (begins_word bs) (words (at + 1) bs)
 
 -- what the words say, without their places
 abbrev pub texts : List Spot → List (List ℕ)
@@ -60,4 +62,5 @@ spaced ws = spaced_after [] ws
 
 -- the word from `start` to `end`, where these bytes have some
 abbrev pub word_between : List ℕ → ℕ → ℕ → List Spot
-word_between text start end = if nat_lt start end then record { at = start; bytes = slice_range text start end } ∷ [] else []
+word_between text start end =
+    if nat_lt start end then record { at = start; bytes = slice_range text start end } ∷ [] else []

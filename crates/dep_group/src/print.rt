@@ -6,7 +6,8 @@ use std::alloc::AllocError;
 /// Adds a word, which the three parts make together, with a space before it where something stands
 /// before it.
 pub fn push_word(out: &mut String, before: &str, text: &str, after: &str) -> Result<(), AllocError>
-    ensures { OnOk result (string_bytes out.new ≡ and_space (string_bytes out.old) ++ (before.now ++ (text.now ++ after.now))) }
+    ensures { OnOk result (string_bytes out.new ≡
+        and_space (string_bytes out.old) ++ (before.now ++ (text.now ++ after.now))) }
 {
     push_space(out)?;
     out.push_str(before)?;

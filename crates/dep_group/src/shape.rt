@@ -1,6 +1,7 @@
 ghost use Rattle.std.specs.List.{list_any};
 ghost use Rattle.std.specs.Prelude.{◌≡◌, false};
-ghost use Rattle.dep_group.specs.Shapes.{IsCondition, asks, condition, denies, has_parenthesis, is_glued, is_parenthesis, shape, stays_inside};
+ghost use Rattle.dep_group.specs.Shapes.{IsCondition, asks, condition, denies, has_parenthesis};
+ghost use Rattle.dep_group.specs.Shapes.{is_glued, is_parenthesis, shape, stays_inside};
 
 /// What a word is to a text of groups.
 #[derive(Debug, Drop, Clone, Copy, PartialEq, Eq)]

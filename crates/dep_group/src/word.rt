@@ -38,7 +38,8 @@ fn push_word<'a>(
     requires order { start ≤ end }
     requires from { IsCharBoundary text.now start }
     requires to { IsCharBoundary text.now end }
-    ensures { OnOk result (map spot found.new.items ≡ map spot found.old.items ++ word_between text.now start end) }
+    ensures { OnOk result (map spot found.new.items ≡
+        map spot found.old.items ++ word_between text.now start end) }
 {
     if start < end {
         found.push(Word {

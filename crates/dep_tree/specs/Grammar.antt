@@ -19,7 +19,8 @@ IsFlag flag = IsName kinds.Flag flag
 
 -- leaves are atoms, which may have brackets, and no group counts its members
 abbrev pub grammar : Grammar AtomValue
-grammar = record { spell = value_text; IsLeaf = IsAtomValue; IsFlag = IsFlag; counts = false; brackets = true }
+grammar =
+    record { spell = value_text; IsLeaf = IsAtomValue; IsFlag = IsFlag; counts = false; brackets = true }
 
 abbrev pub blocks : Block → Bool
 blocks No = false
@@ -36,7 +37,8 @@ blocks_as_atom atom = is_block (atom_value atom)
 abbrev pub begins_any_of : DepOpener → Bool
 begins_any_of opener = is_any_of (kind_of opener)
 
--- atoms in all-of, any-of and conditional groups, at most 64 in one another, where no block is inside an any-of group
+-- atoms in all-of, any-of and conditional groups, at most 64 in one another, where no block is
+-- inside an any-of group
 pub record AreAtomsInGroups (x : Trees (Opener (List ℕ)) AtomValue) : Type 0 where
   pub made : AreMadeOf grammar x
   pub low : all_depth x ≤ 64

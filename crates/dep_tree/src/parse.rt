@@ -18,7 +18,8 @@ use std::alloc::{AllocError, Global};
 /// The dependencies that the text is.
 pub fn read(alloc: Global, text: &str) -> Result<Vec<Node>, TreeTextFault>
     ensures found { IfOk result (λ nodes. Writes text.now (trees_view nodes.items)) }
-    ensures only { (x : Dependencies) → Writes text.now x → MatchResult result (λ nodes. trees_view nodes.items ≡ x) IsMemory }
+    ensures only { (x : Dependencies) → Writes text.now x →
+        MatchResult result (λ nodes. trees_view nodes.items ≡ x) IsMemory }
     ensures fault { IfErr result (FirstFault text.now) }
 {
     let words = match words(alloc, text) {
@@ -60,7 +61,8 @@ fn placed(words: &[Word], fault: GroupFault) -> TreeTextFault
 }
 
 fn tokens(alloc: Global, words: &[Word]) -> Result<Vec<Token<DepOpener, Atom>>, AllocError>
-    ensures { IfOk result (λ v. AreOnlyTokens grammar (texts (map spot words.now)) (map token_view v.items)) }
+    ensures { IfOk result (λ v.
+        AreOnlyTokens grammar (texts (map spot words.now)) (map token_view v.items)) }
 {
     let mut tokens = Vec::new(alloc);
     for word in words {
@@ -106,7 +108,8 @@ fn atom(alloc: Global, word: &str) -> Result<Token<DepOpener, Atom>, AllocError>
 
 /// The flag that the text is, if it is one.
 fn flag(alloc: Global, text: &str) -> Result<Option<Flag>, AllocError>
-    ensures { IfOk result (λ found. MatchOption found (IsFlag text.now → ⊥) (λ flag. (flag ≡ text.now) × IsFlag text.now)) }
+    ensures { IfOk result (λ found.
+        MatchOption found (IsFlag text.now → ⊥) (λ flag. (flag ≡ text.now) × IsFlag text.now)) }
 {
     match Flag::parse(alloc, text) {
         Ok(flag) => Ok(Some(flag)),

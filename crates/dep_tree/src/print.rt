@@ -25,7 +25,8 @@ pub fn print(alloc: Global, nodes: &[Node]) -> Result<String, AllocError>
 
 #[cycle(print)]
 fn push_all(alloc: Global, nodes: &[Node], out: &mut String) -> Result<(), AllocError>
-    ensures { OnOk result (Adds (string_bytes out.old) (string_bytes out.new) (all_tokens (trees_view nodes.now))) }
+    ensures { OnOk result (Adds (string_bytes out.old) (string_bytes out.new)
+        (all_tokens (trees_view nodes.now))) }
 {
     for node in nodes {
         push(alloc, node, out)?;
@@ -35,7 +36,8 @@ fn push_all(alloc: Global, nodes: &[Node], out: &mut String) -> Result<(), Alloc
 
 #[cycle(print)]
 fn push_group(alloc: Global, nodes: &[Node], out: &mut String) -> Result<(), AllocError>
-    ensures { OnOk result (Adds (string_bytes out.old) (string_bytes out.new) (group_tokens (trees_view nodes.now))) }
+    ensures { OnOk result (Adds (string_bytes out.old) (string_bytes out.new)
+        (group_tokens (trees_view nodes.now))) }
 {
     push_word(out, "", "(", "")?;
     push_all(alloc, nodes, out)?;
@@ -45,7 +47,8 @@ fn push_group(alloc: Global, nodes: &[Node], out: &mut String) -> Result<(), All
 
 #[cycle(print)]
 fn push(alloc: Global, node: &Node, out: &mut String) -> Result<(), AllocError>
-    ensures { OnOk result (Adds (string_bytes out.old) (string_bytes out.new) (tokens (view node.now))) }
+    ensures { OnOk result (Adds (string_bytes out.old) (string_bytes out.new)
+        (tokens (view node.now))) }
 {
     match node {
         Node::Leaf(atom) => {
@@ -70,7 +73,8 @@ fn push(alloc: Global, node: &Node, out: &mut String) -> Result<(), AllocError>
 }
 
 fn push_atom(alloc: Global, atom: &Atom, out: &mut String) -> Result<(), AllocError>
-    ensures { OnOk result (string_bytes out.new ≡ and_space (string_bytes out.old) ++ value_text (atom_value atom.now)) }
+    ensures { OnOk result (string_bytes out.new ≡
+        and_space (string_bytes out.old) ++ value_text (atom_value atom.now)) }
 {
     let text = atom.print(alloc)?;
     push_word(out, "", text.as_str(), "")?;
@@ -78,7 +82,8 @@ fn push_atom(alloc: Global, atom: &Atom, out: &mut String) -> Result<(), AllocEr
 }
 
 fn push_condition(flag: &Flag, on: bool, out: &mut String) -> Result<(), AllocError>
-    ensures { OnOk result (string_bytes out.new ≡ and_space (string_bytes out.old) ++ condition flag.now on) }
+    ensures { OnOk result (string_bytes out.new ≡
+        and_space (string_bytes out.old) ++ condition flag.now on) }
 {
     if on {
         push_word(out, "", flag.text(), "?")?;

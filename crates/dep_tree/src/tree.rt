@@ -1,6 +1,8 @@
-ghost use Rattle.std.specs.Prelude.{◌≡◌, ◌++◌, ◌↔◌, IfErr, IfOk, List, MatchResult, OnOk, map, nat_lt, string_bytes, ℕ};
+ghost use Rattle.std.specs.Prelude.{◌≡◌, ◌++◌, ◌↔◌, IfErr, IfOk, List, MatchResult, OnOk, map};
+ghost use Rattle.std.specs.Prelude.{nat_lt, string_bytes, ℕ};
 ghost use Rattle.dep_atom.specs.Values.{atom_value};
-ghost use Rattle.dep_group.specs.Trees.{all_hold, all_leaves, group, holds, is_member, is_met, leaves, true_members, trees_of};
+ghost use Rattle.dep_group.specs.Trees.{all_hold, all_leaves, group, holds, is_member, is_met};
+ghost use Rattle.dep_group.specs.Trees.{leaves, true_members, trees_of};
 ghost use Rattle.dep_group.specs.Tokens.{IsInForm};
 ghost use Rattle.pms_names.specs.Flags.{has};
 ghost use Rattle.dep_tree.specs.Faults.{FirstFault, HasFault, IsMemory};
@@ -50,7 +52,8 @@ impl DepTree {
     /// a fault at the end.
     pub fn parse(alloc: Global, text: &str) -> Result<DepTree, TreeTextFault>
         ensures found { IfOk result (λ t. Writes text.now (trees t)) }
-        ensures only { (x : Dependencies) → Writes text.now x → MatchResult result (λ t. trees t ≡ x) IsMemory }
+        ensures only { (x : Dependencies) → Writes text.now x →
+            MatchResult result (λ t. trees t ≡ x) IsMemory }
         ensures fault { IfErr result (FirstFault text.now) }
     {
         match parse::read(alloc, text) {
@@ -68,14 +71,16 @@ impl DepTree {
 
     /// Whether all hold with these packages, of an asker with these flags. A block holds here.
     pub fn holds<P: Present>(&self, present: &P, asker: &Flags) -> bool
-        ensures { result ≡ all_hold kind (is_fact (P.facts present.now) asker.now) (has asker.now) (trees self.now) }
+        ensures { result ≡ all_hold kind (is_fact (P.facts present.now) asker.now) (has asker.now)
+            (trees self.now) }
     {
         all_hold(&self.nodes, present, asker)
     }
 
     /// The atoms that no unmet condition excludes, in the order in which they are written.
     pub fn leaves(&self, alloc: Global, asker: &Flags) -> Result<Vec<&Atom>, AllocError>
-        ensures { IfOk result (λ v. map (λ atom. atom_value atom.now) v.items ≡ all_leaves kind (has asker.now) (trees self.now)) }
+        ensures { IfOk result (λ v. map (λ atom. atom_value atom.now) v.items ≡
+            all_leaves kind (has asker.now) (trees self.now)) }
     {
         let mut out = Vec::new(alloc);
         push_all_leaves(&self.nodes, asker, &mut out)?;
@@ -104,7 +109,8 @@ pub fn trees_in_form_are_atoms_in_groups()
 
 /// A law: but for want of memory a text has one fault at most, and dependencies have none.
 pub fn one_fault()
-    ensures once { (text : List ℕ) (a b : TreeTextFault) → HasFault text a → HasFault text b → a ≡ b }
+    ensures once { (text : List ℕ) (a b : TreeTextFault) → HasFault text a → HasFault text b →
+        a ≡ b }
     ensures none { (text : List ℕ) (a : TreeTextFault) → AreDependencies text → ¬ HasFault text a }
 {}
 
@@ -112,7 +118,8 @@ impl Node {
     /// Whether it holds with these packages, of an asker with these flags. A block holds here.
     #[cycle(holds)]
     pub fn holds<P: Present>(&self, present: &P, asker: &Flags) -> bool
-        ensures { result ≡ holds kind (is_fact (P.facts present.now) asker.now) (has asker.now) (view self.now) }
+        ensures { result ≡ holds kind (is_fact (P.facts present.now) asker.now) (has asker.now)
+            (view self.now) }
     {
         match self {
             Node::Leaf(atom) => is_fact(atom, present, asker),
@@ -127,7 +134,8 @@ impl Node {
 
 #[cycle(holds)]
 fn all_hold<P: Present>(nodes: &[Node], present: &P, asker: &Flags) -> bool
-    ensures { result ≡ all_hold kind (is_fact (P.facts present.now) asker.now) (has asker.now) (trees_view nodes.now) }
+    ensures { result ≡ all_hold kind (is_fact (P.facts present.now) asker.now) (has asker.now)
+        (trees_view nodes.now) }
 {
     for node in nodes {
         if !node.holds(present, asker) {
@@ -139,7 +147,9 @@ fn all_hold<P: Present>(nodes: &[Node], present: &P, asker: &Flags) -> bool
 
 #[cycle(holds)]
 fn some_member_holds<P: Present>(nodes: &[Node], present: &P, asker: &Flags) -> bool
-    ensures { result ≡ nat_lt 0 (true_members kind (is_fact (P.facts present.now) asker.now) (has asker.now) (trees_view nodes.now)) }
+    ensures { result ≡ nat_lt 0
+        (true_members kind (is_fact (P.facts present.now) asker.now) (has asker.now)
+        (trees_view nodes.now)) }
 {
     for node in nodes {
         if is_member(node, asker) && node.holds(present, asker) {
@@ -181,7 +191,9 @@ fn is_met(asker: &Flags, flag: &Flag, on: bool) -> bool
 
 #[cycle(leaves)]
 fn push_leaves<'a>(node: &'a Node, asker: &Flags, out: &mut Vec<&'a Atom>) -> Result<(), AllocError>
-    ensures { OnOk result (map (λ atom. atom_value atom.now) out.new.items ≡ map (λ atom. atom_value atom.now) out.old.items ++ leaves kind (has asker.now) (view node.now)) }
+    ensures { OnOk result (map (λ atom. atom_value atom.now) out.new.items ≡
+        map (λ atom. atom_value atom.now) out.old.items ++
+        leaves kind (has asker.now) (view node.now)) }
 {
     match node {
         Node::Leaf(atom) => {
@@ -211,7 +223,9 @@ fn push_all_leaves<'a>(
     asker: &Flags,
     out: &mut Vec<&'a Atom>,
 ) -> Result<(), AllocError>
-    ensures { OnOk result (map (λ atom. atom_value atom.now) out.new.items ≡ map (λ atom. atom_value atom.now) out.old.items ++ all_leaves kind (has asker.now) (trees_view nodes.now)) }
+    ensures { OnOk result (map (λ atom. atom_value atom.now) out.new.items ≡
+        map (λ atom. atom_value atom.now) out.old.items ++
+        all_leaves kind (has asker.now) (trees_view nodes.now)) }
 {
     for node in nodes {
         push_leaves(node, asker, out)?;

@@ -25,7 +25,8 @@ use Rattle.emerge_run.specs.declared.status.Reason.TheVariants.{NotMatched}
 use Rattle.emerge_run.specs.declared.status.Status.{Status}
 use Rattle.emerge_run.specs.declared.status.Status.TheVariants as status
 
--- each candidate of the atom's name has its entry in the one form that is read, and no package is installed
+-- each candidate of the atom's name has its entry in the one form that is read, and no package is
+-- installed
 pub record IsBare (m : Map) (a : AtomValue) : Type 0 where
   pub read : HasOddEntry m a.name → ⊥
   pub empty : HasBelow m database_path → ⊥
@@ -45,7 +46,8 @@ pub record IsMet (m : Map) (a : AtomValue) : Type 0 where
 abbrev pub not_matched : Facts → PackageId × Reason
 not_matched f = (f.id, NotMatched)
 
--- no package is installed, and the atom matches no candidate: these are all of them, the greatest version first, each with its reason
+-- no package is installed, and the atom matches no candidate: these are all of them, the greatest
+-- version first, each with its reason
 pub record HasNone (m : Map) (a : AtomValue) (reasons : List (PackageId × Reason)) : Type 0 where
   pub bare : IsBare m a
   pub offers : List Facts
@@ -72,17 +74,22 @@ Refuses m a Database = (HasOddEntry m a.name → ⊥) × (HasBelow m database_pa
 Refuses m a Journal = ⊥
 Refuses m a Image = ⊥
 
--- the answer of a run for this atom over a recovered tree and this image: each part that is not built comes exactly where it is the
--- first that is refused; Ok means that nothing is, and that the chosen package is merged or one that the atom matches was there. A
--- failure or want of memory may come in place of any of them.
+-- the answer of a run for this atom over a recovered tree and this image: each part that is not
+-- built comes exactly where it is the first that is refused; Ok means that nothing is, and that the
+-- chosen package is merged or one that the atom matches was there. A failure or want of memory may
+-- come in place of any of them.
 abbrev pub AsksFor : AtomValue → Map → (Order → List Entry) → Status → Type 0
-AsksFor a m image (status.Ok groups) = ((f : Facts) × IsReady m a f × (FitsImage m (image (order_of f)) × (groups ≡ 1))) ⊎ (((HasOddEntry m a.name → ⊥) × IsMet m a) × (groups ≡ 0))
+AsksFor a m image (status.Ok groups) =
+    ((f : Facts) × IsReady m a f × (FitsImage m (image (order_of f)) × (groups ≡ 1))) ⊎
+    (((HasOddEntry m a.name → ⊥) × IsMet m a) × (groups ≡ 0))
 AsksFor a m image status.Usage = ⊥
 AsksFor a m image (status.NotBuilt Journal) = ⊥
 AsksFor a m image (status.NotBuilt Repository) = Refuses m a Repository
 AsksFor a m image (status.NotBuilt Database) = Refuses m a Database
-AsksFor a m image (status.NotBuilt Image) = (f : Facts) × IsReady m a f × (FitsImage m (image (order_of f)) → ⊥)
-AsksFor a m image (status.NoCandidate atom reasons) = (atom_value atom ≡ a) × HasNone m a reasons.items
+AsksFor a m image (status.NotBuilt Image) =
+    (f : Facts) × IsReady m a f × (FitsImage m (image (order_of f)) → ⊥)
+AsksFor a m image (status.NoCandidate atom reasons) =
+    (atom_value atom ≡ a) × HasNone m a reasons.items
 AsksFor a m image (status.BuildFailed id) = (f : Facts) × IsReady m a f × (id ≡ f.id)
 AsksFor a m image status.DeviceFault = Unit {0}
 AsksFor a m image status.OutputFault = Unit {0}
@@ -90,19 +97,25 @@ AsksFor a m image status.Memory = Unit {0}
 
 -- the same, for the atom of the words and what recovery makes of a tree
 abbrev pub AsksAfter : List (List ℕ) → Map → (Order → List Entry) → Status → Type 0
-AsksAfter words opening image s = (a : AtomValue) × IsRequest words a × ((m : Map) × IsRecovered opening m × AsksFor a m image s)
+AsksAfter words opening image s =
+    (a : AtomValue) × IsRequest words a × ((m : Map) × IsRecovered opening m × AsksFor a m image s)
 
--- The answer of a run over this tree and this image. Usage comes exactly where the words are no command, and the journal is refused
--- exactly where it is broken.
+-- The answer of a run over this tree and this image. Usage comes exactly where the words are no
+-- command, and the journal is refused exactly where it is broken.
 abbrev pub Asks : List (List ℕ) → Map → (Order → List Entry) → Status → Type 0
 Asks words opening image (status.Ok groups) = AsksAfter words opening image (status.Ok groups)
 Asks words opening image status.Usage = IsCommand words → ⊥
 Asks words opening image (status.NotBuilt Journal) = IsCommand words × IsBroken opening
-Asks words opening image (status.NotBuilt Repository) = AsksAfter words opening image (status.NotBuilt Repository)
-Asks words opening image (status.NotBuilt Database) = AsksAfter words opening image (status.NotBuilt Database)
-Asks words opening image (status.NotBuilt Image) = AsksAfter words opening image (status.NotBuilt Image)
-Asks words opening image (status.NoCandidate atom reasons) = AsksAfter words opening image (status.NoCandidate atom reasons)
-Asks words opening image (status.BuildFailed id) = AsksAfter words opening image (status.BuildFailed id)
+Asks words opening image (status.NotBuilt Repository) =
+    AsksAfter words opening image (status.NotBuilt Repository)
+Asks words opening image (status.NotBuilt Database) =
+    AsksAfter words opening image (status.NotBuilt Database)
+Asks words opening image (status.NotBuilt Image) =
+    AsksAfter words opening image (status.NotBuilt Image)
+Asks words opening image (status.NoCandidate atom reasons) =
+    AsksAfter words opening image (status.NoCandidate atom reasons)
+Asks words opening image (status.BuildFailed id) =
+    AsksAfter words opening image (status.BuildFailed id)
 Asks words opening image status.DeviceFault = Unit {0}
 Asks words opening image status.OutputFault = Unit {0}
 Asks words opening image status.Memory = Unit {0}

@@ -25,7 +25,8 @@ pub record IsAtRest (d : Disk) : Type 0 where
   pub untouched : IsUntouched d
   pub bare : HasBelow d.holds jobs → ⊥
 
--- no gate is open over a map that has nothing below the journal's folder: a crash recovers to that map
+-- no gate is open over a map that has nothing below the journal's folder: a crash recovers to that
+-- map
 pub record IsClosed (m : Map) (d : Disk) : Type 0 where
   pub shut : IsShut m d
   pub bare : HasBelow m jobs → ⊥
@@ -34,9 +35,11 @@ pub record IsClosed (m : Map) (d : Disk) : Type 0 where
 abbrev pub RecoversToEither : List Entry → Map → Map → Type 0
 RecoversToEither es m c = IsRecovered c m ⊎ IsRecovered c (with_files es m)
 
--- from some moment on each crash recovers to the map with the files; until then, to that map or to the one without them
+-- from some moment on each crash recovers to the map with the files; until then, to that map or to
+-- the one without them
 abbrev pub GetsFiles : List Entry → Map → Story → Story → Type 0
-GetsFiles es m old new = (mid : Story) × Since (RecoversToEither es m) old mid × Since (λ c. IsRecovered c (with_files es m)) mid new
+GetsFiles es m old new = (mid : Story) × Since (RecoversToEither es m) old mid ×
+    Since (λ c. IsRecovered c (with_files es m)) mid new
 
 -- what a group of these files leaves, by whether it stands in the history; where it doesn't, only
 -- a device's fault may leave it half done
@@ -51,7 +54,8 @@ pub record HasFiles (es : List Entry) (m : Map) (d : Disk) : Type 0 where
 
 -- the files of the package that the atom chooses in this map, where no package is installed; its
 -- image is the one told, and fits
-pub record IsAdded (a : AtomValue) (image : Order → List Entry) (m : Map) (es : List Entry) : Type 0 where
+pub record IsAdded (a : AtomValue) (image : Order → List Entry) (m : Map)
+    (es : List Entry) : Type 0 where
   pub facts : Facts
   pub ready : IsReady m a facts
   pub entry : Entry
@@ -61,14 +65,18 @@ pub record IsAdded (a : AtomValue) (image : Order → List Entry) (m : Map) (es 
 
 -- an image recovers to the map, or to the map with the package
 abbrev pub RecoversTo : AtomValue → (Order → List Entry) → Map → Map → Type 0
-RecoversTo a image m c = IsRecovered c m ⊎ ((es : List Entry) × IsAdded a image m es × IsRecovered c (with_files es m))
+RecoversTo a image m c =
+    IsRecovered c m ⊎ ((es : List Entry) × IsAdded a image m es × IsRecovered c (with_files es m))
 
 -- what a run for an atom leaves, by the groups of its history and its status
 abbrev pub RanTo : AtomValue → (Order → List Entry) → List ℕ → Status → Story → Story → Type 0
-RanTo a image [] s old new = s ≢ status.DeviceFault → Leaves (λ c. IsRecovered c old.now.holds) new.now
-RanTo a image (g ∷ gs) s old new = (es : List Entry) × IsAdded a image old.now.holds es × GetsFiles es old.now.holds old new
+RanTo a image [] s old new =
+    s ≢ status.DeviceFault → Leaves (λ c. IsRecovered c old.now.holds) new.now
+RanTo a image (g ∷ gs) s old new =
+    (es : List Entry) × IsAdded a image old.now.holds es × GetsFiles es old.now.holds old new
 
--- the disk reads as the map, with the package where a group was merged, and a crash leaves just that
+-- the disk reads as the map, with the package where a group was merged, and a crash leaves just
+-- that
 abbrev pub EndsWith : AtomValue → (Order → List Entry) → ℕ → Map → Disk → Type 0
 EndsWith a image zero m d = HasFiles [] m d
 EndsWith a image (suc n) m d = (es : List Entry) × IsAdded a image m es × HasFiles es m d
@@ -87,16 +95,21 @@ IsKept d c = IsImage d c ⊎ RecoversAlike d.holds c
 
 -- an image recovers to what the disk recovers to, with the package that the atom chooses there
 abbrev pub RecoversWith : AtomValue → (Order → List Entry) → Disk → Map → Type 0
-RecoversWith a image d c = (m : Map) × IsRecovered d.holds m × ((es : List Entry) × IsAdded a image m es × IsRecovered c (with_files es m))
+RecoversWith a image d c = (m : Map) × IsRecovered d.holds m ×
+    ((es : List Entry) × IsAdded a image m es × IsRecovered c (with_files es m))
 
--- an image is one of the disk, or recovers to what the disk recovers to, without or with the package of the words
+-- an image is one of the disk, or recovers to what the disk recovers to, without or with the
+-- package of the words
 abbrev pub IsBeforeOrAfter : List (List ℕ) → (Order → List Entry) → Disk → Map → Type 0
-IsBeforeOrAfter words image d c = IsKept d c ⊎ ((a : AtomValue) × IsRequest words a × RecoversWith a image d c)
+IsBeforeOrAfter words image d c =
+    IsKept d c ⊎ ((a : AtomValue) × IsRequest words a × RecoversWith a image d c)
 
 -- from some moment on each crash recovers to the recovered tree with the package of the words
 abbrev pub GetsPackage : List (List ℕ) → (Order → List Entry) → Story → Story → Type 0
-GetsPackage words image old new = (a : AtomValue) × IsRequest words a × ((m : Map) × IsRecovered old.now.holds m × ((es : List Entry) × IsAdded a image m es
-    × ((mid : Story) × Since (IsBeforeOrAfter words image old.now) old mid × Since (λ c. IsRecovered c (with_files es m)) mid new)))
+GetsPackage words image old new = (a : AtomValue) × IsRequest words a ×
+    ((m : Map) × IsRecovered old.now.holds m × ((es : List Entry) × IsAdded a image m es
+    × ((mid : Story) × Since (IsBeforeOrAfter words image old.now) old mid ×
+    Since (λ c. IsRecovered c (with_files es m)) mid new)))
 
 -- what a run leaves, by the groups of its history and its status; where there are no groups a crash
 -- recovers to what the tree recovered to, unless the status is the device's fault
@@ -105,12 +118,16 @@ abbrev pub IsApplied : List (List ℕ) → (Order → List Entry) → List ℕ �
 IsApplied words image [] s old new = s ≢ status.DeviceFault → Leaves (IsKept old.now) new.now
 IsApplied words image (g ∷ gs) s old new = GetsPackage words image old new
 
--- the disk reads as the recovered tree, with the package of the words where a group was merged, and a crash leaves just that
+-- the disk reads as the recovered tree, with the package of the words where a group was merged, and
+-- a crash leaves just that
 abbrev pub HasPackage : List (List ℕ) → (Order → List Entry) → ℕ → Disk → Disk → Type 0
-HasPackage words image n old new = (a : AtomValue) × IsRequest words a × ((m : Map) × IsRecovered old.holds m × EndsWith a image n m new)
+HasPackage words image n old new = (a : AtomValue) × IsRequest words a ×
+    ((m : Map) × IsRecovered old.holds m × EndsWith a image n m new)
 
--- How a run over this tree ended: with the answer that it asks for, and a tree that has the groups of its history. A crash at any moment
--- since it began leaves an image of that beginning, or one that recovers to the tree before or to the tree with the package.
+-- How a run over this tree ended: with the answer that it asks for, and a tree that has the groups
+-- of its history. A crash at any moment
+-- since it began leaves an image of that beginning, or one that recovers to the tree before or to
+-- the tree with the package.
 pub record Outcome (words : List (List ℕ)) (image : Order → List Entry) (old new : Story)
     (history : List ℕ) (s : Status) : Type 0 where
   pub answer : Asks words old.now.holds image s
@@ -119,8 +136,10 @@ pub record Outcome (words : List (List ℕ)) (image : Order → List Entry) (old
   pub done : (n : ℕ) → s ≡ status.Ok n → HasPackage words image n old.now new.now
 
 -- some builder of those at rest tells this image, where builders tell
-abbrev pub OfSomeBuilder : {B : Type 0} → Bool → (B → Order → List Entry) → List B → ((Order → List Entry) → Type 0) → Type 0
-OfSomeBuilder {B} tells told resting P = (b : B) × Contains resting b × ((image : Order → List Entry) × (IsTrue tells → image ≡ told b) × P image)
+abbrev pub OfSomeBuilder : {B : Type 0} → Bool → (B → Order → List Entry) → List B →
+    ((Order → List Entry) → Type 0) → Type 0
+OfSomeBuilder {B} tells told resting P = (b : B) × Contains resting b ×
+    ((image : Order → List Entry) × (IsTrue tells → image ≡ told b) × P image)
 
 -- a status that the words, the tree and the image ask for, where trees tell
 abbrev pub IsAnswer : {B : Type 0} → Bool → Bool → (B → Order → List Entry) → List B
@@ -130,7 +149,8 @@ IsAnswer tree tells told resting words opening s = IsTrue tree
 
 -- what asking the builder gives beside an image that fits
 abbrev pub ImageAsks : Bool → List Entry → Map → PackageId → Status → Type 0
-ImageAsks tells told m id (status.NotBuilt Image) = (image : List Entry) × (IsTrue tells → image ≡ told) × (FitsImage m image → ⊥)
+ImageAsks tells told m id (status.NotBuilt Image) =
+    (image : List Entry) × (IsTrue tells → image ≡ told) × (FitsImage m image → ⊥)
 ImageAsks tells told m id (status.NotBuilt part) = ⊥
 ImageAsks tells told m id (status.BuildFailed failed) = failed ≡ id
 ImageAsks tells told m id status.DeviceFault = Unit {0}
@@ -148,7 +168,8 @@ IsPackageOf a tells m id = (f : Facts) × (f.id ≡ id)
 
 -- the package that the words choose in what recovery makes of a tree
 abbrev pub IsNamed : List (List ℕ) → Bool → Map → PackageId → Type 0
-IsNamed words tells opening id = (a : AtomValue) × IsRequest words a × ((m : Map) × (IsTrue tells → IsRecovered opening m) × IsPackageOf a tells m id)
+IsNamed words tells opening id = (a : AtomValue) × IsRequest words a ×
+    ((m : Map) × (IsTrue tells → IsRecovered opening m) × IsPackageOf a tells m id)
 
 -- an answer that is given before anything is changed
 abbrev pub IsRefusal : Status → Type 0

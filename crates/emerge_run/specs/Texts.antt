@@ -32,7 +32,8 @@ reason_text r = codes " (" ++ (id_text r.0 ++ (32 ∷ (reason_word r.1 ++ (41 �
 abbrev pub last_word : Status → List ℕ
 last_word (status.Ok groups) = codes "ok " ++ decimal groups
 last_word status.Usage = codes "Usage"
-last_word (status.NoCandidate atom reasons) = codes "NoCandidate: " ++ (atom_text atom ++ flat_map reason_text reasons.items)
+last_word (status.NoCandidate atom reasons) =
+    codes "NoCandidate: " ++ (atom_text atom ++ flat_map reason_text reasons.items)
 last_word (status.BuildFailed id) = codes "BuildFailed: " ++ id_text id
 last_word status.DeviceFault = codes "DeviceFault"
 last_word status.OutputFault = codes "OutputFault"

@@ -1,9 +1,11 @@
-ghost use Rattle.std.specs.Prelude.{◌≡◌, ◌≤◌, ◌<◌, ◌⊎◌, ◌++◌, ◌∷◌, [], ℕ, List, IsTrue, string_bytes, vec_capacity, vec_len};
+ghost use Rattle.std.specs.Prelude.{◌≡◌, ◌≤◌, ◌<◌, ◌⊎◌, ◌++◌, ◌∷◌, [], ℕ, List, IsTrue};
+ghost use Rattle.std.specs.Prelude.{string_bytes, vec_capacity, vec_len};
 ghost use Rattle.file_tree.specs.Disk.{Map, Rose};
 ghost use Rattle.file_tree.specs.Moments.{Since};
 ghost use Rattle.file_tree.specs.declared.objects.Entry.{Entry};
 ghost use Rattle.merge_record.specs.Recovered.{IsRecovered};
-ghost use Rattle.emerge_run.specs.Outcomes.{CarriedOut, HasFiles, IsAtRest, IsClosed, IsLate, RecoversToEither};
+ghost use Rattle.emerge_run.specs.Outcomes.{CarriedOut, HasFiles, IsAtRest, IsClosed, IsLate};
+ghost use Rattle.emerge_run.specs.Outcomes.{RecoversToEither};
 ghost use Rattle.emerge_run.specs.Output.{AreLines, Wrote};
 ghost use Rattle.emerge_run.specs.Ready.{IsPlacing};
 
@@ -32,22 +34,32 @@ pub fn carry_out<T: Tree, S: Sink>(
     prepared: Prepared,
 ) -> Reached
     requires rest { IsTrue T.tells → IsAtRest (T.story tree.old).now }
-    requires history { (prepared.history.items ≡ []) × (vec_len prepared.history < vec_capacity prepared.history) }
-    requires acknowledged { (prepared.acknowledged.items ≡ []) × (vec_len prepared.acknowledged < vec_capacity prepared.acknowledged) }
-    ensures moments { IsTrue T.tells → (n : ℕ) (es : List Entry) → IsPlacing prepared.group n es
-        → Since (RecoversToEither es (T.story tree.old).now.holds) (T.story tree.old) (T.story tree.new) }
-    ensures tree { IsTrue T.tells → (n : ℕ) (es : List Entry) → IsPlacing prepared.group n es
-        → CarriedOut es (T.story tree.old).now.holds result.history.items result.status
+    requires history { (prepared.history.items ≡ []) ×
+        (vec_len prepared.history < vec_capacity prepared.history) }
+    requires acknowledged { (prepared.acknowledged.items ≡ []) ×
+        (vec_len prepared.acknowledged < vec_capacity prepared.acknowledged) }
+    ensures moments { IsTrue T.tells → (n : ℕ) (es : List Entry) → IsPlacing prepared.group n es →
+        Since (RecoversToEither es (T.story tree.old).now.holds) (T.story tree.old)
+        (T.story tree.new) }
+    ensures tree { IsTrue T.tells → (n : ℕ) (es : List Entry) → IsPlacing prepared.group n es →
+        CarriedOut es (T.story tree.old).now.holds result.history.items result.status
         (T.story tree.old) (T.story tree.new) }
-    ensures done { IsTrue T.tells → (n : ℕ) (es : List Entry) → IsPlacing prepared.group n es → (k : ℕ) → result.status ≡ Status.Ok k → HasFiles es (T.story tree.old).now.holds (T.story tree.new).now }
+    ensures done { IsTrue T.tells → (n : ℕ) (es : List Entry) → IsPlacing prepared.group n es →
+        (k : ℕ) → result.status ≡ Status.Ok k →
+        HasFiles es (T.story tree.old).now.holds (T.story tree.new).now }
     ensures late { IsLate result.status }
-    ensures ok { (n : ℕ) → result.status ≡ Status.Ok n → (result.acknowledged.items ≡ 1 ∷ []) × (n ≡ 1) }
+    ensures ok { (n : ℕ) → result.status ≡ Status.Ok n →
+        (result.acknowledged.items ≡ 1 ∷ []) × (n ≡ 1) }
     ensures history { (result.history.items ≡ []) ⊎ (result.history.items ≡ 1 ∷ []) }
-    ensures acknowledged { (result.acknowledged.items ≡ []) ⊎ ((result.acknowledged.items ≡ 1 ∷ []) × (result.history.items ≡ 1 ∷ [])) }
-    ensures written { IsTrue S.tells → Wrote (AreLines (λ _. string_bytes prepared.line)
-        result.history.items result.acknowledged.items) (S.written out.old) (S.written out.new) }
-    ensures device { result.status ≡ Status.DeviceFault → Rose (T.faults tree.old) (T.faults tree.new) }
-    ensures output { result.status ≡ Status.OutputFault → Rose (S.faults out.old) (S.faults out.new) }
+    ensures acknowledged { (result.acknowledged.items ≡ []) ⊎
+        ((result.acknowledged.items ≡ 1 ∷ []) × (result.history.items ≡ 1 ∷ [])) }
+    ensures written { IsTrue S.tells → Wrote
+        (AreLines (λ _. string_bytes prepared.line) result.history.items result.acknowledged.items)
+        (S.written out.old) (S.written out.new) }
+    ensures device { result.status ≡ Status.DeviceFault →
+        Rose (T.faults tree.old) (T.faults tree.new) }
+    ensures output { result.status ≡ Status.OutputFault →
+        Rose (S.faults out.old) (S.faults out.new) }
     ensures tree_count { T.faults tree.old ≤ T.faults tree.new }
     ensures out_count { S.faults out.old ≤ S.faults out.new }
 {
@@ -75,9 +87,13 @@ pub fn carry_out<T: Tree, S: Sink>(
 /// Clears the journal behind its closed gates, and answers the status, unless that failed.
 fn clear<T: Tree>(alloc: Global, tree: &mut T, status: Status) -> Status
     requires status { IsLate status }
-    ensures moments { IsTrue T.tells → (m : Map) → IsClosed m (T.story tree.old).now → Since (λ c. IsRecovered c m) (T.story tree.old) (T.story tree.new) }
-    ensures cases { (result ≡ status) ⊎ ((result ≡ Status.Memory) ⊎ ((result ≡ Status.DeviceFault) × Rose (T.faults tree.old) (T.faults tree.new))) }
-    ensures done { IsTrue T.tells → (k : ℕ) → result ≡ Status.Ok k → (status ≡ Status.Ok k) × ((m : Map) → IsClosed m (T.story tree.old).now → HasFiles [] m (T.story tree.new).now) }
+    ensures moments { IsTrue T.tells → (m : Map) → IsClosed m (T.story tree.old).now →
+        Since (λ c. IsRecovered c m) (T.story tree.old) (T.story tree.new) }
+    ensures cases { (result ≡ status) ⊎ ((result ≡ Status.Memory) ⊎
+        ((result ≡ Status.DeviceFault) × Rose (T.faults tree.old) (T.faults tree.new))) }
+    ensures done { IsTrue T.tells → (k : ℕ) → result ≡ Status.Ok k →
+        (status ≡ Status.Ok k) × ((m : Map) → IsClosed m (T.story tree.old).now →
+        HasFiles [] m (T.story tree.new).now) }
     ensures count { T.faults tree.old ≤ T.faults tree.new }
 {
     match clear_journal(alloc, tree) {
@@ -94,11 +110,15 @@ fn acknowledge<S: Sink>(
     acknowledged: &mut Vec<u32>,
 ) -> Status
     requires history { (history.old.items ≡ []) × (vec_len history.old < vec_capacity history.old) }
-    requires acknowledged { (acknowledged.old.items ≡ []) × (vec_len acknowledged.old < vec_capacity acknowledged.old) }
+    requires acknowledged { (acknowledged.old.items ≡ []) ×
+        (vec_len acknowledged.old < vec_capacity acknowledged.old) }
     ensures history { history.new.items ≡ 1 ∷ [] }
-    ensures cases { ((result ≡ Status.Ok 1) × (acknowledged.new.items ≡ 1 ∷ [])) ⊎ ((result ≡ Status.OutputFault) × ((acknowledged.new.items ≡ []) × Rose (S.faults out.old) (S.faults out.new))) }
-    ensures written { IsTrue S.tells → Wrote (AreLines (λ _. line.now) history.new.items
-        acknowledged.new.items) (S.written out.old) (S.written out.new) }
+    ensures cases { ((result ≡ Status.Ok 1) × (acknowledged.new.items ≡ 1 ∷ [])) ⊎
+        ((result ≡ Status.OutputFault) × ((acknowledged.new.items ≡ []) ×
+        Rose (S.faults out.old) (S.faults out.new))) }
+    ensures written { IsTrue S.tells → Wrote
+        (AreLines (λ _. line.now) history.new.items acknowledged.new.items) (S.written out.old)
+        (S.written out.new) }
     ensures count { S.faults out.old ≤ S.faults out.new }
 {
     add(history, 1);

@@ -10,9 +10,11 @@ use std::alloc::Global;
 
 /// Writes the last line, and answers the status that it names.
 pub fn finish<S: Sink>(alloc: Global, out: &mut S, status: Status) -> Status
-    ensures status { (result ≡ status) ⊎ ((result ≡ Status.Memory) ⊎ ((result ≡ Status.OutputFault) × Rose (S.faults out.old) (S.faults out.new))) }
+    ensures status { (result ≡ status) ⊎ ((result ≡ Status.Memory) ⊎
+        ((result ≡ Status.OutputFault) × Rose (S.faults out.old) (S.faults out.new))) }
     ensures device { status ≡ Status.DeviceFault → result ≡ Status.DeviceFault }
-    ensures written { IsTrue S.tells → Wrote (IsEnd status result) (S.written out.old) (S.written out.new) }
+    ensures written { IsTrue S.tells → Wrote (IsEnd status result) (S.written out.old)
+        (S.written out.new) }
     ensures count { S.faults out.old ≤ S.faults out.new }
 {
     if let Some(line) = fixed_line(&status) {
@@ -27,9 +29,11 @@ pub fn finish<S: Sink>(alloc: Global, out: &mut S, status: Status) -> Status
 /// Writes a status's line, and answers the status, or what becomes of it where that failed.
 fn write_last<S: Sink>(out: &mut S, line: &str, status: Status) -> Status
     requires line { line.now ≡ last_line status }
-    ensures status { (result ≡ status) ⊎ ((result ≡ Status.OutputFault) × Rose (S.faults out.old) (S.faults out.new)) }
+    ensures status { (result ≡ status) ⊎ ((result ≡ Status.OutputFault) ×
+        Rose (S.faults out.old) (S.faults out.new)) }
     ensures device { status ≡ Status.DeviceFault → result ≡ Status.DeviceFault }
-    ensures written { IsTrue S.tells → Wrote (IsLast status result) (S.written out.old) (S.written out.new) }
+    ensures written { IsTrue S.tells → Wrote (IsLast status result) (S.written out.old)
+        (S.written out.new) }
     ensures count { S.faults out.old ≤ S.faults out.new }
 {
     match out.write(line.as_bytes()) {

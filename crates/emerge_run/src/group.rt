@@ -33,7 +33,9 @@ impl Model for Group {
 
     ghost view = { λ g. record { does = g.does; objects = g.objects.items } };
 
-    ghost invariant = { λ g. (g.does.group ≡ g.paths.group) × (g.paths.count ≡ length g.objects.items) × IsGroup g.does g.objects.items × (g.filed ≡ plain (spelling g.does)) × (g.sign ≡ token) };
+    ghost invariant = { λ g. (g.does.group ≡ g.paths.group) ×
+        (g.paths.count ≡ length g.objects.items) × IsGroup g.does g.objects.items ×
+        (g.filed ≡ plain (spelling g.does)) × (g.sign ≡ token) };
 }
 
 /// The group of this number that places these files.

@@ -1,4 +1,7 @@
-ghost use Rattle.std.specs.Prelude.{◌↔◌, ◌≡◌, ◌≤◌, ◌<◌, ◌≢◌, ◌⊎◌, ℕ, List, [], ◌∷◌, true, false, Contains, IfErr, IfOk, IfSome, IsErrOf, IsTrue, MatchBool, MatchOption, MatchResult, None, OnOk, Some, length, slice_index, take};
+ghost use Rattle.std.specs.Prelude.{◌↔◌, ◌≡◌, ◌≤◌, ◌<◌, ◌≢◌, ◌⊎◌, ℕ, List, [], ◌∷◌, true, false};
+ghost use Rattle.std.specs.Prelude.{Contains, IfErr, IfOk, IfSome, IsErrOf, IsTrue, MatchBool};
+ghost use Rattle.std.specs.Prelude.{MatchOption, MatchResult, None, OnOk, Some, length};
+ghost use Rattle.std.specs.Prelude.{slice_index, take};
 ghost use Rattle.file_tree.specs.Disk.{HasBelow, Rose};
 ghost use Rattle.file_tree.specs.Paths.{is_below};
 ghost use Rattle.build_pool.specs.Pool.{PoolRose, SameIds, faults_of};
@@ -22,7 +25,8 @@ pub fn built_entry<B: Builder>(
     order: &Order,
 ) -> Result<Option<Entry>, BuildStop>
     requires resting { 0 < length pool.old.resting }
-    ensures image { IfOk result (λ r. (b : B) × Contains pool.old.resting b × HasOne B.tells (B.told b order.now) r) }
+    ensures image { IfOk result (λ r. (b : B) × Contains pool.old.resting b ×
+        HasOne B.tells (B.told b order.now) r) }
     ensures ids { SameIds B.number pool.old pool.new }
     ensures lent { pool.new.lent ≡ pool.old.lent }
     ensures count { faults_of B.faults pool.old ≤ faults_of B.faults pool.new }
@@ -41,7 +45,8 @@ fn one_entry<B: Builder>(builder: &mut B, order: &Order) -> Result<Option<Entry>
     ensures image { IfOk result (HasOne B.tells (B.told builder.old order.now)) }
     ensures same_number { B.number builder.new ≡ B.number builder.old }
     ensures count { B.faults builder.old ≤ B.faults builder.new }
-    ensures cause { IsErrOf result BuildStop.Failed → Rose (B.faults builder.old) (B.faults builder.new) }
+    ensures cause { IsErrOf result BuildStop.Failed →
+        Rose (B.faults builder.old) (B.faults builder.new) }
 {
     let entries = builder.start(order)?;
     if entries != 1 {
@@ -55,8 +60,10 @@ fn one_entry<B: Builder>(builder: &mut B, order: &Order) -> Result<Option<Entry>
 pub fn judge_entry<T: Tree>(alloc: Global, tree: &mut T, entry: &Entry) -> Result<(), Refusal>
     ensures fits { IsTrue T.tells → OnOk result (Fits (T.story tree.old).now.holds entry.now) }
     ensures unreserved { OnOk result (is_reserved entry.now.path ≡ false) }
-    ensures refused { IsTrue T.tells → IsErrOf result (Refusal.NotBuilt Part.Image) → Fits (T.story tree.old).now.holds entry.now → ⊥ }
-    ensures image_alone { IfErr result (λ r. (r ≡ Refusal.NotBuilt Part.Image) ⊎ ((r ≡ Refusal.Failed) ⊎ (r ≡ Refusal.Memory))) }
+    ensures refused { IsTrue T.tells → IsErrOf result (Refusal.NotBuilt Part.Image) →
+        Fits (T.story tree.old).now.holds entry.now → ⊥ }
+    ensures image_alone { IfErr result (λ r. (r ≡ Refusal.NotBuilt Part.Image) ⊎
+        ((r ≡ Refusal.Failed) ⊎ (r ≡ Refusal.Memory))) }
     ensures same { IsTrue T.tells → T.story tree.new ≡ T.story tree.old }
     ensures count { T.faults tree.old ≤ T.faults tree.new }
     ensures cause { IsErrOf result Refusal.Failed → Rose (T.faults tree.old) (T.faults tree.new) }
@@ -98,7 +105,9 @@ fn meets(top: &Path, path: &Path) -> bool
 
 /// Whether nothing stands at a path, below it or above it.
 fn is_free<T: Tree>(alloc: Global, tree: &mut T, path: &Path) -> Result<bool, Refusal>
-    ensures free { IsTrue T.tells → IfOk result (λ b. MatchBool b (IsFree (T.story tree.old).now.holds path.now) (IsFree (T.story tree.old).now.holds path.now → ⊥)) }
+    ensures free { IsTrue T.tells → IfOk result
+        (λ b. MatchBool b (IsFree (T.story tree.old).now.holds path.now)
+        (IsFree (T.story tree.old).now.holds path.now → ⊥)) }
     ensures others { IfErr result (λ r. (r ≡ Refusal.Failed) ⊎ (r ≡ Refusal.Memory)) }
     ensures same { IsTrue T.tells → T.story tree.new ≡ T.story tree.old }
     ensures count { T.faults tree.old ≤ T.faults tree.new }
@@ -119,7 +128,9 @@ fn is_free<T: Tree>(alloc: Global, tree: &mut T, path: &Path) -> Result<bool, Re
 /// Whether a slash stands at a place of the path and the part of the path before it holds an object.
 fn holds_part<T: Tree>(alloc: Global, tree: &mut T, path: &Path, at: usize) -> Result<bool, Refusal>
     requires { at < length path.now }
-    ensures holds { IsTrue T.tells → IfOk result (λ b. MatchBool b (HoldsPart (T.story tree.old).now.holds path.now at) (HoldsPart (T.story tree.old).now.holds path.now at → ⊥)) }
+    ensures holds { IsTrue T.tells → IfOk result
+        (λ b. MatchBool b (HoldsPart (T.story tree.old).now.holds path.now at)
+        (HoldsPart (T.story tree.old).now.holds path.now at → ⊥)) }
     ensures others { IfErr result (λ r. (r ≡ Refusal.Failed) ⊎ (r ≡ Refusal.Memory)) }
     ensures same { IsTrue T.tells → T.story tree.new ≡ T.story tree.old }
     ensures count { T.faults tree.old ≤ T.faults tree.new }
@@ -137,7 +148,9 @@ fn holds_part<T: Tree>(alloc: Global, tree: &mut T, path: &Path, at: usize) -> R
 /// What stands before a place of the path, where a slash stands there. It is a path again.
 fn part_above(alloc: Global, path: &Path, at: usize) -> Result<Option<Path>, AllocError>
     requires { at < length path.now }
-    ensures { IfOk result (λ r. MatchOption r (slice_index path.now at ≢ 47) (λ p. (slice_index path.now at ≡ 47) × (p ≡ take at path.now))) }
+    ensures { IfOk result (λ r.
+        MatchOption r (slice_index path.now at ≢ 47)
+        (λ p. (slice_index path.now at ≡ 47) × (p ≡ take at path.now))) }
 {
     let text = path.text();
     if text.as_bytes()[at] != b'/' {

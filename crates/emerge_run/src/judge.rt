@@ -1,4 +1,5 @@
-ghost use Rattle.std.specs.Prelude.{◌≡◌, ◌≤◌, [], true, false, IfErr, IfOk, IsErrOf, IsTrue, MatchResult, map};
+ghost use Rattle.std.specs.Prelude.{◌≡◌, ◌≤◌, [], true, false, IfErr, IfOk, IsErrOf, IsTrue};
+ghost use Rattle.std.specs.Prelude.{MatchResult, map};
 ghost use Rattle.file_tree.specs.Disk.{Map, Rose};
 ghost use Rattle.dep_atom.specs.Match.{value_matches};
 ghost use Rattle.dep_atom.specs.Values.{atom_value};
@@ -29,9 +30,11 @@ pub enum Standing {
 /// Judges a recovered tree before anything is built: the cache entries of the atom's name, the
 /// database, and then which candidate the atom chooses.
 pub fn judge_tree<T: Tree>(alloc: Global, tree: &mut T, atom: &Atom) -> Result<Standing, Refusal>
-    ensures stands { IsTrue T.tells → IfOk result (Stands (T.story tree.old).now.holds (atom_value atom.now)) }
+    ensures stands { IsTrue T.tells → IfOk result
+        (Stands (T.story tree.old).now.holds (atom_value atom.now)) }
     ensures matched { IfOk result (HasMatched (atom_value atom.now)) }
-    ensures refused { IsTrue T.tells → IfErr result (TreeRefuses (T.story tree.old).now.holds (atom_value atom.now)) }
+    ensures refused { IsTrue T.tells → IfErr result
+        (TreeRefuses (T.story tree.old).now.holds (atom_value atom.now)) }
     ensures same { IsTrue T.tells → T.story tree.new ≡ T.story tree.old }
     ensures count { T.faults tree.old ≤ T.faults tree.new }
     ensures cause { IsErrOf result Refusal.Failed → Rose (T.faults tree.old) (T.faults tree.new) }
@@ -48,7 +51,10 @@ pub fn judge_tree<T: Tree>(alloc: Global, tree: &mut T, atom: &Atom) -> Result<S
 
 /// Whether the package that is installed is one that the atom matches.
 fn judge_installed(alloc: Global, atom: &Atom, installed: &Facts) -> Result<Standing, Refusal>
-    ensures { MatchResult result (λ s. (s ≡ Standing.Installed) × (value_matches (atom_value atom.now) installed.now [] ≡ true)) (λ r. (r ≡ Refusal.NotBuilt Part.Database) × (value_matches (atom_value atom.now) installed.now [] ≡ false)) }
+    ensures { MatchResult result (λ s. (s ≡ Standing.Installed) ×
+        (value_matches (atom_value atom.now) installed.now [] ≡ true))
+        (λ r. (r ≡ Refusal.NotBuilt Part.Database) ×
+        (value_matches (atom_value atom.now) installed.now [] ≡ false)) }
 {
     let asker = Flags::new(alloc);
     if atom.matches(installed, &asker) {
@@ -60,7 +66,8 @@ fn judge_installed(alloc: Global, atom: &Atom, installed: &Facts) -> Result<Stan
 
 /// Which of the candidates the atom chooses, where nothing is installed.
 fn standing_of(alloc: Global, atom: &Atom, offers: Vec<Facts>) -> Result<Standing, AllocError>
-    ensures stands { (m : Map) → AreOffers m atom.now.name offers.items → IsBare m (atom_value atom.now) → IfOk result (Stands m (atom_value atom.now)) }
+    ensures stands { (m : Map) → AreOffers m atom.now.name offers.items →
+        IsBare m (atom_value atom.now) → IfOk result (Stands m (atom_value atom.now)) }
     ensures matched { IfOk result (HasMatched (atom_value atom.now)) }
 {
     match choose(alloc, atom, offers) {

@@ -1,4 +1,5 @@
-ghost use Rattle.std.specs.Prelude.{◌≡◌, ◌≤◌, ◌<◌, ◌⊎◌, ◌∷◌, [], ℕ, true, IfOk, IsTrue, length, string_bytes, vec_capacity, vec_len};
+ghost use Rattle.std.specs.Prelude.{◌≡◌, ◌≤◌, ◌<◌, ◌⊎◌, ◌∷◌, [], ℕ, true, IfOk, IsTrue, length};
+ghost use Rattle.std.specs.Prelude.{string_bytes, vec_capacity, vec_len};
 ghost use Rattle.file_tree.specs.Disk.{Rose};
 ghost use Rattle.build_pool.specs.Pool.{PoolRose, SameIds};
 ghost use Rattle.dep_atom.specs.Values.{AtomValue, atom_value};
@@ -36,19 +37,26 @@ pub fn run_request<T: Tree, S: Sink, B: Builder>(
     requires resting { 0 < length pool.old.resting }
     requires rest { IsTrue T.tells → IsAtRest (T.story tree.old).now }
     ensures outcome { IsTrue T.tells → OfSomeBuilder B.tells B.told pool.old.resting
-        (λ image. Ran (atom_value atom) image (T.story tree.old) (T.story tree.new)
-        result.history.items result.status) }
+        (λ image. Ran (atom_value atom) image (T.story tree.old)
+        (T.story tree.new) result.history.items result.status) }
     ensures no_usage { result.status ≡ Status.Usage → ⊥ }
-    ensures ok { (n : ℕ) → result.status ≡ Status.Ok n → ((n ≡ 0) × (result.acknowledged.items ≡ [])) ⊎ ((n ≡ 1) × (result.acknowledged.items ≡ 1 ∷ [])) }
+    ensures ok { (n : ℕ) → result.status ≡ Status.Ok n →
+        ((n ≡ 0) × (result.acknowledged.items ≡ [])) ⊎
+        ((n ≡ 1) × (result.acknowledged.items ≡ 1 ∷ [])) }
     ensures history { (result.history.items ≡ []) ⊎ (result.history.items ≡ 1 ∷ []) }
     ensures refused { IsRefusal result.status → result.history.items ≡ [] }
-    ensures acknowledged { (result.acknowledged.items ≡ []) ⊎ ((result.acknowledged.items ≡ 1 ∷ []) × (result.history.items ≡ 1 ∷ [])) }
-    ensures written { IsTrue S.tells
-        → Wrote (IsLines (IsPackageOf (atom_value atom) T.tells (T.story tree.old).now.holds)
-        result.history.items result.acknowledged.items) (S.written out.old) (S.written out.new) }
-    ensures build { (id : PackageId) → result.status ≡ Status.BuildFailed id → PoolRose B.faults pool.old pool.new }
-    ensures device { result.status ≡ Status.DeviceFault → Rose (T.faults tree.old) (T.faults tree.new) }
-    ensures output { result.status ≡ Status.OutputFault → Rose (S.faults out.old) (S.faults out.new) }
+    ensures acknowledged { (result.acknowledged.items ≡ []) ⊎
+        ((result.acknowledged.items ≡ 1 ∷ []) × (result.history.items ≡ 1 ∷ [])) }
+    ensures written { IsTrue S.tells → Wrote
+        (IsLines (IsPackageOf (atom_value atom) T.tells
+        (T.story tree.old).now.holds) result.history.items result.acknowledged.items)
+        (S.written out.old) (S.written out.new) }
+    ensures build { (id : PackageId) → result.status ≡ Status.BuildFailed id →
+        PoolRose B.faults pool.old pool.new }
+    ensures device { result.status ≡ Status.DeviceFault →
+        Rose (T.faults tree.old) (T.faults tree.new) }
+    ensures output { result.status ≡ Status.OutputFault →
+        Rose (S.faults out.old) (S.faults out.new) }
     ensures tree_count { T.faults tree.old ≤ T.faults tree.new }
     ensures out_count { S.faults out.old ≤ S.faults out.new }
     ensures ids { SameIds B.number pool.old pool.new }
@@ -72,19 +80,27 @@ fn merge_chosen<T: Tree, S: Sink, B: Builder>(
 ) -> Reached
     requires resting { 0 < length pool.old.resting }
     requires rest { IsTrue T.tells → IsAtRest (T.story tree.old).now }
-    ensures outcome { IsTrue T.tells → (a : AtomValue) → IsReady (T.story tree.old).now.holds a chosen.now
-        → OfSomeBuilder B.tells B.told pool.old.resting (λ image. Ran a image (T.story tree.old)
+    ensures outcome { IsTrue T.tells → (a : AtomValue) →
+        IsReady (T.story tree.old).now.holds a chosen.now →
+        OfSomeBuilder B.tells B.told pool.old.resting
+        (λ image. Ran a image (T.story tree.old)
         (T.story tree.new) result.history.items result.status) }
     ensures no_usage { result.status ≡ Status.Usage → ⊥ }
-    ensures ok { (n : ℕ) → result.status ≡ Status.Ok n → (n ≡ 1) × (result.acknowledged.items ≡ 1 ∷ []) }
+    ensures ok { (n : ℕ) → result.status ≡ Status.Ok n →
+        (n ≡ 1) × (result.acknowledged.items ≡ 1 ∷ []) }
     ensures history { (result.history.items ≡ []) ⊎ (result.history.items ≡ 1 ∷ []) }
     ensures refused { IsRefusal result.status → result.history.items ≡ [] }
-    ensures acknowledged { (result.acknowledged.items ≡ []) ⊎ ((result.acknowledged.items ≡ 1 ∷ []) × (result.history.items ≡ 1 ∷ [])) }
-    ensures written { IsTrue S.tells → Wrote (AreLines (done_line chosen.now.id)
-        result.history.items result.acknowledged.items) (S.written out.old) (S.written out.new) }
-    ensures build { (id : PackageId) → result.status ≡ Status.BuildFailed id → PoolRose B.faults pool.old pool.new }
-    ensures device { result.status ≡ Status.DeviceFault → Rose (T.faults tree.old) (T.faults tree.new) }
-    ensures output { result.status ≡ Status.OutputFault → Rose (S.faults out.old) (S.faults out.new) }
+    ensures acknowledged { (result.acknowledged.items ≡ []) ⊎
+        ((result.acknowledged.items ≡ 1 ∷ []) × (result.history.items ≡ 1 ∷ [])) }
+    ensures written { IsTrue S.tells → Wrote
+        (AreLines (done_line chosen.now.id) result.history.items result.acknowledged.items)
+        (S.written out.old) (S.written out.new) }
+    ensures build { (id : PackageId) → result.status ≡ Status.BuildFailed id →
+        PoolRose B.faults pool.old pool.new }
+    ensures device { result.status ≡ Status.DeviceFault →
+        Rose (T.faults tree.old) (T.faults tree.new) }
+    ensures output { result.status ≡ Status.OutputFault →
+        Rose (S.faults out.old) (S.faults out.new) }
     ensures tree_count { T.faults tree.old ≤ T.faults tree.new }
     ensures out_count { S.faults out.old ≤ S.faults out.new }
     ensures ids { SameIds B.number pool.old pool.new }
@@ -107,8 +123,10 @@ fn prepare(alloc: Global, facts: &Facts, entry: Entry) -> Result<Prepared, Alloc
     requires free { are_free [] (footprint (placing 1 (files facts.now entry))) ≡ true }
     ensures group { IfOk result (λ p. IsPlacing p.group 1 (files facts.now entry)) }
     ensures line { IfOk result (λ p. string_bytes p.line ≡ done_line facts.now.id 1) }
-    ensures history { IfOk result (λ p. (p.history.items ≡ []) × (vec_len p.history < vec_capacity p.history)) }
-    ensures acknowledged { IfOk result (λ p. (p.acknowledged.items ≡ []) × (vec_len p.acknowledged < vec_capacity p.acknowledged)) }
+    ensures history { IfOk result (λ p. (p.history.items ≡ []) ×
+        (vec_len p.history < vec_capacity p.history)) }
+    ensures acknowledged { IfOk result (λ p. (p.acknowledged.items ≡ []) ×
+        (vec_len p.acknowledged < vec_capacity p.acknowledged)) }
 {
     let group = group_of(alloc, 1, files_of(alloc, facts, entry)?)?;
     let line = line_of_group(alloc, &facts.id, 1)?;

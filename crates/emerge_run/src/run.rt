@@ -1,4 +1,5 @@
-ghost use Rattle.std.specs.Prelude.{◌≡◌, ◌≤◌, ◌<◌, ◌⊎◌, ◌∷◌, [], ℕ, IsTrue, length, map, string_bytes};
+ghost use Rattle.std.specs.Prelude.{◌≡◌, ◌≤◌, ◌<◌, ◌⊎◌, ◌∷◌, [], ℕ, IsTrue, length, map};
+ghost use Rattle.std.specs.Prelude.{string_bytes};
 ghost use Rattle.file_tree.specs.Disk.{Rose};
 ghost use Rattle.build_pool.specs.Pool.{PoolRose, SameIds};
 ghost use Rattle.dep_atom.specs.declared.package.PackageId.{PackageId};
@@ -55,28 +56,37 @@ pub fn emerge<T: Tree + Send, S: Sink + Send, B: Builder + Send>(
     // The answer is the one that the words, the tree and the image ask for, a crash at any moment
     // recovers to before or after, and the tree has the groups of the history.
     ensures outcome { IsTrue T.tells → OfSomeBuilder B.tells B.told pool.resting
-        (λ image. Outcome (map string_bytes words.now) image (T.story tree) (T.story result.tree)
-        result.history.items result.status) }
-    ensures unchanged { IsTrue T.tells → result.status ≡ Status.Usage → T.story result.tree ≡ T.story tree }
-    ensures ok { (n : ℕ) → result.status ≡ Status.Ok n → ((n ≡ 0) × (result.acknowledged.items ≡ [])) ⊎ ((n ≡ 1) × (result.acknowledged.items ≡ 1 ∷ [])) }
+        (λ image. Outcome (map string_bytes words.now) image (T.story tree)
+        (T.story result.tree) result.history.items result.status) }
+    ensures unchanged { IsTrue T.tells → result.status ≡ Status.Usage →
+        T.story result.tree ≡ T.story tree }
+    ensures ok { (n : ℕ) → result.status ≡ Status.Ok n →
+        ((n ≡ 0) × (result.acknowledged.items ≡ [])) ⊎
+        ((n ≡ 1) × (result.acknowledged.items ≡ 1 ∷ [])) }
     ensures history { (result.history.items ≡ []) ⊎ (result.history.items ≡ 1 ∷ []) }
     ensures refused { IsRefusal result.status → result.history.items ≡ [] }
-    ensures acknowledged { (result.acknowledged.items ≡ []) ⊎ (result.acknowledged.items ≡ result.history.items) }
+    ensures acknowledged { (result.acknowledged.items ≡ []) ⊎
+        (result.acknowledged.items ≡ result.history.items) }
 
     // What was written is the lines of the acknowledged groups, some beginning of those of the other
     // groups, and the last line; only where the status is a fault may that be cut.
-    ensures written { IsTrue S.tells
-        → Wrote (IsOutput (IsNamed (map string_bytes words.now) T.tells (T.story tree).now.holds)
-        (IsAnswer T.tells B.tells B.told pool.resting (map string_bytes words.now) (T.story tree).now.holds)
-        result.history.items result.acknowledged.items result.status)
+    ensures written { IsTrue S.tells → Wrote
+        (IsOutput (IsNamed (map string_bytes words.now) T.tells (T.story tree).now.holds)
+        (IsAnswer T.tells B.tells B.told pool.resting (map string_bytes words.now)
+        (T.story tree).now.holds) result.history.items result.acknowledged.items result.status)
         (S.written out) (S.written result.out) }
 
     // Each answer but want of memory has its cause.
     ensures usage { result.status ≡ Status.Usage → IsCommand (map string_bytes words.now) → ⊥ }
-    ensures no_command { (IsCommand (map string_bytes words.now) → ⊥) → (result.status ≡ Status.Usage) ⊎ ((result.status ≡ Status.OutputFault) ⊎ (result.status ≡ Status.Memory)) }
-    ensures build { (id : PackageId) → result.status ≡ Status.BuildFailed id → PoolRose B.faults pool result.pool }
-    ensures device { result.status ≡ Status.DeviceFault → Rose (T.faults tree) (T.faults result.tree) }
-    ensures output { result.status ≡ Status.OutputFault → Rose (S.faults out) (S.faults result.out) }
+    ensures no_command { (IsCommand (map string_bytes words.now) → ⊥) →
+        (result.status ≡ Status.Usage) ⊎ ((result.status ≡ Status.OutputFault) ⊎
+        (result.status ≡ Status.Memory)) }
+    ensures build { (id : PackageId) → result.status ≡ Status.BuildFailed id →
+        PoolRose B.faults pool result.pool }
+    ensures device { result.status ≡ Status.DeviceFault →
+        Rose (T.faults tree) (T.faults result.tree) }
+    ensures output { result.status ≡ Status.OutputFault →
+        Rose (S.faults out) (S.faults result.out) }
 
     // The pool has the builders that it had, and none is lent that wasn't.
     ensures ids { SameIds B.number pool result.pool }
@@ -104,21 +114,30 @@ fn attempt<T: Tree, S: Sink, B: Builder>(
 ) -> Reached
     requires resting { 0 < length pool.old.resting }
     ensures outcome { IsTrue T.tells → OfSomeBuilder B.tells B.told pool.old.resting
-        (λ image. Outcome (map string_bytes words.now) image (T.story tree.old) (T.story tree.new)
-        result.history.items result.status) }
-    ensures unchanged { IsTrue T.tells → result.status ≡ Status.Usage → T.story tree.new ≡ T.story tree.old }
-    ensures ok { (n : ℕ) → result.status ≡ Status.Ok n → ((n ≡ 0) × (result.acknowledged.items ≡ [])) ⊎ ((n ≡ 1) × (result.acknowledged.items ≡ 1 ∷ [])) }
+        (λ image. Outcome (map string_bytes words.now) image (T.story tree.old)
+        (T.story tree.new) result.history.items result.status) }
+    ensures unchanged { IsTrue T.tells → result.status ≡ Status.Usage →
+        T.story tree.new ≡ T.story tree.old }
+    ensures ok { (n : ℕ) → result.status ≡ Status.Ok n →
+        ((n ≡ 0) × (result.acknowledged.items ≡ [])) ⊎
+        ((n ≡ 1) × (result.acknowledged.items ≡ 1 ∷ [])) }
     ensures history { (result.history.items ≡ []) ⊎ (result.history.items ≡ 1 ∷ []) }
     ensures refused { IsRefusal result.status → result.history.items ≡ [] }
-    ensures acknowledged { (result.acknowledged.items ≡ []) ⊎ (result.acknowledged.items ≡ result.history.items) }
-    ensures written { IsTrue S.tells
-        → Wrote (IsLines (IsNamed (map string_bytes words.now) T.tells (T.story tree.old).now.holds)
-        result.history.items result.acknowledged.items) (S.written out.old) (S.written out.new) }
+    ensures acknowledged { (result.acknowledged.items ≡ []) ⊎
+        (result.acknowledged.items ≡ result.history.items) }
+    ensures written { IsTrue S.tells → Wrote
+        (IsLines (IsNamed (map string_bytes words.now) T.tells
+        (T.story tree.old).now.holds) result.history.items result.acknowledged.items)
+        (S.written out.old) (S.written out.new) }
     ensures usage { result.status ≡ Status.Usage → IsCommand (map string_bytes words.now) → ⊥ }
-    ensures no_command { (IsCommand (map string_bytes words.now) → ⊥) → (result.status ≡ Status.Usage) ⊎ (result.status ≡ Status.Memory) }
-    ensures build { (id : PackageId) → result.status ≡ Status.BuildFailed id → PoolRose B.faults pool.old pool.new }
-    ensures device { result.status ≡ Status.DeviceFault → Rose (T.faults tree.old) (T.faults tree.new) }
-    ensures output { result.status ≡ Status.OutputFault → Rose (S.faults out.old) (S.faults out.new) }
+    ensures no_command { (IsCommand (map string_bytes words.now) → ⊥) →
+        (result.status ≡ Status.Usage) ⊎ (result.status ≡ Status.Memory) }
+    ensures build { (id : PackageId) → result.status ≡ Status.BuildFailed id →
+        PoolRose B.faults pool.old pool.new }
+    ensures device { result.status ≡ Status.DeviceFault →
+        Rose (T.faults tree.old) (T.faults tree.new) }
+    ensures output { result.status ≡ Status.OutputFault →
+        Rose (S.faults out.old) (S.faults out.new) }
     ensures out_count { S.faults out.old ≤ S.faults out.new }
     ensures ids { SameIds B.number pool.old pool.new }
     ensures lent { pool.new.lent ≡ pool.old.lent }

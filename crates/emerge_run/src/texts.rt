@@ -1,4 +1,5 @@
-ghost use Rattle.std.specs.Prelude.{◌≡◌, ◌++◌, ◌∷◌, [], IfOk, IfSome, IsSome, OnOk, codes, string_bytes};
+ghost use Rattle.std.specs.Prelude.{◌≡◌, ◌++◌, ◌∷◌, [], IfOk, IfSome, IsSome, OnOk, codes};
+ghost use Rattle.std.specs.Prelude.{string_bytes};
 ghost use Rattle.std.specs.List.{flat_map};
 ghost use Rattle.dep_atom.specs.Ids.{id_text};
 ghost use Rattle.dep_atom.specs.Text.{atom_text};
@@ -52,7 +53,8 @@ pub fn line_of_status(alloc: Global, status: &Status) -> Result<String, AllocErr
 }
 
 fn failed_line(alloc: Global, package: &PackageId) -> Result<String, AllocError>
-    ensures { IfOk result (λ t. string_bytes t ≡ codes "emerge: BuildFailed: " ++ (id_text «package».now ++ 10 ∷ [])) }
+    ensures { IfOk result (λ t. string_bytes t ≡
+        codes "emerge: BuildFailed: " ++ (id_text «package».now ++ 10 ∷ [])) }
 {
     let text = package.print(alloc)?;
     format!(in alloc; "emerge: BuildFailed: {text}\n")
@@ -63,7 +65,9 @@ fn unmatched_line(
     atom: &Atom,
     reasons: &[(PackageId, Reason)],
 ) -> Result<String, AllocError>
-    ensures { IfOk result (λ t. string_bytes t ≡ codes "emerge: NoCandidate: " ++ (atom_text atom.now ++ (flat_map reason_text reasons.now ++ 10 ∷ []))) }
+    ensures { IfOk result (λ t. string_bytes t ≡
+        codes "emerge: NoCandidate: " ++ (atom_text atom.now ++
+        (flat_map reason_text reasons.now ++ 10 ∷ []))) }
 {
     let text = atom.print(alloc)?;
     let listed = listed_reasons(alloc, reasons)?;
@@ -86,7 +90,8 @@ fn write_reason(
     reason: &(PackageId, Reason),
     text: &mut String,
 ) -> Result<(), AllocError>
-    ensures { OnOk result (string_bytes text.new ≡ string_bytes text.old ++ reason_text reason.now) }
+    ensures { OnOk result (string_bytes text.new ≡
+        string_bytes text.old ++ reason_text reason.now) }
 {
     let id = reason.0.print(alloc)?;
     text.push_str(" (")?;

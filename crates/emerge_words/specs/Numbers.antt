@@ -25,7 +25,8 @@ most_load = 4000
 
 -- one digit or more, and not too many
 abbrev pub is_numeral : List ℕ → Bool
-is_numeral text = nat_lt 0 (length text) && (nat_le (length text) most_digits && list_all is_digit text)
+is_numeral text =
+    nat_lt 0 (length text) && (nat_le (length text) most_digits && list_all is_digit text)
 
 -- the number that a text of digits writes
 abbrev pub numeral_in : List ℕ → Option ℕ

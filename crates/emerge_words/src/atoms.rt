@@ -37,8 +37,8 @@ pub(crate) fn read_atoms(
 ) -> Result<Vec<Atom>, WordFault>
     ensures named { IfOk result (λ atoms.
         AreNamed (atom_words may_name_world (map (λ s. s.now) words.now)) atoms.items) }
-    ensures fault { IfErr result
-        (HasNoAtom (atom_words may_name_world (map (λ s. s.now) words.now))) }
+    ensures fault { IfErr result (HasNoAtom
+        (atom_words may_name_world (map (λ s. s.now) words.now))) }
 {
     let mut atoms = Vec::new(alloc);
     for word in words {

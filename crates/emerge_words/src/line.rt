@@ -47,10 +47,10 @@ impl From<AllocError> for LineFault {
 /// Cuts the words into flags, options and further words.
 pub(crate) fn read_line<'a>(alloc: Global, words: &'a [String]) -> Result<Line<'a>, LineFault>
     ensures cut { IfOk result (λ _. AreCut (map string_bytes words.entry.now)) }
-    ensures line { IfOk result (λ line.
-        line_value line ≡ line_of (map string_bytes words.entry.now)) }
-    ensures fault { IfErr result (λ fault.
-        fault ≡ LineFault.NotCut → ¬ (AreCut (map string_bytes words.entry.now))) }
+    ensures line { IfOk result (λ line. line_value line ≡
+        line_of (map string_bytes words.entry.now)) }
+    ensures fault { IfErr result (λ fault. fault ≡ LineFault.NotCut →
+        ¬ (AreCut (map string_bytes words.entry.now))) }
 {
     let command = words_app(alloc)?;
     match command.try_get_matches_from(words) {
@@ -61,7 +61,8 @@ pub(crate) fn read_line<'a>(alloc: Global, words: &'a [String]) -> Result<Line<'
 
 /// The matches of `clap`, field by field.
 fn line_of<'a>(alloc: Global, matches: &ArgMatches<'a>) -> Result<Line<'a>, AllocError>
-    ensures { IfOk result (λ line. line_value line ≡ line_of_rows (rows_of (found_of matches.now))) }
+    ensures { IfOk result (λ line. line_value line ≡
+        line_of_rows (rows_of (found_of matches.now))) }
 {
     let further = further_of(alloc, matches)?;
     Ok(Line {
@@ -101,16 +102,16 @@ fn text_of<'a>(matches: &ArgMatches<'a>, name: &str) -> Option<&'a str>
 
 /// All values of an argument.
 fn all_of<'b, 'a>(matches: &'b ArgMatches<'a>, name: &str) -> Option<&'b [&'a str]>
-    ensures { option_map (λ s. map (λ v. v.now) s.now) result
-        ≡ all_of name.now (rows_of (found_of matches.now)) }
+    ensures { option_map (λ s. map (λ v. v.now) s.now) result ≡
+        all_of name.now (rows_of (found_of matches.now)) }
 {
     matches.get_raw(name)
 }
 
 /// The words that are neither a flag nor an option.
 fn further_of<'a>(alloc: Global, matches: &ArgMatches<'a>) -> Result<Vec<&'a str>, AllocError>
-    ensures { IfOk result (λ further. map (λ s. s.now) further.items
-        ≡ unwrap_or (all_of (codes "further") (rows_of (found_of matches.now))) []) }
+    ensures { IfOk result (λ further. map (λ s. s.now) further.items ≡
+        unwrap_or (all_of (codes "further") (rows_of (found_of matches.now))) []) }
 {
     match all_of(matches, "further") {
         Some(words) => Vec::from_slice(alloc, words),

@@ -38,8 +38,8 @@ pub(crate) struct Numbers {
 pub(crate) fn read_numbers<'a>(line: &Line<'a>) -> Result<Numbers, &'a str>
     ensures good { IfOk result (λ _. bad_numbers (line_value line.now) ≡ []) }
     ensures numbers { IfOk result (AreNumbers (line_value line.now)) }
-    ensures bad { IfErr result (λ word.
-        slice_get (bad_numbers (line_value line.now)) 0 ≡ Some word.now) }
+    ensures bad { IfErr result (λ word. slice_get (bad_numbers (line_value line.now)) 0 ≡
+        Some word.now) }
 {
     let jobs = read_number(line.jobs, 1, MOST_JOBS, 1)?;
     let backtrack = read_number(line.backtrack, 1, MOST_BACKTRACK, 10_000)?;
@@ -60,10 +60,12 @@ fn read_number<'a>(
     most: u32,
     otherwise: u32,
 ) -> Result<u32, &'a str>
-    ensures good { IfOk result (λ _. bad_number least most (option_map (λ s. s.now) text.entry) ≡ []) }
-    ensures number { IfOk result (λ n. n ≡ number_or otherwise (option_map (λ s. s.now) text.entry)) }
-    ensures bad { IfErr result (λ word.
-        bad_number least most (option_map (λ s. s.now) text.entry) ≡ word.now ∷ []) }
+    ensures good { IfOk result (λ _. bad_number least most (option_map (λ s. s.now) text.entry) ≡
+        []) }
+    ensures number { IfOk result (λ n. n ≡
+        number_or otherwise (option_map (λ s. s.now) text.entry)) }
+    ensures bad { IfErr result (λ word. bad_number least most (option_map (λ s. s.now) text.entry) ≡
+        word.now ∷ []) }
 {
     let Some(text) = text else {
         return Ok(otherwise);

@@ -185,8 +185,8 @@ fn jobs_of(numbers: &Numbers, line: &Line<'_>) -> u32
 
 /// A copy of the text, or of the one that stands for none.
 fn text_or(alloc: Global, text: Option<&str>, otherwise: &str) -> Result<String, AllocError>
-    ensures { IfOk result (λ copy.
-        string_bytes copy ≡ unwrap_or (option_map (λ s. s.now) text.entry) otherwise.now) }
+    ensures { IfOk result (λ copy. string_bytes copy ≡
+        unwrap_or (option_map (λ s. s.now) text.entry) otherwise.now) }
 {
     match text {
         Some(text) => String::from_str(alloc, text),
@@ -196,8 +196,8 @@ fn text_or(alloc: Global, text: Option<&str>, otherwise: &str) -> Result<String,
 
 /// A copy of the text, where there is one.
 fn copy_of(alloc: Global, text: Option<&str>) -> Result<Option<String>, AllocError>
-    ensures { IfOk result (λ copy.
-        option_map string_bytes copy ≡ option_map (λ s. s.now) text.entry) }
+    ensures { IfOk result (λ copy. option_map string_bytes copy ≡
+        option_map (λ s. s.now) text.entry) }
 {
     match text {
         Some(text) => Ok(Some(String::from_str(alloc, text)?)),

@@ -44,7 +44,8 @@ impl FolderBuilder {
         ensures same_id { self.new.id ≡ self.old.id }
         ensures same_paths { self.new.paths.items ≡ self.old.paths.items }
         ensures count { self.old.faults.count ≤ self.new.faults.count }
-        ensures rose { result ≡ BuildStop.Failed → Rose self.old.faults.count self.new.faults.count }
+        ensures rose { result ≡ BuildStop.Failed →
+            Rose self.old.faults.count self.new.faults.count }
     {
         if is_memory(&error) {
             return BuildStop::Memory;

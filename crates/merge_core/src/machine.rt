@@ -40,12 +40,13 @@ impl Model for Core {
 
     ghost Value = { Keeping };
 
-    ghost invariant = { λ c. IsCounted c.standings.items c.syncs
-        (vec_len c.order) (vec_capacity c.order) };
+    ghost invariant = { λ c. IsCounted c.standings.items c.syncs (vec_len c.order)
+        (vec_capacity c.order) };
 
     ghost view = { λ c. record {
       standings = c.standings.items;
-      order = map (λ s. group_of s.group s.standing.value) c.order.items;
+      order = map
+          (λ s. group_of s.group s.standing.value) c.order.items;
       syncs = c.syncs;
       stopped = c.stopped;
     } };
@@ -175,8 +176,8 @@ impl Core {
             answered (machine_of self.old) (event_of group step) ok) }
         ensures groups { length self.new.standings ≡ length self.old.standings }
         ensures refused { IfErr result (IsRefused self.old group step) }
-        ensures only { CanCome self.old group step →
-            Admits (machine_of self.old) (event_of group step) → IsOk result }
+        ensures only { CanCome self.old group step → Admits (machine_of self.old)
+            (event_of group step) → IsOk result }
         ensures kept { OnErr result (self.new ≡ self.old) }
     {
         self.judge(group, step)?;

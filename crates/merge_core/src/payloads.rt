@@ -37,8 +37,8 @@ impl Core {
 
     fn judge_stage(&self, group: u32) -> Result<(), Refusal>
         ensures at { OnOk result (IsAt self.now group Phase.Building) }
-        ensures small { OnOk result
-            (length (standing_in self.now.standings group).objects < 2 ^ 32) }
+        ensures small { OnOk result (length
+            (standing_in self.now.standings group).objects < 2 ^ 32) }
         ensures refused { IfErr result (IsRefusedAt self.now group Phase.Building
             (IsFull (standing_in self.now.standings group))) }
     {
@@ -57,8 +57,8 @@ impl Core {
         ok: bool,
     ) -> Result<(), AllocError>
         requires { IsAt self.old group Phase.Building }
-        ensures ok { OnOk result (self.new ≡ with_answer self.old group
-            (with_stage ok self.old.syncs placement object.now
+        ensures ok { OnOk result (self.new ≡
+            with_answer self.old group (with_stage ok self.old.syncs placement object.now
             (standing_in self.old.standings group)) ok) }
         ensures kept { OnErr result (self.new ≡ self.old) }
     {
@@ -80,8 +80,8 @@ impl Core {
     ) -> Result<(), Refusal>
         requires staged { IsStaged (Some object.now) placement }
         ensures comes { OnOk result (IsRunning self.old group) }
-        ensures admitted { OnOk result
-            (Admits (machine_of self.old) (PutStage group placement object.now)) }
+        ensures admitted { OnOk result (Admits (machine_of self.old)
+            (PutStage group placement object.now)) }
         ensures done { OnOk result (machine_of self.new ≡
             answered (machine_of self.old) (PutStage group placement object.now) ok) }
         ensures groups { length self.new.standings ≡ length self.old.standings }
@@ -102,8 +102,8 @@ impl Core {
         ok: bool,
     ) -> Result<(), Refusal>
         requires { IsAt self.old group Phase.Building }
-        ensures ok { OnOk result (self.new ≡ with_answer self.old group
-            (with_record ok self.old.syncs group removals.items
+        ensures ok { OnOk result (self.new ≡
+            with_answer self.old group (with_record ok self.old.syncs group removals.items
             (standing_in self.old.standings group)) ok) }
         ensures fits { OnOk result (Fits (put_content (machine_of self.old) group removals.items)) }
         ensures refused { IfErr result (IsRefusedAt self.old group Phase.Building
@@ -126,8 +126,8 @@ impl Core {
         ok: bool,
     ) -> Result<(), Refusal>
         ensures comes { OnOk result (IsRunning self.old group) }
-        ensures admitted { OnOk result
-            (Admits (machine_of self.old) (PutRecord group removals.items)) }
+        ensures admitted { OnOk result (Admits (machine_of self.old)
+            (PutRecord group removals.items)) }
         ensures done { OnOk result (machine_of self.new ≡
             answered (machine_of self.old) (PutRecord group removals.items) ok) }
         ensures groups { length self.new.standings ≡ length self.old.standings }
@@ -155,8 +155,8 @@ impl Core {
         requires apart { IsApart (machine_of self.old).roll group }
         ensures comes { OnOk result (IsRunning self.old group) }
         ensures admitted { OnOk result (Admits (machine_of self.old) (Claim group)) }
-        ensures done { OnOk result
-            (machine_of self.new ≡ answered (machine_of self.old) (Claim group) ok) }
+        ensures done { OnOk result (machine_of self.new ≡
+            answered (machine_of self.old) (Claim group) ok) }
         ensures groups { length self.new.standings ≡ length self.old.standings }
         ensures refused { IfErr result (IsRefusedAt self.old group Phase.Sealed ⊥) }
         ensures admits { IsAt self.old group Phase.Sealed → IsOk result }

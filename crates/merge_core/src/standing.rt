@@ -32,16 +32,8 @@ impl Model for Standing {
 
     ghost Value = { roll.Standing };
 
-    ghost view = { λ s. record {
-      phase = phase_of s.phase;
-      removals = s.removals.items;
-      placements = s.placements.items;
-      objects = map (λ o. o.value) s.objects.items;
-      body = s.body.value;
-      placed = s.placed;
-      removed = s.removed;
-      stamp = s.stamp;
-    } };
+    ghost view = { λ s. record
+        { phase = phase_of s.phase; removals = s.removals.items; placements = s.placements.items; objects = map (λ o. o.value) s.objects.items; body = s.body.value; placed = s.placed; removed = s.removed; stamp = s.stamp } };
 }
 
 impl Standing {
@@ -198,22 +190,13 @@ impl Standing {
     ) -> Result<(Vec<Path>, Vec<u8>), RecordFault>
         ensures kept { self.new ≡ self.old }
         ensures ok { IfOk result (λ r. (r.0.items ≡ removals.items) ×
-            Fits (record {
-              group = group;
-              removals = removals.items;
-              placements = self.old.placements;
-            }) × (r.1.items ≡
-            spelling (record {
-              group = group;
-              removals = removals.items;
-              placements = self.old.placements;
-            }))) }
+            Fits (record
+            { group = group; removals = removals.items; placements = self.old.placements }) ×
+            (r.1.items ≡ spelling
+            (record { group = group; removals = removals.items; placements = self.old.placements }))) }
         ensures limit { IsErrOf result RecordFault.Limit →
-            PassesLimit (record {
-              group = group;
-              removals = removals.items;
-              placements = self.old.placements;
-            }) }
+            PassesLimit (record
+            { group = group; removals = removals.items; placements = self.old.placements }) }
         ensures only { IfErr result (λ e. (e ≡ RecordFault.Limit) ⊎ (e ≡ RecordFault.Memory)) }
     {
         let placements = mem::replace(&mut self.placements, Vec::new(alloc));
@@ -244,19 +227,12 @@ impl Standing {
         ok: bool,
         syncs: u64,
     ) -> Result<(), Refusal>
-        ensures ok { OnOk result (self.new ≡
-            with_record ok syncs group removals.items self.old) }
-        ensures fits { OnOk result (Fits (record {
-          group = group;
-          removals = removals.items;
-          placements = self.old.placements;
-        })) }
+        ensures ok { OnOk result (self.new ≡ with_record ok syncs group removals.items self.old) }
+        ensures fits { OnOk result (Fits
+            (record { group = group; removals = removals.items; placements = self.old.placements })) }
         ensures limit { IsErrOf result Refusal.Limit →
-            PassesLimit (record {
-              group = group;
-              removals = removals.items;
-              placements = self.old.placements;
-            }) }
+            PassesLimit (record
+            { group = group; removals = removals.items; placements = self.old.placements }) }
         ensures only { IfErr result (λ e. (e ≡ Refusal.Limit) ⊎ (e ≡ Refusal.Memory)) }
         ensures kept { OnErr result (self.new ≡ self.old) }
     {

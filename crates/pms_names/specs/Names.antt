@@ -25,7 +25,8 @@ pub record IsSpelled (kind : Kind) (bytes : List ℕ) : Type 0 where
 
 -- some hyphen of the text has a version and nothing more behind it
 abbrev pub EndsInVersion : List ℕ → Type 0
-EndsInVersion bytes = (k : ℕ) × (k < length bytes) × (slice_index bytes k ≡ hyphen) × IsVersionText (drop (k + 1) bytes)
+EndsInVersion bytes = (k : ℕ) × (k < length bytes) × (slice_index bytes k ≡ hyphen) ×
+    IsVersionText (drop (k + 1) bytes)
 
 -- the text ends as no name of the kind does
 abbrev pub EndsBadly : Kind → List ℕ → Type 0
@@ -49,7 +50,9 @@ pub record IsFirstBadByte (kind : Kind) (bytes : List ℕ) (at : ℕ) : Type 0 w
 abbrev pub FirstFault : Kind → List ℕ → NameFault → Type 0
 FirstFault kind bytes Empty = length bytes ≡ 0
 FirstFault kind bytes TooLong = MOST_BYTES < length bytes
-FirstFault kind bytes BadStart = HasNameLength bytes × (begins_badly kind (slice_index bytes 0) ≡ true)
-FirstFault kind bytes (BadChar at) = HasNameLength bytes × (begins_badly kind (slice_index bytes 0) ≡ false) × IsFirstBadByte kind bytes at
+FirstFault kind bytes BadStart =
+    HasNameLength bytes × (begins_badly kind (slice_index bytes 0) ≡ true)
+FirstFault kind bytes (BadChar at) = HasNameLength bytes ×
+    (begins_badly kind (slice_index bytes 0) ≡ false) × IsFirstBadByte kind bytes at
 FirstFault kind bytes EndsLikeVersion = IsSpelled kind bytes × EndsBadly kind bytes
 FirstFault kind bytes Memory = Unit {0}

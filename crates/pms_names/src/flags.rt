@@ -1,4 +1,5 @@
-ghost use Rattle.std.specs.Prelude.{◌≡◌, ℕ, List, [], ◌||◌, ◌&&◌, not, bytes_eq, length, IfOk, OnOk, OnErr};
+ghost use Rattle.std.specs.Prelude.{◌≡◌, ℕ, List, [], ◌||◌, ◌&&◌, not, bytes_eq, length, IfOk};
+ghost use Rattle.std.specs.Prelude.{OnOk, OnErr};
 ghost use Rattle.std.specs.Map.Iter.{ShowsInOrder, deref};
 ghost use Rattle.pms_names.specs.Flags.{has, IsRising};
 
@@ -45,7 +46,8 @@ impl Flags {
 
     /// Adds the flag, and answers whether it is new.
     pub fn insert(&mut self, flag: Flag) -> Result<bool, AllocError>
-        ensures ok { OnOk result ((q : List ℕ) → has self.new q ≡ (bytes_eq q flag || has self.old q)) }
+        ensures ok { OnOk result ((q : List ℕ) →
+            has self.new q ≡ (bytes_eq q flag || has self.old q)) }
         ensures new { IfOk result (λ new. new ≡ not (has self.old flag)) }
         ensures err { OnErr result (self.new ≡ self.old) }
         ensures rising { IsRising self.new }
@@ -55,7 +57,8 @@ impl Flags {
 
     /// Takes the flag out, and answers whether it was there.
     pub fn remove(&mut self, flag: &Flag) -> bool
-        ensures after { (q : List ℕ) → has self.new q ≡ (not (bytes_eq q flag.now) && has self.old q) }
+        ensures after { (q : List ℕ) → has self.new q ≡
+            (not (bytes_eq q flag.now) && has self.old q) }
         ensures found { result ≡ has self.old flag.now }
         ensures rising { IsRising self.new }
     {

@@ -1,6 +1,8 @@
-ghost use Rattle.std.specs.Prelude.{◌≡◌, ◌≢◌, ◌↔◌, IfOk, IfErr, OnOk, IfNone, IfSome, IsTrue, MatchOption};
+ghost use Rattle.std.specs.Prelude.{◌≡◌, ◌≢◌, ◌↔◌, IfOk, IfErr, OnOk, IfNone, IfSome, IsTrue};
+ghost use Rattle.std.specs.Prelude.{MatchOption};
 ghost use Rattle.pms_names.specs.Bytes.{is_name_byte, may_contain, begins_badly};
-ghost use Rattle.pms_names.specs.Names.{AreNameBytes, IsFirstBadByte, IsName, EndsInVersion, FirstFault};
+ghost use Rattle.pms_names.specs.Names.{AreNameBytes, IsFirstBadByte, IsName, EndsInVersion};
+ghost use Rattle.pms_names.specs.Names.{FirstFault};
 ghost use Rattle.pms_names.specs.declared.fault.NameFault.TheVariants.{Memory};
 
 use crate::fault::NameFault;

@@ -1,4 +1,5 @@
--- Which versions "=…*" accepts (PMS 8.3.1 for the numbers; letters, suffixes and revisions are this project's own reading).
+-- Which versions "=…*" accepts (PMS 8.3.1 for the numbers; letters, suffixes and revisions are this
+-- project's own reading).
 use Rattle.std.specs.Prelude.{ℕ, Bool, true, false, ◌&&◌, ◌||◌, ◌==◌, if◌then◌else◌, List, [], ◌∷◌, length}
 use Rattle.std.specs.Ordering.{nat_cmp, is_eq}
 use Rattle.std.specs.Cmp.Lexicographic.{slice_cmp}
@@ -13,7 +14,8 @@ numbers_begin (a ∷ as') (b ∷ bs) = is_eq (later_number_cmp a b) && numbers_b
 
 -- the same kind and number; a last suffix without a number asks for its kind alone
 abbrev pub suffix_begins : Bool → SuffixText → SuffixText → Bool
-suffix_begins last a b = (rank a.kind == rank b.kind) && ((last && is_empty a.digits) || is_eq (integer_cmp a.digits b.digits))
+suffix_begins last a b = (rank a.kind == rank b.kind) &&
+    ((last && is_empty a.digits) || is_eq (integer_cmp a.digits b.digits))
 
 -- the suffixes written are the candidate's first ones
 abbrev pub suffixes_begin : List SuffixText → List SuffixText → Bool
@@ -27,11 +29,13 @@ ends_in_number p = is_empty p.letter && is_empty p.suffixes
 
 -- as many numbers, the same letter or none, and the suffixes written
 abbrev pub letter_and_suffixes_begin : Parts → Parts → Bool
-letter_and_suffixes_begin a b = (length a.more == length b.more) && (is_eq (slice_cmp nat_cmp a.letter b.letter) && suffixes_begin a.suffixes b.suffixes)
+letter_and_suffixes_begin a b = (length a.more == length b.more) &&
+    (is_eq (slice_cmp nat_cmp a.letter b.letter) && suffixes_begin a.suffixes b.suffixes)
 
 -- the version written begins the candidate; with a written revision it equals the candidate
 abbrev pub version_begins : Parts → Parts → Bool
 version_begins a b =
     if is_empty a.revision
-    then is_eq (integer_cmp a.first b.first) && (numbers_begin a.more b.more && (ends_in_number a || letter_and_suffixes_begin a b))
+    then is_eq (integer_cmp a.first b.first) &&
+    (numbers_begin a.more b.more && (ends_in_number a || letter_and_suffixes_begin a b))
     else is_eq (version_cmp a b)

@@ -21,7 +21,8 @@ key_cmp a b =
     ordering_then
     (ordering_then
     (ordering_then
-    (ordering_then (nat_cmp (decimal a.first) (decimal b.first)) (slice_cmp (slice_cmp nat_cmp) (map later_key a.more) (map later_key b.more)))
+    (ordering_then (nat_cmp (decimal a.first) (decimal b.first))
+    (slice_cmp (slice_cmp nat_cmp) (map later_key a.more) (map later_key b.more)))
     (slice_cmp nat_cmp a.letter b.letter))
     (slice_cmp nat_cmp (suffix_key a.suffixes) (suffix_key b.suffixes)))
     (nat_cmp (decimal a.revision) (decimal b.revision))

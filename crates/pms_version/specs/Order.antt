@@ -29,9 +29,11 @@ abbrev pub trim_zeros : List ℕ → List ℕ
 trim_zeros [] = []
 trim_zeros (d ∷ ds) = if d == 48 && is_empty (trim_zeros ds) then [] else d ∷ trim_zeros ds
 
--- numbers behind a dot: where either begins with a zero, as texts without the zeros at their end, and else by what they write
+-- numbers behind a dot: where either begins with a zero, as texts without the zeros at their end,
+-- and else by what they write
 abbrev pub later_number_cmp : List ℕ → List ℕ → Ordering
-later_number_cmp a b = if begins_zero a || begins_zero b then slice_cmp nat_cmp (trim_zeros a) (trim_zeros b) else integer_cmp a b
+later_number_cmp a b = if begins_zero a ||
+    begins_zero b then slice_cmp nat_cmp (trim_zeros a) (trim_zeros b) else integer_cmp a b
 
 -- the order of the kinds; 4 is free for no suffix at all
 abbrev pub rank : SuffixKind → ℕ
@@ -51,11 +53,13 @@ suffixes_cmp [] (b ∷ bs) = nat_cmp 4 (rank b.kind)
 suffixes_cmp (a ∷ as') [] = nat_cmp (rank a.kind) 4
 suffixes_cmp (a ∷ as') (b ∷ bs) = ordering_then (suffix_cmp a b) (suffixes_cmp as' bs)
 
--- all but the revisions: the first numbers, the later ones, more of which are greater, the letters, the suffixes
+-- all but the revisions: the first numbers, the later ones, more of which are greater, the letters,
+-- the suffixes
 abbrev pub base_cmp : Parts → Parts → Ordering
 base_cmp a b =
     ordering_then
-    (ordering_then (ordering_then (integer_cmp a.first b.first) (slice_cmp later_number_cmp a.more b.more)) (slice_cmp nat_cmp a.letter b.letter))
+    (ordering_then (ordering_then (integer_cmp a.first b.first)
+    (slice_cmp later_number_cmp a.more b.more)) (slice_cmp nat_cmp a.letter b.letter))
     (suffixes_cmp a.suffixes b.suffixes)
 
 -- the order of versions; a revision that is not written is 0
@@ -63,4 +67,5 @@ abbrev pub version_cmp : Parts → Parts → Ordering
 version_cmp a b = ordering_then (base_cmp a b) (integer_cmp a.revision b.revision)
 
 abbrev pub without_revision : Parts → Parts
-without_revision p = record { first = p.first; more = p.more; letter = p.letter; suffixes = p.suffixes; revision = [] }
+without_revision p = record
+    { first = p.first; more = p.more; letter = p.letter; suffixes = p.suffixes; revision = [] }

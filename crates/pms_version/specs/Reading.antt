@@ -10,7 +10,8 @@ use Rattle.pms_version.specs.declared.fault.VersionFault.TheVariants.{Empty, Bad
 abbrev pub IsShortBefore : List ℕ → ℕ → Type 0
 IsShortBefore bytes at = (k : ℕ) → k < at → digit_count (drop k bytes) ≤ MOST_DIGITS
 
--- what is true of the text at each fault: it is empty; else it is too long; else the first of the other two stands there
+-- what is true of the text at each fault: it is empty; else it is too long; else the first of the
+-- other two stands there
 abbrev pub FirstFault : List ℕ → VersionFault → Type 0
 FirstFault bytes Empty = length bytes ≡ 0
 FirstFault bytes TooLong = MOST_BYTES < length bytes

@@ -12,13 +12,16 @@ pub record EndsNumbers (after : List ℕ) : Type 0 where
 -- of the numbers that the bytes spell some are done, and what is left spells the rest
 abbrev pub ReadsNumbers : List ℕ → List (List ℕ) → List ℕ → Type 0
 ReadsNumbers bytes done left =
-    (ns : List (List ℕ)) (after : List ℕ) → AllByRecursion IsInteger ns → EndsNumbers after → bytes ≡ flat_map spell_number ns ++ after →
-    (rest : List (List ℕ)) × (ns ≡ done ++ rest) × AllByRecursion IsInteger rest × (left ≡ flat_map spell_number rest ++ after)
+    (ns : List (List ℕ)) (after : List ℕ) → AllByRecursion IsInteger ns → EndsNumbers after →
+    bytes ≡ flat_map spell_number ns ++ after →
+    (rest : List (List ℕ)) × (ns ≡ done ++ rest) × AllByRecursion IsInteger rest ×
+    (left ≡ flat_map spell_number rest ++ after)
 
 -- all the numbers that the bytes spell are done
 abbrev pub HasReadNumbers : List ℕ → List (List ℕ) → List ℕ → Type 0
 HasReadNumbers bytes done left =
-    (ns : List (List ℕ)) (after : List ℕ) → AllByRecursion IsInteger ns → EndsNumbers after → bytes ≡ flat_map spell_number ns ++ after →
+    (ns : List (List ℕ)) (after : List ℕ) → AllByRecursion IsInteger ns → EndsNumbers after →
+    bytes ≡ flat_map spell_number ns ++ after →
     (done ≡ ns) × (left ≡ after)
 
 abbrev pub AreSuffixes : List SuffixText → Type 0
@@ -27,7 +30,8 @@ AreSuffixes ss = AllByRecursion (λ (s : SuffixText). AreDigits s.digits) ss
 -- the letter or none, and what follows
 abbrev pub HasReadLetter : List ℕ → List ℕ → List ℕ → Type 0
 HasReadLetter bytes letter left =
-    (l : List ℕ) (ss : List SuffixText) (r : List ℕ) → IsLetter l → AreSuffixes ss → AreDigits r → bytes ≡ l ++ spell_ending ss r →
+    (l : List ℕ) (ss : List SuffixText) (r : List ℕ) → IsLetter l → AreSuffixes ss → AreDigits r →
+    bytes ≡ l ++ spell_ending ss r →
     (letter ≡ l) × (left ≡ spell_ending ss r)
 
 -- of the suffixes some are done, and what is left spells the rest

@@ -46,7 +46,8 @@ pub fn check(bytes: &[u8]) -> Result<(), VersionFault>
 /// Where more digits in a row begin than a number has.
 fn long_number(bytes: &[u8]) -> Option<usize>
     ensures none { IfNone result (HasShortNumbers bytes.now) }
-    ensures first { IfSome result (λ at. (MOST_DIGITS < digit_count (drop at bytes.now)) × IsShortBefore bytes.now at) }
+    ensures first { IfSome result (λ at. (MOST_DIGITS < digit_count (drop at bytes.now)) ×
+        IsShortBefore bytes.now at) }
 {
     let mut start = 0;
     for (at, byte) in bytes.iter().enumerate() {

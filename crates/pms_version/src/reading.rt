@@ -3,9 +3,11 @@ ghost use Rattle.pms_version.specs.Inside.{kind_of};
 ghost use Rattle.pms_version.specs.Limits.{HasShortNumbers};
 ghost use Rattle.pms_version.specs.Steps.{HasReadLetter, HasReadNumbers, HasReadSuffixes};
 ghost use Rattle.std.specs.Option.{option_to_list};
-ghost use Rattle.std.specs.Prelude.{◌≡◌, ◌≤◌, ◌++◌, IfOk, List, drop, false, length, slice_index, ℕ};
+ghost use Rattle.std.specs.Prelude.{◌≡◌, ◌≤◌, ◌++◌, IfOk, List, drop, false, length, slice_index};
+ghost use Rattle.std.specs.Prelude.{ℕ};
 ghost use Rattle.basics.specs.Bytes.{is_digit, is_lower};
-ghost use Rattle.version_text.specs.Grammar.{AreDigits, IsVersion, IsVersionText, Parts, kind_at, spell_revision, spelling, word};
+ghost use Rattle.version_text.specs.Grammar.{AreDigits, IsVersion, IsVersionText, Parts, kind_at};
+ghost use Rattle.version_text.specs.Grammar.{spell_revision, spelling, word};
 
 use crate::number::Number;
 use crate::suffix::{Kind, Suffix};

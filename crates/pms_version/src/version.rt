@@ -1,6 +1,8 @@
-ghost use Rattle.pms_version.specs.Begins.{ends_in_number, letter_and_suffixes_begin, numbers_begin, suffixes_begin, version_begins};
+ghost use Rattle.pms_version.specs.Begins.{ends_in_number, letter_and_suffixes_begin};
+ghost use Rattle.pms_version.specs.Begins.{numbers_begin, suffixes_begin, version_begins};
 ghost use Rattle.pms_version.specs.Limits.{IsReadable};
-ghost use Rattle.pms_version.specs.Order.{base_cmp, later_number_cmp, suffixes_cmp, version_cmp, without_revision};
+ghost use Rattle.pms_version.specs.Order.{base_cmp, later_number_cmp, suffixes_cmp, version_cmp};
+ghost use Rattle.pms_version.specs.Order.{without_revision};
 ghost use Rattle.pms_version.specs.Reading.{FirstFault};
 ghost use Rattle.pms_version.specs.declared.fault.VersionFault.TheVariants.{Memory};
 ghost use Rattle.std.specs.Cmp.Lexicographic.{slice_cmp};
@@ -45,7 +47,8 @@ impl Version {
     /// Reads a version of at most 255 bytes whose numbers have at most 38 digits each.
     pub fn parse(alloc: Global, text: &str) -> Result<Version, VersionFault>
         ensures found { IfOk result (λ v. IsReadable v × (text.now ≡ spelling v)) }
-        ensures only { (p : Parts) → IsReadable p → text.now ≡ spelling p → MatchResult result (λ v. v ≡ p) (λ e. e ≡ Memory) }
+        ensures only { (p : Parts) → IsReadable p → text.now ≡ spelling p →
+            MatchResult result (λ v. v ≡ p) (λ e. e ≡ Memory) }
         ensures fault { IfErr result (FirstFault text.now) }
     {
         match check(text.as_bytes()) {
@@ -82,7 +85,8 @@ impl Version {
 
     /// Equal in all but the revision, as `~` asks.
     pub fn equal_without_revision(&self, other: &Version) -> bool
-        ensures { result ≡ is_eq (version_cmp (without_revision self.now) (without_revision other.now)) }
+        ensures { result ≡ is_eq
+            (version_cmp (without_revision self.now) (without_revision other.now)) }
     {
         self.compare_base(other).is_eq()
     }

@@ -15,7 +15,8 @@ view_step (Required-F.All nodes) = group None (trees_of nodes.items)
 view_step (Required-F.AnyOf nodes) = group (Some openers.AnyOf) (trees_of nodes.items)
 view_step (Required-F.ExactlyOne nodes) = group (Some openers.ExactlyOne) (trees_of nodes.items)
 view_step (Required-F.AtMostOne nodes) = group (Some openers.AtMostOne) (trees_of nodes.items)
-view_step (Required-F.When flag on nodes) = group (Some (openers.When flag on)) (trees_of nodes.items)
+view_step (Required-F.When flag on nodes) =
+    group (Some (openers.When flag on)) (trees_of nodes.items)
 
 -- the tree that an expression is
 abbrev pub view : Required → Tree (Opener (List ℕ)) Item

@@ -20,7 +20,8 @@ use std::alloc::{AllocError, Global};
 /// The expressions that the text is.
 pub fn read(alloc: Global, text: &str) -> Result<Vec<Required>, RequiredFault>
     ensures found { IfOk result (λ nodes. Writes text.now (trees_view nodes.items)) }
-    ensures only { (x : Expressions) → Writes text.now x → MatchResult result (λ nodes. trees_view nodes.items ≡ x) IsMemory }
+    ensures only { (x : Expressions) → Writes text.now x →
+        MatchResult result (λ nodes. trees_view nodes.items ≡ x) IsMemory }
     ensures fault { IfErr result (FirstFault text.now) }
 {
     let words = match words(alloc, text) {
@@ -119,7 +120,8 @@ fn denied(word: &str) -> (bool, &str)
 
 /// The flag that the text is, if it is one.
 fn flag(alloc: Global, text: &str) -> Result<Option<Flag>, AllocError>
-    ensures { IfOk result (λ found. MatchOption found (IsFlag text.now → ⊥) (λ flag. (flag ≡ text.now) × IsFlag text.now)) }
+    ensures { IfOk result (λ found.
+        MatchOption found (IsFlag text.now → ⊥) (λ flag. (flag ≡ text.now) × IsFlag text.now)) }
 {
     match Flag::parse(alloc, text) {
         Ok(flag) => Ok(Some(flag)),

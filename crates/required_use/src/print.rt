@@ -23,7 +23,8 @@ pub fn print(alloc: Global, nodes: &[Required]) -> Result<String, AllocError>
 
 #[cycle(print)]
 fn push_all(nodes: &[Required], out: &mut String) -> Result<(), AllocError>
-    ensures { OnOk result (Adds (string_bytes out.old) (string_bytes out.new) (all_tokens (trees_view nodes.now))) }
+    ensures { OnOk result (Adds (string_bytes out.old) (string_bytes out.new)
+        (all_tokens (trees_view nodes.now))) }
 {
     for node in nodes {
         push(node, out)?;
@@ -33,7 +34,8 @@ fn push_all(nodes: &[Required], out: &mut String) -> Result<(), AllocError>
 
 #[cycle(print)]
 fn push_group(nodes: &[Required], out: &mut String) -> Result<(), AllocError>
-    ensures { OnOk result (Adds (string_bytes out.old) (string_bytes out.new) (group_tokens (trees_view nodes.now))) }
+    ensures { OnOk result (Adds (string_bytes out.old) (string_bytes out.new)
+        (group_tokens (trees_view nodes.now))) }
 {
     push_word(out, "", "(", "")?;
     push_all(nodes, out)?;
@@ -43,7 +45,8 @@ fn push_group(nodes: &[Required], out: &mut String) -> Result<(), AllocError>
 
 #[cycle(print)]
 fn push(node: &Required, out: &mut String) -> Result<(), AllocError>
-    ensures { OnOk result (Adds (string_bytes out.old) (string_bytes out.new) (tokens (view node.now))) }
+    ensures { OnOk result (Adds (string_bytes out.old) (string_bytes out.new)
+        (tokens (view node.now))) }
 {
     match node {
         Required::Item { flag, on } => {
@@ -78,7 +81,8 @@ fn push(node: &Required, out: &mut String) -> Result<(), AllocError>
 }
 
 fn push_item(flag: &Flag, on: bool, out: &mut String) -> Result<(), AllocError>
-    ensures { OnOk result (string_bytes out.new ≡ and_space (string_bytes out.old) ++ item_text flag.now on) }
+    ensures { OnOk result (string_bytes out.new ≡
+        and_space (string_bytes out.old) ++ item_text flag.now on) }
 {
     if on {
         push_word(out, "", flag.text(), "")?;
@@ -89,7 +93,8 @@ fn push_item(flag: &Flag, on: bool, out: &mut String) -> Result<(), AllocError>
 }
 
 fn push_condition(flag: &Flag, on: bool, out: &mut String) -> Result<(), AllocError>
-    ensures { OnOk result (string_bytes out.new ≡ and_space (string_bytes out.old) ++ condition flag.now on) }
+    ensures { OnOk result (string_bytes out.new ≡
+        and_space (string_bytes out.old) ++ condition flag.now on) }
 {
     if on {
         push_word(out, "", flag.text(), "?")?;

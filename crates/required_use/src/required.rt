@@ -1,6 +1,8 @@
-ghost use Rattle.std.specs.Prelude.{◌≡◌, ◌+◌, ◌≤◌, ◌↔◌, Bool, IfErr, IfOk, IsNone, IsTrue, List, MatchResult, map, not, string_bytes, ℕ};
+ghost use Rattle.std.specs.Prelude.{◌≡◌, ◌+◌, ◌≤◌, ◌↔◌, Bool, IfErr, IfOk, IsNone, IsTrue, List};
+ghost use Rattle.std.specs.Prelude.{MatchResult, map, not, string_bytes, ℕ};
 ghost use Rattle.std.specs.List.{position};
-ghost use Rattle.dep_group.specs.Trees.{Trees, all_hold, group, holds, is_member, is_met, true_members, trees_of};
+ghost use Rattle.dep_group.specs.Trees.{Trees, all_hold, group, holds, is_member, is_met};
+ghost use Rattle.dep_group.specs.Trees.{true_members, trees_of};
 ghost use Rattle.pms_names.specs.Flags.{has};
 ghost use Rattle.dep_group.specs.Tokens.{IsInForm};
 ghost use Rattle.required_use.specs.Faults.{FirstFault, HasFault, IsMemory};
@@ -51,7 +53,8 @@ impl RequiredUse {
     /// a fault at the end.
     pub fn parse(alloc: Global, text: &str) -> Result<RequiredUse, RequiredFault>
         ensures found { IfOk result (λ r. Writes text.now (trees r)) }
-        ensures only { (x : Expressions) → Writes text.now x → MatchResult result (λ r. trees r ≡ x) IsMemory }
+        ensures only { (x : Expressions) → Writes text.now x →
+            MatchResult result (λ r. trees r ≡ x) IsMemory }
         ensures fault { IfErr result (FirstFault text.now) }
     {
         match parse::read(alloc, text) {
@@ -76,15 +79,19 @@ impl RequiredUse {
 
     /// The index of the first of the outermost expressions that does not hold.
     pub fn first_broken(&self, enabled: &Flags) -> Option<usize>
-        ensures first { result ≡ position (λ r. not (holds kind (is_on enabled.now) (has enabled.now) (view r))) self.now.nodes.items }
-        ensures none { IsNone result ↔ IsTrue (all_hold kind (is_on enabled.now) (has enabled.now) (trees self.now)) }
+        ensures first { result ≡ position
+            (λ r. not (holds kind (is_on enabled.now) (has enabled.now)
+            (view r))) self.now.nodes.items }
+        ensures none { IsNone result ↔ IsTrue
+            (all_hold kind (is_on enabled.now) (has enabled.now) (trees self.now)) }
     {
         first_false(&self.nodes, enabled)
     }
 }
 
 fn first_false(nodes: &[Required], enabled: &Flags) -> Option<usize>
-    ensures { result ≡ position (λ r. not (holds kind (is_on enabled.now) (has enabled.now) (view r))) nodes.now }
+    ensures { result ≡ position
+        (λ r. not (holds kind (is_on enabled.now) (has enabled.now) (view r))) nodes.now }
 {
     nodes.iter().position(|node| !node.holds(enabled))
 }
@@ -97,7 +104,8 @@ pub fn printed_text_has_the_words()
 
 /// A law: but for want of memory a text has one fault at most, and an expression has none.
 pub fn one_fault()
-    ensures once { (text : List ℕ) (a b : RequiredFault) → HasFault text a → HasFault text b → a ≡ b }
+    ensures once { (text : List ℕ) (a b : RequiredFault) → HasFault text a → HasFault text b →
+        a ≡ b }
     ensures none { (text : List ℕ) (a : RequiredFault) → IsExpression text → ¬ HasFault text a }
 {}
 
@@ -133,7 +141,8 @@ fn all_hold(nodes: &[Required], enabled: &Flags) -> bool
 
 #[cycle(holds)]
 fn true_members(nodes: &[Required], enabled: &Flags) -> usize
-    ensures { result ≡ true_members kind (is_on enabled.now) (has enabled.now) (trees_view nodes.now) }
+    ensures { result ≡ true_members kind (is_on enabled.now) (has enabled.now)
+        (trees_view nodes.now) }
 {
     let mut count = 0;
     for node in nodes {

@@ -6,5 +6,6 @@ ghost use Rattle.slot_value.specs.Slots.{IsSlotValue, slot_text};
 /// A law: a text says one slot and one subslot, and what is printed says what it was printed from.
 pub fn one_slot_value()
     ensures one { (t a b c d : List ℕ) → IsSlotValue t a b → IsSlotValue t c d → (a ≡ c) × (b ≡ d) }
-    ensures printed { (a b : List ℕ) → IsName Slot a → IsName Slot b → IsSlotValue (slot_text a b) a b }
+    ensures printed { (a b : List ℕ) → IsName Slot a → IsName Slot b →
+        IsSlotValue (slot_text a b) a b }
 {}

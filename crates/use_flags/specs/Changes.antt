@@ -15,7 +15,8 @@ clear_text = hyphen ∷ 42 ∷ []
 abbrev pub change_of : List ℕ → Change
 change_of [] = Add []
 change_of (b ∷ bytes) =
-    if bytes_eq (b ∷ bytes) clear_text then Clear else (if b == hyphen then Take bytes else Add (b ∷ bytes))
+    if bytes_eq (b ∷ bytes) clear_text then Clear else
+    (if b == hyphen then Take bytes else Add (b ∷ bytes))
 
 -- the change is one of a flag's name, or of no flag
 abbrev pub IsWellNamed : Change → Type 0

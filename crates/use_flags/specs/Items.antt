@@ -29,7 +29,8 @@ IsItem word = IsName Flag (flag_of word)
 abbrev pub AddsFlag : List (List ℕ) → List (List ℕ) → List ℕ → Type 0
 AddsFlag was is item = (q : List ℕ) → has is q ≡ (bytes_eq q (flag_of item) || has was q)
 
--- the set of flags that are on by default says of the item's flag what the item says, and else what it said
+-- the set of flags that are on by default says of the item's flag what the item says, and else what
+-- it said
 abbrev pub SetsDefault : List (List ℕ) → List (List ℕ) → List ℕ → Type 0
 SetsDefault was is item =
     (q : List ℕ) → has is q ≡ (if bytes_eq q (flag_of item) then is_on item else has was q)

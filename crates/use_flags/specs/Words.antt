@@ -18,7 +18,8 @@ EachWord IsGood bytes = AllByRecursion IsGood (words bytes)
 -- the text has no bytes, or ends in a white one
 abbrev pub EndsInBreak : List ℕ → Type 0
 EndsInBreak bytes =
-    (bytes ≡ []) ⊎ ((front : List ℕ) × (b : ℕ) × (is_ascii_whitespace b ≡ true) × (bytes ≡ front ++ (b ∷ [])))
+    (bytes ≡ []) ⊎ ((front : List ℕ) × (b : ℕ) × (is_ascii_whitespace b ≡ true) ×
+    (bytes ≡ front ++ (b ∷ [])))
 
 -- the text has no bytes, or begins with a white one
 abbrev pub BeginsWithBreak : List ℕ → Type 0

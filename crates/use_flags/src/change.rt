@@ -75,7 +75,8 @@ pub fn apply(flags: &mut Flags, changes: &[Change]) -> Result<(), AllocError>
 }
 
 fn apply_one(flags: &mut Flags, change: &Change) -> Result<(), AllocError>
-    ensures ok { OnOk result ((q : List ℕ) → has flags.new q ≡ changed q (has flags.old q) change.now) }
+    ensures ok { OnOk result ((q : List ℕ) →
+        has flags.new q ≡ changed q (has flags.old q) change.now) }
     ensures err { OnErr result (flags.new ≡ flags.old) }
 {
     match change {

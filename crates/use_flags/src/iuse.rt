@@ -22,7 +22,8 @@ pub struct Iuse {
 impl Iuse {
     /// Reads the text of IUSE. A flag may have several items, of which the last counts.
     pub fn parse(alloc: Global, text: &str) -> Result<Iuse, UseFault>
-        ensures flags { IfOk result (λ r. (q : List ℕ) → has r.flags q ≡ names_flag (words text.now) q) }
+        ensures flags { IfOk result (λ r. (q : List ℕ) →
+            has r.flags q ≡ names_flag (words text.now) q) }
         ensures on { IfOk result (λ r. (q : List ℕ) → has r.on q ≡ last_is_on (words text.now) q) }
         ensures items { OnOk result (EachWord IsItem text.now) }
         ensures only { EachWord IsItem text.now → IfErr result (λ e. e ≡ Memory) }
@@ -46,8 +47,10 @@ impl Iuse {
     // Answers whether the word is an item; where it is none, nothing changes.
     fn add_item(&mut self, alloc: Global, word: &[u8]) -> Result<bool, AllocError>
         ensures item { IfOk result (λ added. IsTrue added ↔ IsItem word.now) }
-        ensures flags { IfOk result (λ added. OnTrue added (AddsFlag self.old.flags self.new.flags word.now)) }
-        ensures on { IfOk result (λ added. OnTrue added (SetsDefault self.old.on self.new.on word.now)) }
+        ensures flags { IfOk result (λ added.
+            OnTrue added (AddsFlag self.old.flags self.new.flags word.now)) }
+        ensures on { IfOk result (λ added.
+            OnTrue added (SetsDefault self.old.on self.new.on word.now)) }
     {
         let flag = match Flag::from_bytes(alloc, flag_of(word)) {
             Ok(flag) => flag,

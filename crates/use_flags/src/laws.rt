@@ -10,5 +10,6 @@ pub fn one_fault()
     ensures items { (text : List ℕ) → HasOneFault (FirstFault IsItem text) }
     ensures no_item { (text : List ℕ) → EachWord IsItem text → HasNoFault (FirstFault IsItem text) }
     ensures changes { (text : List ℕ) → HasOneFault (FirstFault IsChange text) }
-    ensures no_change { (text : List ℕ) → EachWord IsChange text → HasNoFault (FirstFault IsChange text) }
+    ensures no_change { (text : List ℕ) → EachWord IsChange text →
+        HasNoFault (FirstFault IsChange text) }
 {}

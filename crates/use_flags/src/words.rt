@@ -14,7 +14,8 @@ pub struct Word<'a> {
 pub fn next_word<'a>(bytes: &'a [u8], from: usize) -> Option<Word<'a>>
     requires within { from ≤ length bytes.now }
     requires apart { (from ≡ 0) ⊎ BeginsWithBreak (drop from bytes.now) }
-    ensures { MatchOption result (words bytes.now ≡ words (take from bytes.now)) (λ word. IsNextWord bytes.now from word.at word.bytes.now) }
+    ensures { MatchOption result (words bytes.now ≡ words (take from bytes.now))
+        (λ word. IsNextWord bytes.now from word.at word.bytes.now) }
 {
     let (_, rest) = bytes.split_at(from);
     let Some(gap) = first_solid(rest) else {

@@ -1,4 +1,5 @@
--- Versions as PMS 3.2 spells them: the parts, how they are written, and which parts a version may have.
+-- Versions as PMS 3.2 spells them: the parts, how they are written, and which parts a version may
+-- have.
 use Rattle.std.specs.Prelude.{◌≡◌, ℕ, ◌+◌, ◌<◌, ◌≤◌, true, ◌==◌, if◌then◌else◌, slice_index, List, [], ◌∷◌, ◌++◌, length, take}
 use Rattle.std.specs.List.{AllByRecursion, flat_map}
 use Rattle.basics.specs.Bytes.{is_digit, is_lower}
@@ -49,9 +50,13 @@ word Pre = 112 ∷ 114 ∷ 101 ∷ []
 word Rc = 114 ∷ 99 ∷ []
 word P = 112 ∷ []
 
--- the kind of suffix whose word begins the bytes, where one does: the first byte tells, and of "pre" and "p" the second
+-- the kind of suffix whose word begins the bytes, where one does: the first byte tells, and of
+-- "pre" and "p" the second
 abbrev pub kind_at : List ℕ → SuffixKind
-kind_at bs = if slice_index bs 0 == 97 then Alpha else (if slice_index bs 0 == 98 then Beta else (if slice_index bs 0 == 114 then Rc else (if slice_index bs 1 == 114 then Pre else P)))
+kind_at bs =
+    if slice_index bs 0 == 97 then Alpha else
+    (if slice_index bs 0 == 98 then Beta else
+    (if slice_index bs 0 == 114 then Rc else (if slice_index bs 1 == 114 then Pre else P)))
 
 -- a dot and the digits
 abbrev pub spell_number : List ℕ → List ℕ
@@ -72,7 +77,8 @@ spell_ending suffixes revision = flat_map spell_suffix suffixes ++ spell_revisio
 
 -- the text of the parts
 abbrev pub spelling : Parts → List ℕ
-spelling p = p.first ++ (flat_map spell_number p.more ++ (p.letter ++ spell_ending p.suffixes p.revision))
+spelling p =
+    p.first ++ (flat_map spell_number p.more ++ (p.letter ++ spell_ending p.suffixes p.revision))
 
 -- parts that a version may have
 pub record IsVersion (p : Parts) : Type 0 where
@@ -90,7 +96,8 @@ IsVersionText bytes = (p : Parts) × IsVersion p × (bytes ≡ spelling p)
 abbrev pub BeginsVersion : List ℕ → Type 0
 BeginsVersion bytes = (rest : List ℕ) × IsVersionText (bytes ++ rest)
 
--- the place of the first byte with which a text stops beginning any version, or its length where it only ends too early
+-- the place of the first byte with which a text stops beginning any version, or its length where it
+-- only ends too early
 pub record StopsAt (bytes : List ℕ) (at : ℕ) : Type 0 where
   pub in_range : at ≤ length bytes
   pub begins : BeginsVersion (take at bytes)

@@ -23,7 +23,8 @@ expect want to b = if b == want then to else Nowhere
 
 -- the first byte of a suffix's word
 abbrev pub start_word : ℕ → Place
-start_word b = if b == 97 then GotA else (if b == 98 then GotB else (if b == 114 then GotR else expect 112 GotP b))
+start_word b = if b == 97 then GotA else
+    (if b == 98 then GotB else (if b == 114 then GotR else expect 112 GotP b))
 
 -- where a byte leads from a place
 abbrev pub next : Place → ℕ → Place

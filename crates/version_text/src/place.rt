@@ -1,6 +1,7 @@
 ghost use Rattle.std.specs.Prelude.{◌≡◌, if◌then◌else◌};
 ghost use Rattle.basics.specs.Bytes.{is_digit, is_lower};
-ghost use Rattle.version_text.specs.Machine.{behind_number, behind_p, expect, is_nowhere, may_end, next, next_part, start_word};
+ghost use Rattle.version_text.specs.Machine.{behind_number, behind_p, expect, is_nowhere, may_end};
+ghost use Rattle.version_text.specs.Machine.{next, next_part, start_word};
 
 use basics::{is_digit, is_lower};
 

@@ -39,5 +39,6 @@ pub fn one_spelling()
 
 /// A law: what a name, a hyphen and a version make together comes apart in one way.
 pub fn one_name_and_version()
-    ensures { (p q v w : List ℕ) → IsVersionText v → IsVersionText w → p ++ (45 ∷ v) ≡ q ++ (45 ∷ w) → (p ≡ q) × (v ≡ w) }
+    ensures { (p q v w : List ℕ) → IsVersionText v → IsVersionText w →
+        p ++ (45 ∷ v) ≡ q ++ (45 ∷ w) → (p ≡ q) × (v ≡ w) }
 {}
