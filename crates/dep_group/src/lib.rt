@@ -1,10 +1,14 @@
-//! What the grammars of dependency specifications and of REQUIRED_USE share: the words of a text with
-//! their places, what a word is to a text of groups, and trees of groups over leaves of any kind:
-//! their truth, their printed words, and the reading of such words.
+//! What the grammars of dependency specifications and of REQUIRED_USE share: the words of a text
+//! with their places, what a word is to a text of groups, and trees of groups over leaves of any
+//! kind: their truth, their printed words, and the reading of such words.
 //!
-//! It promises that the printed words of a tree read as that tree, and that what reads as a tree are
-//! the tree's printed words. It says which fault of words that are no trees comes first, in terms of
-//! words and trees alone (`specs/Faults.antt`). It stands on `basics`.
+//! **A contract sees** a text as its words, and trees over any kind of leaf.
+//!
+//! **Proved**: the printed words of a tree read as that tree, and what reads as a tree are the
+//! tree's printed words. Which fault of words that are no trees comes first is said in terms of
+//! words and trees alone (`specs/Faults.antt`).
+//!
+//! **Only tested**: the shapes of words, and where they stand.
 #![tactic(auto)]
 
 mod law;

@@ -1,9 +1,19 @@
 //! Dependencies of packages: atoms in groups (PMS 8.2).
 //!
-//! It promises that a text is read exactly where it is a dependency tree, that any other text is refused
-//! with its first fault, which is its only one, that a printed tree is read back, the truth of a tree
-//! over the packages that are there, and its leaves that count. It stands on `dep_group` for the groups
-//! and on `dep_atom` for the atoms.
+//! **A contract sees** a tree as the view of its atoms in groups, and the packages that are there
+//! as a list of facts.
+//!
+//! **Proved**: a text is read exactly where it is a dependency tree; any other text is refused
+//! with its first fault, which is its only one; a printed tree is read back; the truth of a tree
+//! over the packages that are there, and its leaves that count.
+//!
+//! **Only tested**: 64 groups inside one another, a text of 64 KB, and that with ample memory it
+//! is read.
+//!
+//! ```
+//! let tree = DepTree::parse(alloc, "|| ( c/d x? ( c/e ) )")?;
+//! let holds = tree.holds(&packages, &flags);
+//! ```
 #![tactic(auto)]
 
 mod copy;

@@ -1,11 +1,17 @@
 //! The names of which atoms, dependencies and flag sets are made: categories, packages, slots and
 //! USE flags, and sets of flags.
 //!
-//! It promises that a text is accepted as a name exactly where it is one, that any other text is
-//! refused with its first fault, of which it has one, and that a [`Flags`] is a set, listed in byte
-//! order.
-//! It stands on `basics` for texts and on `version_text` for the grammar of versions, since no
-//! package name ends in a hyphen and a version.
+//! **A contract sees** a name as its bytes, and [`Flags`] as the list of its flags in byte order.
+//!
+//! **Proved**: a text is accepted as a name exactly where it is one, any other text is refused
+//! with its first fault, of which it has one, and a [`Flags`] is a set, listed in byte order.
+//!
+//! **Only tested**: that with ample memory a name is read and a flag put in.
+//!
+//! ```
+//! let flag = Flag::parse(alloc, "python_targets_python3_12")?;
+//! flags.insert(flag)?;
+//! ```
 #![tactic(auto)]
 
 mod fault;

@@ -1,9 +1,18 @@
 //! REQUIRED_USE: which flags of a package go together (PMS 7.3.4).
 //!
-//! It promises that a text is read exactly where it is an expression, that any other text is refused
-//! with its first fault, which is its only one, that a printed expression is read back, and the truth
-//! of an expression over the flags that are on. It stands on `dep_group` for the groups and on
-//! `pms_names` for the flags.
+//! **A contract sees** an expression as the view of its items in groups, and flags as a set.
+//!
+//! **Proved**: a text is read exactly where it is an expression; any other text is refused with
+//! its first fault, which is its only one; a printed expression is read back; the truth of an
+//! expression over the flags that are on.
+//!
+//! **Only tested**: 64 groups inside one another, a text of 64 KB, and that with ample memory it
+//! is read.
+//!
+//! ```
+//! let required = RequiredUse::parse(alloc, "^^ ( gtk qt )")?;
+//! let holds = required.holds(&flags);
+//! ```
 #![tactic(auto)]
 
 mod fault;

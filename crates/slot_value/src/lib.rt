@@ -1,7 +1,15 @@
 //! The value of SLOT: a slot, and a subslot that is written where it differs.
 //!
-//! It promises that a text is read exactly where it is such a value, that no text says two slots or
-//! two subslots, and that what is printed says what it was printed from. It stands on `pms_names`.
+//! **A contract sees** the value as the bytes of its two names.
+//!
+//! **Proved**: a text is read exactly where it is such a value, no text says two slots or two
+//! subslots, and what is printed says what it was printed from.
+//!
+//! **Only tested**: that with ample memory a value is read.
+//!
+//! ```
+//! let value = SlotValue::read(alloc, b"0/2")?;
+//! ```
 #![tactic(auto)]
 
 mod laws;

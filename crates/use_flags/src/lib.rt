@@ -1,11 +1,19 @@
 //! Texts of USE flags: the items of IUSE, and changes of a set of flags.
 //!
-//! It promises that each text is read as the words between its white space, that a text with a
-//! word of another form is refused at the first such word, which is its only fault, and that
-//! applying changes is going through them one by one, or changes nothing where memory runs out.
-//! A text of n words is read, and n changes are applied, in the time that n insertions into a set
-//! take.
-//! It stands on `pms_names` for flags and sets of them.
+//! **A contract sees** a text as the words between its white space, and a set as which flags it
+//! has.
+//!
+//! **Proved**: a text with a word of another form is refused at the first such word, which is its
+//! only fault; applying changes is going through them one by one, or changes nothing where memory
+//! runs out.
+//!
+//! **Only tested**: that with ample memory each is read, and long texts in falling order. A text
+//! of n words is read, and n changes are applied, in the time that n insertions into a set take.
+//!
+//! ```
+//! let iuse = Iuse::parse(alloc, "+ssl -debug")?;
+//! apply(&mut flags, changes(alloc, "-* X")?.as_slice())?;
+//! ```
 #![tactic(auto)]
 
 mod change;

@@ -1,10 +1,18 @@
 //! The grammar of versions (PMS 3.2), stated once for package names and for versions: the parts of
 //! a version, how they are spelled, and which texts are versions.
 //!
-//! It promises that [`is_version`] knows the texts of versions exactly, that [`version_stop`] gives
-//! the byte at which a text stops beginning any version, that a version is spelled in one way, and
-//! that a name and a version joined by a hyphen come apart in one way. Limits on lengths are not
-//! part of the grammar. It stands on std alone.
+//! **A contract sees** a version as its parts and a text as their spelling. Limits on lengths are
+//! not part of the grammar.
+//!
+//! **Proved**: [`is_version`] knows the texts of versions exactly, [`version_stop`] gives the byte
+//! at which a text stops beginning any version, a version is spelled in one way, and a name and a
+//! version joined by a hyphen come apart in one way.
+//!
+//! **Only tested**: texts from outside, beside the grammar.
+//!
+//! ```
+//! assert!(is_version(b"1.2_rc3-r4"));
+//! ```
 #![tactic(auto)]
 
 mod place;
