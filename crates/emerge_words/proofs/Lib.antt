@@ -1,4 +1,5 @@
 pub mod Cuts
+pub mod Exclusive
 pub mod Named
 pub mod Numerals
 pub mod Plans

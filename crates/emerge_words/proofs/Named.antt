@@ -5,12 +5,12 @@ use Rattle.std.specs.List.{AllByRecursion}
 use Rattle.std.proofs.lemmas.List.{drop_more}
 use Rattle.dep_atom.specs.Text.{atom_text}
 use Rattle.dep_atom.specs.declared.atom.Atom.{Atom}
-use Rattle.emerge_words.specs.Named.{FirstNoAtom, HasNoAtom, IsFree, IsNoAtom, IsNoAtomWord, TellsAtom, atom_words, is_kept}
+use Rattle.emerge_words.specs.Named.{FirstNoAtom, HasNoAtom, IsFree, IsNoAtom, TellsNoAtom, TellsAtom, atom_words, is_kept}
 use Rattle.emerge_words.specs.declared.request.WordFault.{WordFault}
 use Rattle.emerge_words.specs.declared.request.WordFault.TheVariants.{Usage, BadAtom, BadNumber, Memory}
 
 -- a word that is no atom, told so
-pub no_atom_told : (word : List ℕ) (fault : WordFault) → TellsAtom word fault → IsNoAtom word → IsNoAtomWord word fault
+pub no_atom_told : (word : List ℕ) (fault : WordFault) → TellsAtom word fault → IsNoAtom word → TellsNoAtom word fault
 no_atom_told word Usage told none = told
 no_atom_told word (BadAtom said) told none = (told, none)
 no_atom_told word (BadNumber said) told none = told
@@ -23,7 +23,7 @@ first_here [] word rest free none = inl (refl, none)
 first_here (atom ∷ atoms) word rest free none = inr ((atom, free.0, refl), first_here atoms word rest free.1 none)
 
 pub fault_here : (words : List (List ℕ)) (atoms : List Atom) (word : List ℕ) (rest : List (List ℕ)) (fault : WordFault) → words ≡ map atom_text atoms ++ word ∷ rest
-    → AllByRecursion IsFree atoms → IsNoAtomWord word fault → HasNoAtom words fault
+    → AllByRecursion IsFree atoms → TellsNoAtom word fault → HasNoAtom words fault
 fault_here words atoms word rest Usage cut free told = told
 fault_here words atoms word rest (BadAtom said) cut free told =
     subst (λ (all : List (List ℕ)). FirstNoAtom all (string_bytes said)) (sym cut)

@@ -41,6 +41,7 @@ abbrev pub is_load : LineValue → Bool
 is_load line = not line.unmerge && (not (is_some line.plan) && (is_some line.load
     && (names_none line && (not (asks_of_merge line) && not (asks_of_run line)))))
 
+-- which command the line is, if it is one
 abbrev pub kind_of : LineValue → Option Kind
 kind_of line = if is_merge line then Some kinds.Merge
     else (if is_plan_file line then Some kinds.PlanFile

@@ -6,6 +6,7 @@ use Rattle.emerge_words.specs.declared.line.LineFault.TheVariants as line
 use Rattle.emerge_words.specs.declared.request.WordFault.{WordFault}
 use Rattle.emerge_words.specs.declared.request.WordFault.TheVariants.{Usage, Memory}
 
+-- words that aren't cut are no command
 abbrev pub word_fault : LineFault → WordFault
 word_fault line.NotCut = Usage
 word_fault line.Memory = Memory

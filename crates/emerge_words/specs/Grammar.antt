@@ -28,20 +28,25 @@ start_app =
       };
     }
 
+-- the command with one flag more
 abbrev pub with_flag : App → Text → App
 with_flag app name = with_rule app (flag_rule name)
 
+-- the command with one option more
 abbrev pub with_option : App → Text → App
 with_option app name = with_rule app (option_rule name)
 
+-- the command with the flags
 abbrev pub flags_app : App
 flags_app = with_flag (with_flag (with_flag (with_flag (with_flag start_app
     (codes "pretend")) (codes "update")) (codes "repair")) (codes "keep-going")) (codes "unmerge")
 
+-- and with the options that give a number
 abbrev pub numbers_app : App
 numbers_app = with_option (with_option (with_option (with_option flags_app
     (codes "jobs")) (codes "backtrack")) (codes "flag-changes")) (codes "load")
 
+-- and with all other options
 abbrev pub texts_app : App
 texts_app = with_option (with_option (with_option (with_option numbers_app
     (codes "plan")) (codes "tree")) (codes "images")) (codes "build-with")

@@ -6,6 +6,7 @@ use Rattle.clap.specs.Words.{Row, Text, all_of, first_of}
 use Rattle.emerge_words.specs.Grammar.{rows_in}
 use Rattle.emerge_words.specs.declared.line.Line.{Line}
 
+-- a line: the words cut, and not yet judged
 pub record LineValue : Type 0 where
   pub pretend : Bool
   pub update : Bool
@@ -30,6 +31,7 @@ has_flag rows name = option_map_or (λ text. bytes_eq text (codes "true")) (firs
 abbrev pub text_of : List Row → Text → Option Text
 text_of rows name = first_of name rows
 
+-- the matches of `clap`, field by field
 abbrev pub line_of_rows : List Row → LineValue
 line_of_rows rows = record {
   pretend = has_flag rows (codes "pretend");
@@ -48,10 +50,11 @@ line_of_rows rows = record {
   further = unwrap_or (all_of (codes "further") rows) [];
 }
 
--- what the words give
+-- the line of the words
 abbrev pub line_of : List Text → LineValue
 line_of words = line_of_rows (rows_in words)
 
+-- what is seen of a line in the code
 abbrev pub line_value : Line → LineValue
 line_value line = record {
   pretend = line.pretend;

@@ -14,6 +14,7 @@ use Rattle.emerge_words.specs.declared.request.WordFault.TheVariants.{Usage, Bad
 abbrev pub is_world : List ℕ → Bool
 is_world word = bytes_eq word (codes "@world")
 
+-- one of the words stands for the atoms of the world file
 abbrev pub has_world : List (List ℕ) → Bool
 has_world words = list_any is_world words
 
@@ -57,11 +58,11 @@ TellsAtom word (BadNumber told) = ⊥
 TellsAtom word Memory = ⊤
 
 -- why a word isn't read as an atom
-abbrev pub IsNoAtomWord : List ℕ → WordFault → Type 0
-IsNoAtomWord word Usage = ⊥
-IsNoAtomWord word (BadAtom told) = (string_bytes told ≡ word) × IsNoAtom word
-IsNoAtomWord word (BadNumber told) = ⊥
-IsNoAtomWord word Memory = ⊤
+abbrev pub TellsNoAtom : List ℕ → WordFault → Type 0
+TellsNoAtom word Usage = ⊥
+TellsNoAtom word (BadAtom told) = (string_bytes told ≡ word) × IsNoAtom word
+TellsNoAtom word (BadNumber told) = ⊥
+TellsNoAtom word Memory = ⊤
 
 -- why words aren't read as atoms
 abbrev pub HasNoAtom : List (List ℕ) → WordFault → Type 0

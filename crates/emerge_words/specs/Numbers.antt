@@ -8,18 +8,23 @@ use Rattle.emerge_words.specs.declared.numbers.Numbers.{Numbers}
 use Rattle.emerge_words.specs.declared.request.WordFault.{WordFault}
 use Rattle.emerge_words.specs.declared.request.WordFault.TheVariants.{Usage, BadAtom, BadNumber, Memory}
 
+-- the greatest number of digits in the text of a number
 abbrev pub most_digits : ℕ
 most_digits = 10
 
+-- the greatest number of groups under way at a time
 abbrev pub most_jobs : ℕ
 most_jobs = 16
 
+-- the greatest number of choices that the search may take back
 abbrev pub most_backtrack : ℕ
 most_backtrack = 20000
 
+-- the greatest number of flags that may be changed
 abbrev pub most_flag_changes : ℕ
 most_flag_changes = 2
 
+-- the greatest number of packages that a load may have
 abbrev pub most_load : ℕ
 most_load = 4000
 
@@ -32,6 +37,7 @@ is_numeral text =
 abbrev pub numeral_in : List ℕ → Option ℕ
 numeral_in text = if is_numeral text then Some (digits_value 10 text) else None
 
+-- the number, if it is from `least` to `most`
 abbrev pub if_between : ℕ → ℕ → ℕ → Option ℕ
 if_between least most n = if nat_le least n && nat_le n most then Some n else None
 

@@ -22,7 +22,7 @@ abbrev pub words_of_atoms : LineValue → List (List ℕ)
 words_of_atoms line = atom_words (is_merge line) line.further
 
 -- the line says this of a merge
-pub record IsMerge (line : LineValue) (world update repair : Bool) (backtrack flips : ℕ) : Type 0
+pub record SaysMerge (line : LineValue) (world update repair : Bool) (backtrack flips : ℕ) : Type 0
   where
     pub kind : kind_of line ≡ Some kinds.Merge
     pub world_named : world ≡ has_world line.further
@@ -34,7 +34,7 @@ pub record IsMerge (line : LineValue) (world update repair : Bool) (backtrack fl
 -- the line is this command
 abbrev pub IsCommand : LineValue → Command → Type 0
 IsCommand line (Merge atoms world update repair backtrack flips) =
-    IsMerge line world update repair backtrack flips × AreNamed (words_of_atoms line) atoms.items
+    SaysMerge line world update repair backtrack flips × AreNamed (words_of_atoms line) atoms.items
 IsCommand line (PlanFile path) =
     (kind_of line ≡ Some kinds.PlanFile) × (option_map plan_path line.plan ≡ Some path)
 IsCommand line (Unmerge atoms) =
@@ -42,7 +42,7 @@ IsCommand line (Unmerge atoms) =
 IsCommand line (Load n) = (kind_of line ≡ Some kinds.Load) × (n ≡ number_or 0 line.load)
 
 -- the line says this of how the command shall run
-pub record IsRun (line : LineValue) (r : Request) : Type 0 where
+pub record SaysRun (line : LineValue) (r : Request) : Type 0 where
   pub pretend : r.pretend ≡ line.pretend
   pub jobs : r.jobs ≡ (if is_some line.load then load_jobs else number_or 1 line.jobs)
   pub keep_going : r.keep_going ≡ line.keep_going
@@ -55,7 +55,7 @@ pub record IsAsked (line : LineValue) (r : Request) : Type 0 where
   pub is_good : is_command line ≡ true
   pub numbers : bad_numbers line ≡ []
   pub command : IsCommand line r.command
-  pub run : IsRun line r
+  pub run : SaysRun line r
 
 -- the numbers are good, and this is the first word that should be an atom and is none
 pub record HasBadAtom (line : LineValue) (word : List ℕ) : Type 0 where

@@ -1,7 +1,7 @@
 ghost use Rattle.std.specs.Prelude.{◌≡◌, true, IfErr, IfOk, map};
 ghost use Rattle.std.specs.List.{list_any};
 ghost use Rattle.dep_atom.specs.Text.{atom_text};
-ghost use Rattle.emerge_words.specs.Named.{AreNamed, HasNoAtom, IsFree, IsNoAtomWord, TellsAtom};
+ghost use Rattle.emerge_words.specs.Named.{AreNamed, HasNoAtom, IsFree, TellsNoAtom, TellsAtom};
 ghost use Rattle.emerge_words.specs.Named.{atom_words, has_world, is_kept, is_world};
 
 use crate::request::WordFault;
@@ -60,7 +60,7 @@ fn is_kept(may_name_world: bool, word: &str) -> bool
 fn read_atom(alloc: Global, word: &str) -> Result<Atom, WordFault>
     ensures text { IfOk result (λ atom. word.now ≡ atom_text atom) }
     ensures free { IfOk result IsFree }
-    ensures fault { IfErr result (IsNoAtomWord word.now) }
+    ensures fault { IfErr result (TellsNoAtom word.now) }
 {
     match Atom::parse(alloc, word) {
         Ok(atom) => match atom.block {

@@ -6,7 +6,7 @@ ghost use Rattle.emerge_words.specs.Lines.{line_value};
 ghost use Rattle.emerge_words.specs.Named.{HasNoAtom};
 ghost use Rattle.emerge_words.specs.Numbers.{AreNumbers, TellsNumber, bad_numbers};
 ghost use Rattle.emerge_words.specs.Requests.{IsAsked, IsCommand, IsRefusal, IsRefused, IsRequest};
-ghost use Rattle.emerge_words.specs.Requests.{IsRun, load_jobs, words_of_atoms};
+ghost use Rattle.emerge_words.specs.Requests.{SaysRun, load_jobs, words_of_atoms};
 
 use crate::atoms::{has_world, read_atoms};
 use crate::kind::{Kind, is_merge, kind_of};
@@ -25,7 +25,7 @@ const TREE: &str = "/";
 /// The folder of images where `--images` isn't given.
 const IMAGES: &str = "/var/cache/portage/images";
 
-/// Reads the words of a run, without the program's name.
+/// Reads the words of a run, of which the program's name is none.
 pub fn read(alloc: Global, words: &[String]) -> Result<Request, WordFault>
     ensures request { IfOk result (IsRequest (map string_bytes words.now)) }
     ensures refused { IfErr result (IsRefusal (map string_bytes words.now)) }
@@ -156,7 +156,7 @@ fn request_of(
 ) -> Result<Request, AllocError>
     requires numbers { AreNumbers (line_value line.now) numbers.now }
     ensures command { IfOk result (λ r. r.command ≡ command) }
-    ensures run { IfOk result (IsRun (line_value line.now)) }
+    ensures run { IfOk result (SaysRun (line_value line.now)) }
 {
     let tree = text_or(alloc, line.tree, TREE)?;
     let images = text_or(alloc, line.images, IMAGES)?;

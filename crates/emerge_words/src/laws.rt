@@ -1,0 +1,12 @@
+ghost use Rattle.std.specs.Prelude.{◌≡◌, List};
+ghost use Rattle.clap.specs.Words.{Text};
+ghost use Rattle.emerge_words.specs.Requests.{IsRefusal, IsRequest};
+ghost use Rattle.emerge_words.specs.declared.request.Request.{Request};
+ghost use Rattle.emerge_words.specs.declared.request.WordFault.{WordFault};
+ghost use Rattle.emerge_words.specs.declared.request.WordFault.TheVariants.{Memory};
+
+/// A law: words that ask for something are refused for want of memory alone.
+pub fn never_refused()
+    ensures { (words : List Text) (r : Request) (fault : WordFault) →
+        IsRequest words r → IsRefusal words fault → fault ≡ Memory }
+{}
