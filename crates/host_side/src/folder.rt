@@ -1,12 +1,9 @@
+use crate::spare::is_spare;
 use file_tree::{Kind, Look, Object, Path, PathFault};
 use std::alloc::{AllocError, Global};
 use std::collections::BTreeSet;
 use std::os::unix::fs::MetadataExt;
 use std::{fs, io};
-
-/// The name that an object has until it is renamed over its target. It is no part of a path, since
-/// no path has a space, a hyphen and a greater-than sign.
-pub const SPARE: &str = ".emerge ->new";
 
 /// The bits of a mode that let anybody run a file.
 const RUN_BITS: u32 = 0o111;
@@ -196,7 +193,7 @@ impl Folder {
 
     /// Whether a name is that of a spare object of a stopped run.
     fn is_spare(&self, name: &str) -> bool {
-        self.is_tree && name == SPARE
+        self.is_tree && is_spare(name)
     }
 
     /// The path of what has a name in a folder.

@@ -6,8 +6,11 @@
 //! folder, and a [`CommandBuilder`] has a program prepare that folder first.
 //!
 //! No contract can say what a disk holds, so these types tell no content. What is proved is that each
-//! call is safe and returns, that a failure is counted, and that a list of paths is in byte order.
-//! Each failure is told on standard error: the call, the path, and the system's error.
+//! call is safe and returns, that a failure is counted, that a list of paths is in byte order, that the
+//! image of a package is sought in its own folder, and that no path is the name of what isn't written
+//! whole yet. What reaches a real disk is tested alone, by `tests/host`. Each failure is told on standard
+//! error: the call, the path, and the system's error. It stands on `basics`, `build_pool`, `dep_atom`
+//! and `file_tree`.
 #![tactic(auto)]
 
 mod builders;
@@ -16,10 +19,12 @@ mod faults;
 mod folder;
 mod open;
 mod sink;
+mod spare;
 mod tree;
 mod writing;
 
 pub use builders::{CommandBuilder, FolderBuilder};
 pub use open::OpenFault;
 pub use sink::HostSink;
+pub use spare::no_path_is_spare;
 pub use tree::HostTree;

@@ -1,5 +1,6 @@
 use crate::changes::Changes;
-use crate::folder::{Folder, Found, SPARE, clear_spare, not_a_folder, odd_object, part_before};
+use crate::folder::{Folder, Found, clear_spare, not_a_folder, odd_object, part_before};
+use crate::spare::SPARE;
 use file_tree::{Kind, Object};
 use std::fs::{File, OpenFile, OpenOptions, Permissions};
 use std::io::Write;
