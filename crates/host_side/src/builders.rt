@@ -26,6 +26,7 @@ pub struct FolderBuilder {
 }
 
 impl FolderBuilder {
+    /// A builder of this id over a folder of images.
     pub fn new(rt: HostRuntime, images: &str, id: u32) -> Result<FolderBuilder, AllocError>
         ensures { IfOk result (λ b. b.id ≡ id) }
     {
@@ -133,6 +134,7 @@ pub struct CommandBuilder {
 }
 
 impl CommandBuilder {
+    /// A builder of this id that starts a program for each image below a folder.
     pub fn new(
         rt: HostRuntime,
         program: &str,

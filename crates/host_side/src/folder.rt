@@ -35,10 +35,12 @@ impl Folder {
         Ok(Folder { rt, name, is_tree })
     }
 
+    /// What the folder is reached by.
     pub fn rt(&self) -> &HostRuntime {
         &self.rt
     }
 
+    /// Where its names and bytes take their memory.
     pub fn alloc(&self) -> Global {
         self.rt.alloc()
     }

@@ -13,6 +13,7 @@ pub struct HostSink {
 }
 
 impl HostSink {
+    /// Standard output, which has not failed yet.
     pub fn stdout(rt: HostRuntime) -> HostSink {
         HostSink {
             rt,
