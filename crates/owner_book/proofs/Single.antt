@@ -1,5 +1,5 @@
 -- A claim has one refusal at most.
-use Rattle.std.proofs.Common.{◌≡◌, ◌<◌, ◌≤◌, ℕ, true, false, List, Option, Some, refl, sym, ap, ◌∙◌, subst, arith, take, slice_get, inl, inr}
+use Rattle.std.proofs.Common.{◌≡◌, ◌<◌, ℕ, Bool, true, false, List, Option, Some, refl, sym, ap, ◌∙◌, subst, arith, take, slice_get, inl, inr}
 use Rattle.std.specs.declared.cmp.Ordering.{Ordering}
 use Rattle.std.specs.declared.cmp.Ordering.TheVariants.{Less, Equal, Greater}
 use Rattle.std.specs.Cmp.Lexicographic.{nat_list_cmp_total, slice_cmp}
@@ -14,7 +14,7 @@ use Rattle.owner_book.specs.declared.fault.Collision.TheVariants as collisions
 use Rattle.owner_book.specs.declared.fault.ImageBad.TheVariants as images
 use Rattle.owner_book.specs.declared.wish.Wish.{Wish}
 use Rattle.owner_book.specs.Book.{AreDisjoint, Book, IsClaimedBy, IsTaken, is_wished, owner_in}
-use Rattle.owner_book.specs.Rules.{IsFirstRefusal, IsNearest, IsPassed, Refuses, is_dying, is_kept_out}
+use Rattle.owner_book.specs.Rules.{IsFirstRefusal, IsNearest, IsPassed, Refuses, is_kept_out}
 use Rattle.owner_book.specs.Laws.{FreeIsTaken, OneRefusal}
 use Rattle.owner_book.specs.Whole.{FreeIn, RefusedIn}
 use Rattle.owner_book.proofs.Exclusive.{exclusive, not_both}
@@ -28,7 +28,7 @@ one_nearest taken p a b x y = by (slice_cmp nat_cmp a b) refl
     by Greater e = absurd (true≢false (sym (ap is_gt e) ∙ x.least b y.there y.near))
 
 -- each rule that refuses a wish is the only one
-module _ (own : List ℕ → Option OwnerKey) (claims : List ℕ → ℕ → Type 0) (wished taken : List ℕ → Type 0) (dying : List OwnerKey) (w : Wish) where
+module _ (own : List ℕ → Option OwnerKey) (claims : List ℕ → ℕ → Type 0) (wished taken : List ℕ → Type 0) (dying : OwnerKey → Bool) (w : Wish) where
   only_reserved : is_kept_out w ≡ true → (f : ClaimFault) → Refuses own claims wished taken dying w f → f ≡ faults.Image (images.Reserved w.path)
   only_reserved out (faults.Image (images.Reserved p)) h = ap (λ (q : List ℕ). faults.Image (images.Reserved q)) h.0
   only_reserved out (faults.Image (images.Twice p)) h = absurd (false≢true (sym h.1 ∙ out))
@@ -55,7 +55,7 @@ module _ (own : List ℕ → Option OwnerKey) (claims : List ℕ → ℕ → Typ
     only_twice twice faults.Memory h = absurd h
 
     module _ (once : wished w.path → ⊥) where
-      only_owned : (k : OwnerKey) → own w.path ≡ Some k → is_dying dying k ≡ false → (f : ClaimFault) → Refuses own claims wished taken dying w f → f ≡ faults.Collision (collisions.Owned w.path k)
+      only_owned : (k : OwnerKey) → own w.path ≡ Some k → dying k ≡ false → (f : ClaimFault) → Refuses own claims wished taken dying w f → f ≡ faults.Collision (collisions.Owned w.path k)
       only_owned k owned stays (faults.Image (images.Reserved p)) h = absurd (true≢false (sym h.1 ∙ in'))
       only_owned k owned stays (faults.Image (images.Twice p)) h = absurd (once h.2)
       only_owned k owned stays (faults.Image (images.Large p)) h = absurd h
@@ -67,7 +67,7 @@ module _ (own : List ℕ → Option OwnerKey) (claims : List ℕ → ℕ → Typ
       only_owned k owned stays faults.Limit h = absurd h
       only_owned k owned stays faults.Memory h = absurd h
 
-      module _ (apart : (g h : ℕ) → claims w.path g → claims w.path h → g ≡ h) (dies : (k : OwnerKey) → own w.path ≡ Some k → is_dying dying k ≡ true) where
+      module _ (apart : (g h : ℕ) → claims w.path g → claims w.path h → g ≡ h) (dies : (k : OwnerKey) → own w.path ≡ Some k → dying k ≡ true) where
         only_claimed : (g : ℕ) → claims w.path g → (f : ClaimFault) → Refuses own claims wished taken dying w f → f ≡ faults.Collision (collisions.Claimed w.path g)
         only_claimed g claimed (faults.Image (images.Reserved p)) h = absurd (true≢false (sym h.1 ∙ in'))
         only_claimed g claimed (faults.Image (images.Twice p)) h = absurd (once h.2)
@@ -104,7 +104,7 @@ module _ (own : List ℕ → Option OwnerKey) (claims : List ℕ → ℕ → Typ
   one_rule apart faults.Limit g h r = absurd h
   one_rule apart faults.Memory g h r = absurd h
 
-module _ (b : Book) (dying : List OwnerKey) (ws : List Wish) where
+module _ (b : Book) (dying : OwnerKey → Bool) (ws : List Wish) where
   abbrev First : ClaimFault → Type 0
   First f = IsFirstRefusal (FreeIn b dying) (RefusedIn b dying) ws f
 
