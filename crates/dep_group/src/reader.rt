@@ -1,12 +1,13 @@
-ghost use Rattle.std.specs.Prelude.{◌≡◌, ◌≢◌, ◌∷◌, ◌++◌, ◌&&◌, [], Bool, map, IfOk, IfErr, OnOk};
-ghost use Rattle.std.specs.Prelude.{None, Ok, Err};
+ghost use Rattle.std.specs.Prelude.{◌≡◌, ◌≢◌, ◌+◌, ◌∷◌, ◌++◌, ◌&&◌, [], Bool, List, map, IfOk};
+ghost use Rattle.std.specs.Prelude.{IfErr, OnOk, None, Ok, Err};
 ghost use Rattle.dep_group.specs.declared.token.GroupFault.TheVariants.{Memory};
+ghost use Rattle.dep_group.specs.declared.token.Token.{Token};
 ghost use Rattle.dep_group.specs.declared.token.Token.TheVariants.{Closes, Leaf, Opens};
 ghost use Rattle.std.specs.List.{list_any};
 ghost use Rattle.dep_group.specs.Trees.{Tree, opens_any, trees_of, group as tree_group};
 ghost use Rattle.dep_group.specs.Trees.{leaf as tree_leaf};
 ghost use Rattle.dep_group.specs.Reading.{finished, in_any_of, read};
-ghost use Rattle.dep_group.specs.Nodes.{Reads, StopsAt, stacked};
+ghost use Rattle.dep_group.specs.Nodes.{stacked};
 
 use crate::token::{GroupFault, Token};
 use std::alloc::{AllocError, Global};
@@ -82,8 +83,14 @@ fn step<K: Drop, L: Drop, N: Node<K, L> + Drop>(
     token: Token<K, L>,
     at: usize,
 ) -> Result<(), GroupFault>
-    ensures ok { OnOk result (Reads N.view N.any_of N.barred token at reader.old reader.new) }
-    ensures err { IfErr result (StopsAt N.view N.any_of N.barred token at reader.old) }
+    ensures ok { OnOk result ((rest : List (Token K L)) →
+        read N.any_of N.barred (token ∷ rest) at reader.old.begun
+        (stacked N.view reader.old.stack.items) (map N.view reader.old.done.items) ≡
+        read N.any_of N.barred rest (at + 1) reader.new.begun
+        (stacked N.view reader.new.stack.items) (map N.view reader.new.done.items)) }
+    ensures err { IfErr result (λ e. e ≢ Memory → (rest : List (Token K L)) →
+        read N.any_of N.barred (token ∷ rest) at reader.old.begun
+        (stacked N.view reader.old.stack.items) (map N.view reader.old.done.items) ≡ Err e) }
 {
     if reader.begun.is_some() {
         return match token {
@@ -112,8 +119,14 @@ fn push_leaf<K: Drop, L: Drop, N: Node<K, L> + Drop>(
     at: usize,
 ) -> Result<(), GroupFault>
     requires { reader.old.begun ≡ None }
-    ensures ok { OnOk result (Reads N.view N.any_of N.barred (Leaf leaf) at reader.old reader.new) }
-    ensures err { IfErr result (StopsAt N.view N.any_of N.barred (Leaf leaf) at reader.old) }
+    ensures ok { OnOk result ((rest : List (Token K L)) →
+        read N.any_of N.barred (Leaf leaf ∷ rest) at None (stacked N.view reader.old.stack.items)
+        (map N.view reader.old.done.items) ≡
+        read N.any_of N.barred rest (at + 1) reader.new.begun
+        (stacked N.view reader.new.stack.items) (map N.view reader.new.done.items)) }
+    ensures err { IfErr result (λ e. e ≢ Memory → (rest : List (Token K L)) →
+        read N.any_of N.barred (Leaf leaf ∷ rest) at None (stacked N.view reader.old.stack.items)
+        (map N.view reader.old.done.items) ≡ Err e) }
 {
     if is_refused::<K, L, N>(&reader.stack, &leaf) {
         return Err(GroupFault::Barred { at });
@@ -126,8 +139,14 @@ fn open<K: Drop, L: Drop, N: Node<K, L> + Drop>(
     reader: &mut Reader<K, N>,
     at: usize,
 ) -> Result<(), GroupFault>
-    ensures ok { OnOk result (Reads N.view N.any_of N.barred Opens at reader.old reader.new) }
-    ensures err { IfErr result (StopsAt N.view N.any_of N.barred Opens at reader.old) }
+    ensures ok { OnOk result ((rest : List (Token K L)) →
+        read N.any_of N.barred (Opens ∷ rest) at reader.old.begun
+        (stacked N.view reader.old.stack.items) (map N.view reader.old.done.items) ≡
+        read N.any_of N.barred rest (at + 1) reader.new.begun
+        (stacked N.view reader.new.stack.items) (map N.view reader.new.done.items)) }
+    ensures err { IfErr result (λ e. e ≢ Memory → (rest : List (Token K L)) →
+        read N.any_of N.barred (Opens ∷ rest) at reader.old.begun
+        (stacked N.view reader.old.stack.items) (map N.view reader.old.done.items) ≡ Err e) }
 {
     if reader.stack.len() >= MOST_OPEN {
         return Err(GroupFault::Depth);
@@ -144,8 +163,14 @@ fn close<K: Drop, L: Drop, N: Node<K, L> + Drop>(
     at: usize,
 ) -> Result<(), GroupFault>
     requires { reader.old.begun ≡ None }
-    ensures ok { OnOk result (Reads N.view N.any_of N.barred Closes at reader.old reader.new) }
-    ensures err { IfErr result (StopsAt N.view N.any_of N.barred Closes at reader.old) }
+    ensures ok { OnOk result ((rest : List (Token K L)) →
+        read N.any_of N.barred (Closes ∷ rest) at None (stacked N.view reader.old.stack.items)
+        (map N.view reader.old.done.items) ≡
+        read N.any_of N.barred rest (at + 1) reader.new.begun
+        (stacked N.view reader.new.stack.items) (map N.view reader.new.done.items)) }
+    ensures err { IfErr result (λ e. e ≢ Memory → (rest : List (Token K L)) →
+        read N.any_of N.barred (Closes ∷ rest) at None (stacked N.view reader.old.stack.items)
+        (map N.view reader.old.done.items) ≡ Err e) }
 {
     match reader.stack.pop() {
         None => Err(GroupFault::Close { at }),
