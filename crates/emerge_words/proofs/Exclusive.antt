@@ -1,5 +1,5 @@
--- No words ask for something and are refused too.
-use Rattle.std.proofs.Common.{◌≡◌, ◌&&◌, ◌==◌, ℕ, Bool, true, false, not, refl, subst, inl, inr, List, [], ◌∷◌, map, Option, Some, None, length, arith, eqb-true}
+-- No words ask for something and are refused too, and words are refused for one cause.
+use Rattle.std.proofs.Common.{◌≡◌, sym, ◌∙◌, ◌&&◌, ◌==◌, ℕ, Bool, true, false, not, refl, subst, inl, inr, List, [], ◌∷◌, map, Option, Some, None, length, arith, eqb-true}
 use Rattle.std.specs.Prelude.{string_bytes, slice_get, is_some, if◌then◌else◌}
 use Rattle.std.specs.List.{AllByRecursion}
 use Rattle.clap.proofs.WalkLemmas.{both}
@@ -11,7 +11,7 @@ use Rattle.emerge_words.specs.Commands.{asks_of_merge, asks_of_run, is_load, is_
 use Rattle.emerge_words.specs.Lines.{LineValue, line_of}
 use Rattle.emerge_words.specs.Named.{AreNamed, FirstNoAtom, IsFree, atom_words}
 use Rattle.emerge_words.specs.Numbers.{bad_numbers}
-use Rattle.emerge_words.specs.Requests.{IsCommand, IsRefusal, IsRequest, words_of_atoms}
+use Rattle.emerge_words.specs.Requests.{IsCommand, IsRefusal, IsRequest, SameTold, words_of_atoms}
 use Rattle.emerge_words.specs.declared.kind.Kind.{Kind}
 use Rattle.emerge_words.specs.declared.kind.Kind.TheVariants as kinds
 use Rattle.emerge_words.specs.declared.request.Command.{Command}
@@ -80,3 +80,30 @@ never_refused words r Usage is refused = absurd (refused (record { cut = is.cut;
 never_refused words r (BadNumber word) is refused = absurd (none_first (bad_numbers (line_of words)) (string_bytes word) is.asked.numbers refused.1)
 never_refused words r (BadAtom word) is refused = absurd (command_apart (line_of words) r.command (string_bytes word) is.asked.command refused.1.atom)
 never_refused words r Memory is refused = refl
+
+first_once : (words : List (List ℕ)) (a b : List ℕ) → FirstNoAtom words a → FirstNoAtom words b → a ≡ b
+first_once [] a b x y = absurd x
+first_once (word ∷ words) a b (inl x) (inl y) = sym x.0 ∙ y.0
+first_once (word ∷ words) a b (inl x) (inr y) = absurd (x.1 (atom_value y.0.0) y.0.1.form y.0.1.no_block y.0.2)
+first_once (word ∷ words) a b (inr x) (inl y) = absurd (y.1 (atom_value x.0.0) x.0.1.form x.0.1.no_block x.0.2)
+first_once (word ∷ words) a b (inr x) (inr y) = first_once words a b x.1 y.1
+
+same_first : {A : Type 0} (o : Option A) (a b : A) → o ≡ Some a → o ≡ Some b → a ≡ b
+same_first None a b x y = absurd (cc)
+same_first (Some c) a b x y = cc
+
+pub refused_once : (words : List Text) (a b : WordFault) → IsRefusal words a → IsRefusal words b → SameTold a b
+refused_once words Usage Usage x y = tt
+refused_once words Usage (BadAtom v) x y = absurd (x y.0)
+refused_once words Usage (BadNumber v) x y = absurd (x y.0)
+refused_once words (BadAtom w) Usage x y = absurd (y x.0)
+refused_once words (BadAtom w) (BadAtom v) x y =
+    first_once (words_of_atoms (line_of words)) (string_bytes w) (string_bytes v) x.1.atom y.1.atom
+refused_once words (BadAtom w) (BadNumber v) x y = absurd (none_first (bad_numbers (line_of words)) (string_bytes v) x.1.numbers y.1)
+refused_once words (BadNumber w) Usage x y = absurd (y x.0)
+refused_once words (BadNumber w) (BadAtom v) x y = absurd (none_first (bad_numbers (line_of words)) (string_bytes w) y.1.numbers x.1)
+refused_once words (BadNumber w) (BadNumber v) x y = same_first (slice_get (bad_numbers (line_of words)) 0) (string_bytes w) (string_bytes v) x.1 y.1
+refused_once words Memory b x y = tt
+refused_once words Usage Memory x y = tt
+refused_once words (BadAtom w) Memory x y = tt
+refused_once words (BadNumber w) Memory x y = tt

@@ -88,3 +88,12 @@ IsRefusal words (BadNumber word) =
 IsRefusal words (BadAtom word) =
     AreCommand words × HasBadAtom (line_of words) (string_bytes word)
 IsRefusal words Memory = ⊤
+
+-- two refusals, none of them for want of memory, tell the same
+abbrev pub SameTold : WordFault → WordFault → Type 0
+SameTold Usage Usage = ⊤
+SameTold (BadNumber a) (BadNumber b) = string_bytes a ≡ string_bytes b
+SameTold (BadAtom a) (BadAtom b) = string_bytes a ≡ string_bytes b
+SameTold Memory b = ⊤
+SameTold a Memory = ⊤
+SameTold a b = ⊥

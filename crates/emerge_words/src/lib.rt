@@ -7,7 +7,8 @@
 //! **Proved**: an answer is what the words ask for (`IsRequest`), and a refusal has its cause
 //! (`IsRefusal`): Usage only where `clap` refuses the words or no command has them, and else the
 //! first option whose text is no number in its range, or else the first word that is no atom
-//! without a block. No words are both a request and refused (`never_refused`).
+//! without a block. No words are both a request and refused, and words are refused for one
+//! cause (`one_answer`).
 //!
 //! **Only tested**: with ample memory no words are refused for want of it.
 //!
@@ -28,7 +29,7 @@ mod numbers;
 mod reading;
 mod request;
 
-pub use laws::never_refused;
+pub use laws::one_answer;
 pub use numbers::{MOST_BACKTRACK, MOST_FLAG_CHANGES, MOST_JOBS, MOST_LOAD};
 pub use reading::read;
 pub use request::{Command, Request, WordFault};
