@@ -64,6 +64,7 @@ impl Standing {
     ghost use Rattle.merge_record.specs.Spelling.{Fits, PassesLimit, spelling};
     ghost use Rattle.merge_core.specs.Payloads.{IsFull, with_claim, with_record, with_stage};
     ghost use Rattle.merge_core.specs.Roll.{resting};
+    ghost use Rattle.merge_core.specs.Phase.{Recorded};
     ghost use Rattle.merge_core.specs.Phases.{phase_of};
     ghost use Rattle.merge_core.specs.Steps.{IsDueFor, finished, left_for, moved, started};
 
@@ -182,7 +183,7 @@ impl Standing {
     }
 
     /// The bytes of the record that these removals and the stages make.
-    fn spell(
+    pub(crate) fn spell(
         &mut self,
         alloc: Global,
         group: u32,
@@ -249,6 +250,24 @@ impl Standing {
             self.body = Snapshot::of(&Object { kind, bytes });
         }
         Ok(())
+    }
+
+    /// The record was handed to the device.
+    pub(crate) fn take_record(&mut self, removals: Vec<Path>, body: &Object, ok: bool, syncs: u64)
+        ensures taken { IsTrue ok → self.new ≡ record self.old {
+          phase = Recorded;
+          removals = removals.items;
+          body = body.now;
+          stamp = syncs;
+        } }
+        ensures failed { ok ≡ false → self.new ≡ record self.old { stamp = syncs } }
+    {
+        self.stamp = syncs;
+        if ok {
+            self.phase = Phase::Recorded;
+            self.removals = removals;
+            self.body = Snapshot::of(body);
+        }
     }
 
     pub(crate) fn is_full(&self) -> bool
