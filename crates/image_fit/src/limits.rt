@@ -1,0 +1,2 @@
+/// The greatest number of entries of an image.
+pub const MOST_ENTRIES: usize = 100_000;
