@@ -97,14 +97,6 @@ fn trees_that_are_not_built_yet(rt: HostRuntime) -> Result<(), Fail> {
         Kind::Plain,
     )?;
     assert_eq!(rt; database.as_str(), "20 emerge: NotBuilt: Database\n");
-    let journal = told_beside(
-        alloc,
-        "=c/p-1",
-        "var/lib/portage/jobs/00000001/gate",
-        program,
-        Kind::Plain,
-    )?;
-    assert_eq!(rt; journal.as_str(), "20 emerge: NotBuilt: Journal\n");
     Ok(())
 }
 

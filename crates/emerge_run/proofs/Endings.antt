@@ -12,7 +12,7 @@ use Rattle.dep_atom.specs.declared.package.Facts.{Facts}
 use Rattle.dep_atom.specs.declared.package.PackageId.{PackageId}
 use Rattle.visible_set.specs.Candidates.{HasOddEntry}
 use Rattle.merge_record.specs.Recovered.{IsRecovered}
-use Rattle.recovery.specs.Promise.{IsBroken}
+use Rattle.recovery.specs.Promise.{IsFaultOf}
 use Rattle.recovery.specs.declared.fault.RecoverFault.{RecoverFault}
 use Rattle.recovery.specs.declared.fault.RecoverFault.TheVariants as recovery
 use Rattle.emerge_run.specs.Answers.{Asks, AsksFor, IsMet, IsReady}
@@ -26,7 +26,7 @@ use Rattle.emerge_run.specs.declared.refusal.Refusal.{Refusal}
 use Rattle.emerge_run.specs.declared.refusal.Refusal.TheVariants as refusals
 use Rattle.emerge_run.specs.declared.words.WordFault.{WordFault}
 use Rattle.emerge_run.specs.declared.words.WordFault.TheVariants as word
-use Rattle.emerge_run.specs.declared.status.Part.TheVariants.{Database, Image, Journal, Repository}
+use Rattle.emerge_run.specs.declared.status.Part.TheVariants.{Database, Image, Repository}
 use Rattle.emerge_run.specs.declared.status.Status.{Status}
 use Rattle.emerge_run.specs.declared.status.Status.TheVariants as status
 
@@ -43,7 +43,8 @@ image_asks tells told m a f (status.NotBuilt Image) ready h =
     let seen = seen_image tells told (order_of f) h.0 h.1 in
     (seen.0, seen.1, (f, ready, subst (λ (x : List Entry). FitsImage m x → ⊥) (sym seen.2) h.2))
 image_asks tells told m a f (status.NotBuilt Database) ready h = absurd h
-image_asks tells told m a f (status.NotBuilt Journal) ready h = absurd h
+image_asks tells told m a f (status.BadJournal fault) ready h = absurd h
+image_asks tells told m a f (status.Limit quantity) ready h = absurd h
 image_asks tells told m a f (status.NotBuilt Repository) ready h = absurd h
 image_asks tells told m a f (status.BuildFailed failed) ready h = (told, (λ t. refl), (f, ready, h))
 image_asks tells told m a f status.DeviceFault ready h = (told, (λ t. refl), tt)
@@ -59,7 +60,9 @@ not_ok_word word.Usage n e = absurd (cc e)
 not_ok_word word.Memory n e = absurd (cc e)
 
 pub not_ok_recovery : (f : RecoverFault) (n : ℕ) → status_of_recovery f ≡ status.Ok n → ⊥
-not_ok_recovery recovery.Journal n e = absurd (cc e)
+not_ok_recovery (recovery.BadRecord g) n e = absurd (cc e)
+not_ok_recovery (recovery.BadStage g i) n e = absurd (cc e)
+not_ok_recovery recovery.Limit n e = absurd (cc e)
 not_ok_recovery recovery.Failed n e = absurd (cc e)
 not_ok_recovery recovery.Memory n e = absurd (cc e)
 
@@ -71,6 +74,8 @@ not_ok_refusal refusals.Memory n e = absurd (cc e)
 pub not_ok_build : (s : Status) (n : ℕ) → IsFromBuild s → s ≡ status.Ok n → ⊥
 not_ok_build (status.Ok groups) n from e = absurd from
 not_ok_build status.Usage n from e = absurd (cc e)
+not_ok_build (status.BadJournal fault) n from e = absurd from
+not_ok_build (status.Limit quantity) n from e = absurd from
 not_ok_build (status.NoCandidate atom reasons) n from e = absurd (cc e)
 not_ok_build (status.NotBuilt part) n from e = absurd (cc e)
 not_ok_build (status.BuildFailed order) n from e = absurd (cc e)
@@ -79,16 +84,17 @@ not_ok_build status.OutputFault n from e = absurd (cc e)
 not_ok_build status.Memory n from e = absurd (cc e)
 
 -- what a refused journal asks for
-pub recovery_asks : (words : List (List ℕ)) (opening : Map) (image : Order → List Entry) (f : RecoverFault) → IsCommand words → (f ≡ recovery.Journal → IsBroken opening) → Asks words opening image (status_of_recovery f)
-recovery_asks words opening image recovery.Journal command broken = (command, broken refl)
-recovery_asks words opening image recovery.Failed command broken = tt
-recovery_asks words opening image recovery.Memory command broken = tt
+pub recovery_asks : (words : List (List ℕ)) (opening : Map) (image : Order → List Entry) (f : RecoverFault) → IsCommand words → IsFaultOf f opening → Asks words opening image (status_of_recovery f)
+recovery_asks words opening image (recovery.BadRecord g) command is = (command, is)
+recovery_asks words opening image (recovery.BadStage g i) command is = (command, is)
+recovery_asks words opening image recovery.Limit command is = (command, is)
+recovery_asks words opening image recovery.Failed command is = tt
+recovery_asks words opening image recovery.Memory command is = tt
 
 -- what a refused tree asks for
 pub tree_asks : (a : AtomValue) (m : Map) (image : Order → List Entry) (r : Refusal) → TreeRefuses m a r → AsksFor a m image (status_of r)
 tree_asks a m image (refusals.NotBuilt Repository) refuses = refuses
 tree_asks a m image (refusals.NotBuilt Database) refuses = refuses
-tree_asks a m image (refusals.NotBuilt Journal) refuses = refuses
 tree_asks a m image (refusals.NotBuilt Image) refuses = absurd refuses
 tree_asks a m image refusals.Failed refuses = tt
 tree_asks a m image refusals.Memory refuses = tt
@@ -119,7 +125,8 @@ outcome_before tells told resting words old new s s' history b has asks same non
 asks_after : (words : List (List ℕ)) (a : AtomValue) (opening m : Map) (image : Order → List Entry) (s : Status) → IsRequest words a → IsRecovered opening m → AsksFor a m image s → Asks words opening image s
 asks_after words a opening m image (status.Ok groups) asked is asks = (a, asked, (m, is, asks))
 asks_after words a opening m image status.Usage asked is asks = absurd asks
-asks_after words a opening m image (status.NotBuilt Journal) asked is asks = absurd asks
+asks_after words a opening m image (status.BadJournal fault) asked is asks = absurd asks
+asks_after words a opening m image (status.Limit quantity) asked is asks = absurd asks
 asks_after words a opening m image (status.NotBuilt Repository) asked is asks = (a, asked, (m, is, asks))
 asks_after words a opening m image (status.NotBuilt Database) asked is asks = (a, asked, (m, is, asks))
 asks_after words a opening m image (status.NotBuilt Image) asked is asks = (a, asked, (m, is, asks))
@@ -234,6 +241,8 @@ late_asks a f m image status.DeviceFault late one ready fits = tt
 late_asks a f m image status.OutputFault late one ready fits = tt
 late_asks a f m image status.Memory late one ready fits = tt
 late_asks a f m image status.Usage late one ready fits = absurd late
+late_asks a f m image (status.BadJournal fault) late one ready fits = absurd late
+late_asks a f m image (status.Limit quantity) late one ready fits = absurd late
 late_asks a f m image (status.NotBuilt part) late one ready fits = absurd late
 late_asks a f m image (status.NoCandidate atom reasons) late one ready fits = absurd late
 late_asks a f m image (status.BuildFailed id) late one ready fits = absurd late

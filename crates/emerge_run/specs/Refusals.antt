@@ -4,13 +4,14 @@ use Rattle.dep_atom.specs.Values.{AtomValue}
 use Rattle.dep_atom.specs.declared.fault.AtomFault.{AtomFault}
 use Rattle.dep_atom.specs.declared.fault.AtomFault.TheVariants as atoms
 use Rattle.emerge_run.specs.Answers.{Refuses}
+use Rattle.file_tree.specs.declared.limits.Quantity.TheVariants.{Groups}
 use Rattle.file_tree.specs.declared.fault.TreeFault.{TreeFault}
 use Rattle.file_tree.specs.declared.fault.TreeFault.TheVariants as tree
 use Rattle.recovery.specs.declared.fault.RecoverFault.{RecoverFault}
 use Rattle.recovery.specs.declared.fault.RecoverFault.TheVariants as recovery
 use Rattle.visible_set.specs.declared.fault.CandidateFault.{CandidateFault}
 use Rattle.visible_set.specs.declared.fault.CandidateFault.TheVariants as candidates
-use Rattle.emerge_run.specs.declared.status.Part.TheVariants.{Journal, Repository}
+use Rattle.emerge_run.specs.declared.status.Part.TheVariants.{Repository}
 use Rattle.emerge_run.specs.declared.refusal.Refusal.{Refusal}
 use Rattle.emerge_run.specs.declared.refusal.Refusal.TheVariants as refusals
 use Rattle.emerge_run.specs.declared.words.WordFault.{WordFault}
@@ -37,7 +38,9 @@ status_of_tree tree.Failed = status.DeviceFault
 status_of_tree tree.Memory = status.Memory
 
 abbrev pub status_of_recovery : RecoverFault → Status
-status_of_recovery recovery.Journal = status.NotBuilt Journal
+status_of_recovery (recovery.BadRecord g) = status.BadJournal (recovery.BadRecord g)
+status_of_recovery (recovery.BadStage g i) = status.BadJournal (recovery.BadStage g i)
+status_of_recovery recovery.Limit = status.Limit Groups
 status_of_recovery recovery.Failed = status.DeviceFault
 status_of_recovery recovery.Memory = status.Memory
 

@@ -1,6 +1,6 @@
 use crate::status::{Part, Status};
 use crate::words::WordFault;
-use file_tree::{Failed, TreeFault};
+use file_tree::{Failed, Quantity, TreeFault};
 use recovery::RecoverFault;
 use std::alloc::AllocError;
 use visible_set::CandidateFault;
@@ -101,8 +101,11 @@ impl From<RecoverFault> for Status {
 
     fn from(fault: RecoverFault) -> Status {
         match fault {
-            RecoverFault::Journal => Status::NotBuilt {
-                what: Part::Journal,
+            RecoverFault::BadRecord { .. } | RecoverFault::BadStage { .. } => {
+                Status::BadJournal(fault)
+            }
+            RecoverFault::Limit => Status::Limit {
+                quantity: Quantity::Groups,
             },
             RecoverFault::Failed => Status::DeviceFault,
             RecoverFault::Memory => Status::Memory,

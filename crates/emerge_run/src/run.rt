@@ -147,7 +147,7 @@ fn attempt<T: Tree, S: Sink, B: Builder>(
         Err(fault) => return stopped(alloc, Status::from(fault)),
     };
     match recover(alloc, tree) {
-        Ok(()) => run_request(alloc, atom, tree, out, pool),
+        Ok(_) => run_request(alloc, atom, tree, out, pool),
         Err(fault) => stopped(alloc, Status::from(fault)),
     }
 }

@@ -1,4 +1,6 @@
 use dep_atom::{Atom, PackageId};
+use file_tree::Quantity;
+use recovery::RecoverFault;
 
 /// A part of the product that is not there yet for what the run met.
 #[derive(Clone, Copy, Debug, PartialEq, Eq)]
@@ -7,8 +9,6 @@ pub enum Part {
     Repository,
     /// Something in the database of installed packages.
     Database,
-    /// Something in the journal.
-    Journal,
     /// An image of another form, or one that meets something in the tree.
     Image,
 }
@@ -29,6 +29,8 @@ pub enum Status {
     },
     /// The words are no command.
     Usage,
+    /// The first open group of the journal that isn't in form, by its record or a stage of it.
+    BadJournal(RecoverFault),
     /// The atom matches no candidate of its name: these are all of them, the greatest version first.
     NoCandidate {
         atom: Atom,
@@ -42,6 +44,10 @@ pub enum Status {
     DeviceFault,
     /// The output failed.
     OutputFault,
+    /// There is more of the quantity than may be.
+    Limit {
+        quantity: Quantity,
+    },
     /// Memory ran out.
     Memory,
     /// The run met what this part of the product can't do yet.
@@ -61,10 +67,12 @@ impl Status {
         match self {
             Status::Ok { .. } => 0,
             Status::Usage => 2,
+            Status::BadJournal(_) => 5,
             Status::NoCandidate { .. } => 7,
             Status::BuildFailed { .. } => 15,
             Status::DeviceFault => 16,
             Status::OutputFault => 17,
+            Status::Limit { .. } => 18,
             Status::Memory => 19,
             Status::NotBuilt { .. } => 20,
         }

@@ -26,7 +26,7 @@ returns-in-Err-recover-clause-outcome g c t =
     let b = some_builder c.args.pool.now.resting c.requires.resting in
     let old = g.T.Tree.story c.args.tree.now in
     outcome_before g.B.Builder.tells g.B.Builder.told c.args.pool.now.resting _ old (g.T.Tree.story c.recover.new.tree) (status_of_recovery c.in-Err-recover.fault) c.stopped-in-Err-recover.result.status c.stopped-in-Err-recover.result.history.items
-    b.0 b.1 (recovery_asks _ old.now.holds (g.B.Builder.told b.0) c.in-Err-recover.fault (atom_value c.in-Ok.atom, c.in-Ok.ensures.found) (λ e. (c.in-Err-recover.ensures.refused t (ap Err e)).0))
+    b.0 b.1 (recovery_asks _ old.now.holds (g.B.Builder.told b.0) c.in-Err-recover.fault (atom_value c.in-Ok.atom, c.in-Ok.ensures.found) (c.in-Err-recover.ensures.refused t))
     (c.stopped-in-Err-recover.ensures.status ∙ c.from-in-Err-recover.ensures) c.stopped-in-Err-recover.ensures.history
     (not_ok_recovery c.in-Err-recover.fault) (c.recover.ensures.moments t)
 
