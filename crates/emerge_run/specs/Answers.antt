@@ -20,11 +20,11 @@ use Rattle.vdb_text.specs.Files.{database_path}
 use Rattle.visible_set.specs.Candidates.{AreOffers, HasOddEntry, IsChosen}
 use Rattle.emerge_run.specs.Images.{FitsImage}
 use Rattle.emerge_run.specs.Package.{order_of}
-use Rattle.emerge_run.specs.Words.{IsCommand, IsRequest}
+use Rattle.emerge_run.specs.Words.{AskForOther, AskForPackage, IsRequest, IsUsage}
 use Rattle.emerge_run.specs.declared.judge.Standing.{Standing}
 use Rattle.emerge_run.specs.declared.judge.Standing.TheVariants.{Chosen, Installed, Unmatched}
 use Rattle.emerge_run.specs.declared.status.Part.{Part}
-use Rattle.emerge_run.specs.declared.status.Part.TheVariants.{Repository, Database, Image}
+use Rattle.emerge_run.specs.declared.status.Part.TheVariants.{Command, Repository, Database, Image}
 use Rattle.emerge_run.specs.declared.status.Reason.{Reason}
 use Rattle.emerge_run.specs.declared.status.Reason.TheVariants.{NotMatched}
 use Rattle.emerge_run.specs.declared.status.Status.{Status}
@@ -74,6 +74,7 @@ HasMatched a (Unmatched reasons) = Unit {0}
 
 -- what a recovered tree is refused for, the first in this order
 abbrev pub Refuses : Map → AtomValue → Part → Type 0
+Refuses m a Command = ⊥
 Refuses m a Repository = HasOddEntry m a.name
 Refuses m a Database = (HasOddEntry m a.name → ⊥) × (HasBelow m database_path × (IsMet m a → ⊥))
 Refuses m a Image = ⊥
@@ -86,7 +87,8 @@ abbrev pub AsksFor : AtomValue → Map → (Order → List Entry) → Status →
 AsksFor a m image (status.Ok groups) =
     ((f : Facts) × IsReady m a f × (FitsImage m (image (order_of f)) × (groups ≡ 1))) ⊎
     (((HasOddEntry m a.name → ⊥) × IsMet m a) × (groups ≡ 0))
-AsksFor a m image status.Usage = ⊥
+AsksFor a m image (status.Usage fault) = ⊥
+AsksFor a m image (status.NotBuilt Command) = ⊥
 AsksFor a m image (status.BadJournal fault) = ⊥
 AsksFor a m image (status.Limit quantity) = ⊥
 AsksFor a m image (status.NotBuilt Repository) = Refuses m a Repository
@@ -116,13 +118,15 @@ abbrev pub HasTooMany : Quantity → Map → Type 0
 HasTooMany Groups m = HasTooManyGates m
 HasTooMany quantity m = ⊥
 
--- The answer of a run over this tree and this image. Usage comes exactly where the words are no
--- command, and the journal is refused exactly where it has too many gates or is broken so.
+-- The answer of a run over this tree and this image. Usage comes exactly where the words are refused
+-- for just this, another command is told as one, and the journal is refused exactly where it has too
+-- many gates or is broken so.
 abbrev pub Asks : List (List ℕ) → Map → (Order → List Entry) → Status → Type 0
 Asks words opening image (status.Ok groups) = AsksAfter words opening image (status.Ok groups)
-Asks words opening image status.Usage = IsCommand words → ⊥
-Asks words opening image (status.BadJournal fault) = IsCommand words × IsBroken fault opening
-Asks words opening image (status.Limit quantity) = IsCommand words × HasTooMany quantity opening
+Asks words opening image (status.Usage fault) = IsUsage words fault
+Asks words opening image (status.NotBuilt Command) = AskForOther words
+Asks words opening image (status.BadJournal fault) = AskForPackage words × IsBroken fault opening
+Asks words opening image (status.Limit quantity) = AskForPackage words × HasTooMany quantity opening
 Asks words opening image (status.NotBuilt Repository) =
     AsksAfter words opening image (status.NotBuilt Repository)
 Asks words opening image (status.NotBuilt Database) =

@@ -1,5 +1,5 @@
 use crate::status::{Part, Status};
-use crate::words::WordFault;
+use emerge_words::WordFault;
 use file_tree::{Failed, Quantity, TreeFault};
 use recovery::RecoverFault;
 use std::alloc::AllocError;
@@ -101,8 +101,11 @@ impl From<RecoverFault> for Status {
 
     fn from(fault: RecoverFault) -> Status {
         match fault {
-            RecoverFault::BadRecord { .. } | RecoverFault::BadStage { .. } => {
-                Status::BadJournal(fault)
+            RecoverFault::BadRecord { group } => {
+                Status::BadJournal(RecoverFault::BadRecord { group })
+            }
+            RecoverFault::BadStage { group, index } => {
+                Status::BadJournal(RecoverFault::BadStage { group, index })
             }
             RecoverFault::Limit => Status::Limit {
                 quantity: Quantity::Groups,
@@ -121,8 +124,8 @@ impl From<WordFault> for Status {
 
     fn from(fault: WordFault) -> Status {
         match fault {
-            WordFault::Usage => Status::Usage,
             WordFault::Memory => Status::Memory,
+            fault => Status::Usage { fault },
         }
     }
 }

@@ -1,10 +1,13 @@
 use dep_atom::{Atom, PackageId};
+use emerge_words::WordFault;
 use file_tree::Quantity;
 use recovery::RecoverFault;
 
 /// A part of the product that is not there yet for what the run met.
 #[derive(Clone, Copy, Debug, PartialEq, Eq)]
 pub enum Part {
+    /// A command that asks for more than the merge of one atom.
+    Command,
     /// A cache entry of another form.
     Repository,
     /// Something in the database of installed packages.
@@ -27,8 +30,10 @@ pub enum Status {
     Ok {
         groups: u32,
     },
-    /// The words are no command.
-    Usage,
+    /// The words are no command, or a word in them is no number or no atom.
+    Usage {
+        fault: WordFault,
+    },
     /// The first open group of the journal that isn't in form, by its record or a stage of it.
     BadJournal(RecoverFault),
     /// The atom matches no candidate of its name: these are all of them, the greatest version first.
@@ -66,7 +71,7 @@ impl Status {
     {
         match self {
             Status::Ok { .. } => 0,
-            Status::Usage => 2,
+            Status::Usage { .. } => 2,
             Status::BadJournal(_) => 5,
             Status::NoCandidate { .. } => 7,
             Status::BuildFailed { .. } => 15,

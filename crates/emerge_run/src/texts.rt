@@ -8,6 +8,7 @@ ghost use Rattle.emerge_run.specs.Texts.{reason_word};
 
 use crate::status::{Part, Reason, Status};
 use dep_atom::{Atom, PackageId};
+use emerge_words::WordFault;
 use file_tree::Quantity;
 use recovery::RecoverFault;
 use std::alloc::{AllocError, Global};
@@ -30,16 +31,39 @@ pub fn fixed_line(status: &Status) -> Option<&'static str>
         | Status::BadJournal(_)
         | Status::NoCandidate { .. }
         | Status::BuildFailed { .. } => None,
-        Status::Usage => Some("emerge: Usage\n"),
+        Status::Usage { fault } => fixed_usage(fault),
         Status::DeviceFault => Some("emerge: DeviceFault\n"),
         Status::OutputFault => Some("emerge: OutputFault\n"),
         Status::Limit { quantity } => Some(limit_line(*quantity)),
         Status::Memory => Some("emerge: Memory\n"),
         Status::NotBuilt { what } => Some(match what {
+            Part::Command => "emerge: NotBuilt: Command\n",
             Part::Repository => "emerge: NotBuilt: Repository\n",
             Part::Database => "emerge: NotBuilt: Database\n",
             Part::Image => "emerge: NotBuilt: Image\n",
         }),
+    }
+}
+
+/// The last line of words that are no command, where it names no word.
+fn fixed_usage(fault: &WordFault) -> Option<&'static str>
+    ensures { IfSome result (λ t. t.now ≡ last_line (Status.Usage fault.now)) }
+{
+    match fault {
+        WordFault::Usage => Some("emerge: Usage\n"),
+        _ => None,
+    }
+}
+
+/// The last line of words that are no command.
+fn usage_line(alloc: Global, fault: &WordFault) -> Result<String, AllocError>
+    ensures { IfOk result (λ t. string_bytes t ≡ last_line (Status.Usage fault.now)) }
+{
+    match fault {
+        WordFault::Usage => String::from_str(alloc, "emerge: Usage\n"),
+        WordFault::BadAtom { word } => format!(in alloc; "emerge: Usage: bad atom {word}\n"),
+        WordFault::BadNumber { word } => format!(in alloc; "emerge: Usage: bad number {word}\n"),
+        WordFault::Memory => Err(AllocError),
     }
 }
 
@@ -64,6 +88,7 @@ pub fn line_of_status(alloc: Global, status: &Status) -> Result<String, AllocErr
         Status::BadJournal(fault) => broken_line(alloc, *fault),
         Status::NoCandidate { atom, reasons } => unmatched_line(alloc, atom, reasons),
         Status::BuildFailed { package } => failed_line(alloc, package),
+        Status::Usage { fault } => usage_line(alloc, fault),
         other => match fixed_line(other) {
             Some(line) => String::from_str(alloc, line),
             None => Err(AllocError),
@@ -75,14 +100,20 @@ fn broken_line(alloc: Global, fault: RecoverFault) -> Result<String, AllocError>
     ensures { IfOk result (λ t. string_bytes t ≡
         codes "emerge: BadJournal: " ++ (broken_text fault ++ 10 ∷ [])) }
 {
+    let text = broken_part(alloc, fault)?;
+    format!(in alloc; "emerge: BadJournal: {text}\n")
+}
+
+/// The group whose record is broken, or the stage.
+fn broken_part(alloc: Global, fault: RecoverFault) -> Result<String, AllocError>
+    ensures { IfOk result (λ t. string_bytes t ≡ broken_text fault) }
+{
     match fault {
-        RecoverFault::BadRecord { group } => {
-            format!(in alloc; "emerge: BadJournal: {group} record\n")
+        RecoverFault::BadRecord { group } => format!(in alloc; "{group} record"),
+        RecoverFault::BadStage { group, index } => format!(in alloc; "{group} stage {index}"),
+        RecoverFault::Limit | RecoverFault::Failed | RecoverFault::Memory => {
+            Ok(String::new(alloc))
         }
-        RecoverFault::BadStage { group, index } => {
-            format!(in alloc; "emerge: BadJournal: {group} stage {index}\n")
-        }
-        _ => String::from_str(alloc, "emerge: BadJournal: \n"),
     }
 }
 
