@@ -16,9 +16,12 @@
 mod broken;
 mod class;
 mod laws;
+mod leaf;
+mod line;
 mod package;
 
 pub use broken::Broken;
 pub use class::{Class, Eapi};
 pub use laws::{one_fault, one_state};
+pub use line::LineName;
 pub use package::Pkg;
