@@ -7,6 +7,8 @@
 #[cfg(test)]
 mod atoms;
 #[cfg(test)]
+mod gates;
+#[cfg(test)]
 mod second;
 #[cfg(test)]
 mod stops;

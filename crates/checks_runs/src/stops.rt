@@ -106,7 +106,7 @@ fn removals_are_recovered(rt: HostRuntime) -> Result<(), Fail> {
 /// The objects of the tree that recovery makes of this one.
 fn recovered(alloc: Global, mut tree: MemTree) -> Result<String, AllocError> {
     match recover(alloc, &mut tree) {
-        Ok(()) => listing(alloc, &tree),
+        Ok(_) => listing(alloc, &tree),
         Err(_) => String::from_str(alloc, "refused"),
     }
 }
@@ -238,21 +238,6 @@ fn told_over(
     format!(in alloc; "{text}{objects}")
 }
 
-#[test]
-fn damaged_record(rt: HostRuntime) -> Result<(), Fail> {
-    let alloc = rt.alloc();
-    let gate = entry(alloc, "gate", "\u{1}")?;
-    let filed = entry(alloc, "record", "EMJR")?;
-    let tree = tree_of(alloc, vec![in alloc; gate, filed]?).map_err(|_| AllocError)?;
-    let run = run_on(alloc, "=c/p-1", tree, sample_image(alloc)?)?;
-    assert_eq!(rt;
-        told(alloc, &run)?.as_str(),
-        "20 emerge: NotBuilt: Journal\n"
-    );
-    assert_eq!(rt; run.tree.objects().len(), 2);
-    Ok(())
-}
-
 /// A file of the journal of group 1.
 fn entry(alloc: Global, name: &str, text: &str) -> Result<file_tree::Entry, AllocError> {
     let path = format!(in alloc; "var/lib/portage/jobs/00000001/{name}")?;
@@ -262,28 +247,26 @@ fn entry(alloc: Global, name: &str, text: &str) -> Result<file_tree::Entry, Allo
 #[test]
 fn journals_that_are_refused_and_that_are_cleared(rt: HostRuntime) -> Result<(), Fail> {
     let alloc = rt.alloc();
-    let refused = "20 emerge: NotBuilt: Journal\n5";
+    let record = "5 emerge: BadJournal: 2 record\n5";
+    let stage = "5 emerge: BadJournal: 1 stage 0\n5";
     let merged = "0 done 1 +c/p-1\nemerge: ok 1\n";
     let plain = Kind::Plain;
     assert_eq!(rt;
         told_over(alloc, "\u{1}", "\u{1}", plain, "ab")?.as_str(),
-        refused
+        record
     );
     assert_eq!(rt;
         told_over(alloc, "\u{1}", "", plain, "abc")?.as_str(),
-        refused
+        stage
     );
-    assert_eq!(rt;
-        told_over(alloc, "\u{1}", "", plain, "ac")?.as_str(),
-        refused
-    );
+    assert_eq!(rt; told_over(alloc, "\u{1}", "", plain, "ac")?.as_str(), stage);
     assert_eq!(rt;
         told_over(alloc, "\u{1}", "", Kind::Exec, "ab")?.as_str(),
-        refused
+        stage
     );
     assert_eq!(rt;
         told_over(alloc, "", "\u{1}", plain, "ab")?.as_str(),
-        refused
+        record
     );
     let cleared = told_over(alloc, "\u{0}", "\u{1}\u{1}", plain, "ab")?;
     assert_eq!(rt; cleared.as_str(), format!(in alloc; "{merged}5")?.as_str());

@@ -49,14 +49,32 @@ fn told_of_words(alloc: Global, words: &str) -> Result<String, AllocError> {
 #[test]
 fn words_that_are_no_command(rt: HostRuntime) -> Result<(), Fail> {
     let alloc = rt.alloc();
-    let table =
-        ",=c/p-1 =c/p-1,c/p-1,=c/p,=c/p-,=c/p-1.,=/p-1,=c/-1,!c/p,!!=c/p-1,=c/p-1:,c/p[x,>=c/p-1*,c,c/p::gentoo,@world";
-    for words in table.split(',') {
-        assert_eq!(rt;
-            told_of_words(alloc, words)?.as_str(),
-            "2 emerge: Usage\n",
-            "at {words}"
-        );
+    let none = "=c/p-,=c/p-1.,=/p-1,=c/-1,!c/p,!!=c/p-1,=c/p-1:,c/p[x,>=c/p-1*,c,c/p::gentoo,c/p-1";
+    for word in none.split(',') {
+        let want = format!(in alloc; "2 emerge: Usage: bad atom {word}\n")?;
+        assert_eq!(rt; told_of_words(alloc, word)?, want);
+    }
+    Ok(())
+}
+
+#[test]
+fn words_and_what_they_come_to(rt: HostRuntime) -> Result<(), Fail> {
+    let alloc = rt.alloc();
+    let table = [
+        ("", "2 emerge: Usage\n"),
+        ("--help", "2 emerge: Usage\n"),
+        ("--load 2 c/p", "2 emerge: Usage\n"),
+        ("--jobs 17 =c/p-1", "2 emerge: Usage: bad number 17\n"),
+        ("--jobs 2 =c/p-1", "0 done 1 +c/p-1\nemerge: ok 1\n"),
+        ("=c/p-1 --tree x", "0 done 1 +c/p-1\nemerge: ok 1\n"),
+        ("=c/p-1 =c/p-1", "20 emerge: NotBuilt: Command\n"),
+        ("--pretend c/p", "20 emerge: NotBuilt: Command\n"),
+        ("--flag-changes 1 c/p", "20 emerge: NotBuilt: Command\n"),
+        ("--unmerge c/p", "20 emerge: NotBuilt: Command\n"),
+        ("@world", "20 emerge: NotBuilt: Command\n"),
+    ];
+    for (words, want) in table {
+        assert_eq!(rt; told_of_words(alloc, words)?.as_str(), want, "at {words}");
     }
     Ok(())
 }
@@ -97,14 +115,6 @@ fn trees_that_are_not_built_yet(rt: HostRuntime) -> Result<(), Fail> {
         Kind::Plain,
     )?;
     assert_eq!(rt; database.as_str(), "20 emerge: NotBuilt: Database\n");
-    let journal = told_beside(
-        alloc,
-        "=c/p-1",
-        "var/lib/portage/jobs/00000001/gate",
-        program,
-        Kind::Plain,
-    )?;
-    assert_eq!(rt; journal.as_str(), "20 emerge: NotBuilt: Journal\n");
     Ok(())
 }
 

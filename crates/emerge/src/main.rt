@@ -1,24 +1,22 @@
 //! `emerge`: merges a package into a tree of files.
 //!
-//! With `--tree ROOT` the tree is the folder ROOT of the host, the images are folders below that of
-//! `--images`, and `--build-with CMD` has a program prepare each of them first. The words after these
-//! are the command. Without `--tree` the command is run over a small tree in memory, whose one image
-//! is an empty file.
+//! The words are those of the command line of the whole product. The tree is the folder of the host
+//! that `--tree` names, and the root of the host where it names none; the images are folders below
+//! that of `--images`, and `--build-with CMD` has a program prepare each of them first. Words that are
+//! no command are answered over an empty tree in memory.
 #![tactic(auto)]
 
-mod host;
-
-use crate::host::{Host, host_of};
 use build_pool::{BuildPool, Builder};
 use emerge_run::{Ended, Status, emerge};
+use emerge_words::{Request, read};
 use host_side::{CommandBuilder, FolderBuilder, HostSink, HostTree, OpenFault};
-use samples::{ImageBuilder, sample_image, sample_tree};
+use samples::{ImageBuilder, sample_image};
 use std::alloc::{AllocError, Global};
 use std::io::Write;
 use std::process::ExitCode;
 use std::rt::Env;
 use std::{env, io};
-use tree_mem::MemSink;
+use tree_mem::{MemSink, MemTree};
 
 /// The status of a run that found no memory before it began.
 const NO_MEMORY: u8 = 19;
@@ -42,26 +40,33 @@ fn main(rt: HostRuntime) -> ExitCode {
 /// Runs the words of the command line, and answers the status's number.
 fn run(rt: HostRuntime, alloc: Global) -> Result<u8, AllocError> {
     let words = words(&rt, alloc)?;
-    match host_of(&words) {
-        Some(host) => run_on_host(rt, alloc, &host),
-        None => run_in_memory(&rt, alloc, &words),
+    match read(alloc, &words) {
+        Ok(request) => run_on_host(rt, alloc, &words, &request),
+        Err(_) => run_in_memory(&rt, alloc, &words),
     }
 }
 
-/// Runs a command over a folder of the host.
-fn run_on_host(rt: HostRuntime, alloc: Global, host: &Host<'_>) -> Result<u8, AllocError> {
-    let tree = match HostTree::open(rt, host.tree) {
+/// Runs a command over the folder of the host that it names.
+fn run_on_host(
+    rt: HostRuntime,
+    alloc: Global,
+    words: &[String],
+    request: &Request,
+) -> Result<u8, AllocError> {
+    let name = request.tree.as_str();
+    let images = request.images.as_str();
+    let tree = match HostTree::open(rt, name) {
         Ok(tree) => tree,
-        Err(fault) => return Ok(refuse(&rt, host.tree, fault)),
+        Err(fault) => return Ok(refuse(&rt, name, fault)),
     };
-    match host.program {
+    match &request.build_with {
         Some(program) => {
-            let builder = CommandBuilder::new(rt, program, host.images, 1)?;
-            run_with(rt, alloc, host.command, tree, builder)
+            let builder = CommandBuilder::new(rt, program.as_str(), images, 1)?;
+            run_with(rt, alloc, words, tree, builder)
         }
         None => {
-            let builder = FolderBuilder::new(rt, host.images, 1)?;
-            run_with(rt, alloc, host.command, tree, builder)
+            let builder = FolderBuilder::new(rt, images, 1)?;
+            run_with(rt, alloc, words, tree, builder)
         }
     }
 }
@@ -70,7 +75,7 @@ fn run_on_host(rt: HostRuntime, alloc: Global, host: &Host<'_>) -> Result<u8, Al
 fn run_with<B: Builder + Send>(
     rt: HostRuntime,
     alloc: Global,
-    command: &[String],
+    words: &[String],
     tree: HostTree,
     builder: B,
 ) -> Result<u8, AllocError> {
@@ -78,7 +83,7 @@ fn run_with<B: Builder + Send>(
     builders.push(builder)?;
     let pool = BuildPool::new(alloc, builders)?;
     let out = HostSink::stdout(rt);
-    let Ended { status, .. } = emerge(alloc, command, tree, out, pool);
+    let Ended { status, .. } = emerge(alloc, words, tree, out, pool);
     Ok(number_of(status))
 }
 
@@ -99,17 +104,12 @@ fn refuse(rt: &HostRuntime, name: &str, fault: OpenFault) -> u8 {
     }
 }
 
-/// Runs a command over the tree in memory, and prints the lines.
+/// Runs words over an empty tree in memory, and prints the lines.
 fn run_in_memory<R: Print>(rt: &R, alloc: Global, words: &[String]) -> Result<u8, AllocError> {
     let builder = ImageBuilder::new(1, sample_image(alloc)?);
     let pool = BuildPool::new(alloc, vec![in alloc; builder]?)?;
-    let Ended { status, out, .. } = emerge(
-        alloc,
-        words,
-        sample_tree(alloc)?,
-        MemSink::new(alloc),
-        pool,
-    );
+    let tree = MemTree::new(alloc, Vec::new(alloc)).map_err(|_| AllocError)?;
+    let Ended { status, out, .. } = emerge(alloc, words, tree, MemSink::new(alloc), pool);
     let code = number_of(status);
     match io::writer(rt).write_all(out.bytes()) {
         Ok(()) => Ok(code),

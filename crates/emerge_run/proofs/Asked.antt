@@ -8,32 +8,18 @@ use Rattle.dep_atom.specs.declared.package.PackageId.{PackageId}
 use Rattle.emerge_run.specs.Images.{Fits, FitsImage, HasOne}
 use Rattle.emerge_run.specs.Outcomes.{ImageAsks}
 use Rattle.emerge_run.specs.Answers.{Asks}
-use Rattle.dep_atom.specs.declared.atom.Atom.{Atom}
-use Rattle.dep_atom.specs.declared.fault.AtomFault.{AtomFault}
-use Rattle.dep_atom.specs.declared.fault.AtomFault.TheVariants as atoms
-use Rattle.emerge_run.specs.Refusals.{status_of, status_of_word, word_fault}
-use Rattle.emerge_run.specs.Words.{IsCommand}
-use Rattle.emerge_run.specs.declared.words.WordFault.{WordFault}
-use Rattle.emerge_run.specs.declared.words.WordFault.TheVariants as word
+use Rattle.emerge_run.specs.Refusals.{status_of}
+use Rattle.emerge_run.specs.Words.{EndsAtWords}
 use Rattle.emerge_run.specs.declared.refusal.Refusal.{Refusal}
 use Rattle.emerge_run.specs.declared.refusal.Refusal.TheVariants as refusals
+use Rattle.emerge_run.specs.declared.status.Part.TheVariants as part
 use Rattle.emerge_run.specs.declared.status.Part.TheVariants.{Image}
+use Rattle.emerge_run.specs.declared.status.Status.{Status}
 use Rattle.emerge_run.specs.declared.status.Status.TheVariants as status
 
 pub some_builder : {B : Type 0} (bs : List B) → 0 < length bs → (b : B) × Contains bs b
 some_builder [] lt = absurd (omega arith)
 some_builder (b ∷ bs) lt = (b, (zero, omega arith, refl))
-
--- where the words are just one text, the first of them is it
-pub first_word : (words : List (String Global)) (w : String Global) (text : List ℕ) → w ≡ get_or words 0 w → map string_bytes words ≡ text ∷ [] → string_bytes w ≡ text
-first_word [] w text is e = absurd (cc e)
-first_word (x ∷ xs) w text is e = ap string_bytes is ∙ ap (λ (l : List (List ℕ)). get_or l 0 text) e
-
--- want of memory is no refusal of the words
-pub memory_alone : (f : AtomFault) (w : WordFault) → w ≡ word_fault f → f ≡ atoms.Memory → IsErrOf {T = Atom} (Err w) word.Usage → ⊥
-memory_alone f w is memory e =
-    let told : word_fault f ≡ word.Memory = ap word_fault memory in
-    cc (is, told, e)
 
 -- an image of one entry fits only where that entry does
 pub not_fitting : (m : Map) (image : List Entry) (e : Entry) → image ≡ e ∷ [] → (Fits m e → ⊥) → FitsImage m image → ⊥
@@ -55,6 +41,17 @@ entry_refused tells told m id e r one (inr (inl is)) no_fit = subst (λ (x : Ref
 entry_refused tells told m id e r one (inr (inr is)) no_fit = subst (λ (x : Refusal). ImageAsks tells told m id (status_of x)) (sym is) tt
 
 -- what reading the words answers
-pub word_refused : (words : List (List ℕ)) (m : Map) (image : Order → List Entry) (f : WordFault) → (f ≡ word.Usage → IsCommand words → ⊥) → Asks words m image (status_of_word f)
-word_refused words m image word.Usage usage = usage refl
-word_refused words m image word.Memory usage = tt
+pub word_refused : (words : List (List ℕ)) (m : Map) (image : Order → List Entry) (s : Status) → EndsAtWords words s → Asks words m image s
+word_refused words m image (status.Usage fault) ends = ends
+word_refused words m image (status.NotBuilt part.Command) ends = ends
+word_refused words m image (status.NotBuilt part.Repository) ends = absurd ends
+word_refused words m image (status.NotBuilt part.Database) ends = absurd ends
+word_refused words m image (status.NotBuilt part.Image) ends = absurd ends
+word_refused words m image status.Memory ends = tt
+word_refused words m image (status.Ok groups) ends = absurd ends
+word_refused words m image (status.BadJournal fault) ends = absurd ends
+word_refused words m image (status.Limit quantity) ends = absurd ends
+word_refused words m image (status.NoCandidate atom reasons) ends = absurd ends
+word_refused words m image (status.BuildFailed id) ends = absurd ends
+word_refused words m image status.DeviceFault ends = absurd ends
+word_refused words m image status.OutputFault ends = absurd ends

@@ -12,21 +12,20 @@ use Rattle.dep_atom.specs.declared.package.Facts.{Facts}
 use Rattle.dep_atom.specs.declared.package.PackageId.{PackageId}
 use Rattle.visible_set.specs.Candidates.{HasOddEntry}
 use Rattle.merge_record.specs.Recovered.{IsRecovered}
-use Rattle.recovery.specs.Promise.{IsBroken}
+use Rattle.recovery.specs.Promise.{IsFaultOf}
 use Rattle.recovery.specs.declared.fault.RecoverFault.{RecoverFault}
 use Rattle.recovery.specs.declared.fault.RecoverFault.TheVariants as recovery
 use Rattle.emerge_run.specs.Answers.{Asks, AsksFor, IsMet, IsReady}
 use Rattle.emerge_run.specs.Images.{Fits, FitsImage}
 use Rattle.emerge_run.specs.Outcomes.{CarriedOut, EndsWith, HasFiles, ImageAsks, IsAdded, IsApplied, IsAtRest, IsBeforeOrAfter, IsFromBuild, IsKept, IsLate, IsNamed, IsPackageOf, OfSomeBuilder, Outcome, Ran, RanTo, RecoversTo, RecoversToEither}
 use Rattle.emerge_run.specs.Package.{files, order_of}
-use Rattle.emerge_run.specs.Refusals.{TreeRefuses, status_of, status_of_recovery, status_of_word}
-use Rattle.emerge_run.specs.Words.{IsCommand, IsRequest}
+use Rattle.emerge_run.specs.Refusals.{TreeRefuses, status_of, status_of_recovery}
+use Rattle.emerge_words.specs.declared.request.WordFault.{WordFault}
+use Rattle.emerge_run.specs.Words.{AskForPackage, EndsAtWords, IsOfWords, IsRequest}
 use Rattle.emerge_run.proofs.Grouped.{closed_at_rest, closed_leaves}
 use Rattle.emerge_run.specs.declared.refusal.Refusal.{Refusal}
 use Rattle.emerge_run.specs.declared.refusal.Refusal.TheVariants as refusals
-use Rattle.emerge_run.specs.declared.words.WordFault.{WordFault}
-use Rattle.emerge_run.specs.declared.words.WordFault.TheVariants as word
-use Rattle.emerge_run.specs.declared.status.Part.TheVariants.{Database, Image, Journal, Repository}
+use Rattle.emerge_run.specs.declared.status.Part.TheVariants.{Command, Database, Image, Repository}
 use Rattle.emerge_run.specs.declared.status.Status.{Status}
 use Rattle.emerge_run.specs.declared.status.Status.TheVariants as status
 
@@ -43,23 +42,35 @@ image_asks tells told m a f (status.NotBuilt Image) ready h =
     let seen = seen_image tells told (order_of f) h.0 h.1 in
     (seen.0, seen.1, (f, ready, subst (λ (x : List Entry). FitsImage m x → ⊥) (sym seen.2) h.2))
 image_asks tells told m a f (status.NotBuilt Database) ready h = absurd h
-image_asks tells told m a f (status.NotBuilt Journal) ready h = absurd h
+image_asks tells told m a f (status.NotBuilt Command) ready h = absurd h
+image_asks tells told m a f (status.BadJournal fault) ready h = absurd h
+image_asks tells told m a f (status.Limit quantity) ready h = absurd h
 image_asks tells told m a f (status.NotBuilt Repository) ready h = absurd h
 image_asks tells told m a f (status.BuildFailed failed) ready h = (told, (λ t. refl), (f, ready, h))
 image_asks tells told m a f status.DeviceFault ready h = (told, (λ t. refl), tt)
 image_asks tells told m a f status.Memory ready h = (told, (λ t. refl), tt)
 image_asks tells told m a f status.OutputFault ready h = absurd h
-image_asks tells told m a f status.Usage ready h = absurd h
+image_asks tells told m a f (status.Usage fault) ready h = absurd h
 image_asks tells told m a f (status.NoCandidate atom reasons) ready h = absurd h
 image_asks tells told m a f (status.Ok groups) ready h = absurd h
 
 -- one answer is not another
-pub not_ok_word : (f : WordFault) (n : ℕ) → status_of_word f ≡ status.Ok n → ⊥
-not_ok_word word.Usage n e = absurd (cc e)
-not_ok_word word.Memory n e = absurd (cc e)
+pub not_ok_word : (words : List (List ℕ)) (s : Status) (n : ℕ) → EndsAtWords words s → s ≡ status.Ok n → ⊥
+not_ok_word words (status.Ok groups) n ends e = absurd ends
+not_ok_word words (status.Usage fault) n ends e = absurd (cc e)
+not_ok_word words (status.NotBuilt what) n ends e = absurd (cc e)
+not_ok_word words (status.BadJournal fault) n ends e = absurd ends
+not_ok_word words (status.Limit quantity) n ends e = absurd ends
+not_ok_word words (status.NoCandidate atom reasons) n ends e = absurd (cc e)
+not_ok_word words (status.BuildFailed id) n ends e = absurd (cc e)
+not_ok_word words status.DeviceFault n ends e = absurd (cc e)
+not_ok_word words status.OutputFault n ends e = absurd (cc e)
+not_ok_word words status.Memory n ends e = absurd (cc e)
 
 pub not_ok_recovery : (f : RecoverFault) (n : ℕ) → status_of_recovery f ≡ status.Ok n → ⊥
-not_ok_recovery recovery.Journal n e = absurd (cc e)
+not_ok_recovery (recovery.BadRecord g) n e = absurd (cc e)
+not_ok_recovery (recovery.BadStage g i) n e = absurd (cc e)
+not_ok_recovery recovery.Limit n e = absurd (cc e)
 not_ok_recovery recovery.Failed n e = absurd (cc e)
 not_ok_recovery recovery.Memory n e = absurd (cc e)
 
@@ -70,7 +81,9 @@ not_ok_refusal refusals.Memory n e = absurd (cc e)
 
 pub not_ok_build : (s : Status) (n : ℕ) → IsFromBuild s → s ≡ status.Ok n → ⊥
 not_ok_build (status.Ok groups) n from e = absurd from
-not_ok_build status.Usage n from e = absurd (cc e)
+not_ok_build (status.Usage fault) n from e = absurd (cc e)
+not_ok_build (status.BadJournal fault) n from e = absurd from
+not_ok_build (status.Limit quantity) n from e = absurd from
 not_ok_build (status.NoCandidate atom reasons) n from e = absurd (cc e)
 not_ok_build (status.NotBuilt part) n from e = absurd (cc e)
 not_ok_build (status.BuildFailed order) n from e = absurd (cc e)
@@ -79,16 +92,52 @@ not_ok_build status.OutputFault n from e = absurd (cc e)
 not_ok_build status.Memory n from e = absurd (cc e)
 
 -- what a refused journal asks for
-pub recovery_asks : (words : List (List ℕ)) (opening : Map) (image : Order → List Entry) (f : RecoverFault) → IsCommand words → (f ≡ recovery.Journal → IsBroken opening) → Asks words opening image (status_of_recovery f)
-recovery_asks words opening image recovery.Journal command broken = (command, broken refl)
-recovery_asks words opening image recovery.Failed command broken = tt
-recovery_asks words opening image recovery.Memory command broken = tt
+pub recovery_asks : (words : List (List ℕ)) (opening : Map) (image : Order → List Entry) (f : RecoverFault) → AskForPackage words → IsFaultOf f opening → Asks words opening image (status_of_recovery f)
+recovery_asks words opening image (recovery.BadRecord g) command is = (command, is)
+recovery_asks words opening image (recovery.BadStage g i) command is = (command, is)
+recovery_asks words opening image recovery.Limit command is = (command, is)
+recovery_asks words opening image recovery.Failed command is = tt
+recovery_asks words opening image recovery.Memory command is = tt
+
+-- no answer of a run for an atom, and none of recovery, comes of the words alone
+pub not_of_words : (a : AtomValue) (m : Map) (image : Order → List Entry) (s : Status) → AsksFor a m image s → IsOfWords s → ⊥
+not_of_words a m image (status.Usage fault) asks of = asks
+not_of_words a m image (status.NotBuilt Command) asks of = asks
+not_of_words a m image (status.NotBuilt Repository) asks of = of
+not_of_words a m image (status.NotBuilt Database) asks of = of
+not_of_words a m image (status.NotBuilt Image) asks of = of
+not_of_words a m image (status.Ok groups) asks of = of
+not_of_words a m image (status.BadJournal fault) asks of = of
+not_of_words a m image (status.Limit quantity) asks of = of
+not_of_words a m image (status.NoCandidate atom reasons) asks of = of
+not_of_words a m image (status.BuildFailed id) asks of = of
+not_of_words a m image status.DeviceFault asks of = of
+not_of_words a m image status.OutputFault asks of = of
+not_of_words a m image status.Memory asks of = of
+
+pub recovery_not_of_words : (f : RecoverFault) → IsOfWords (status_of_recovery f) → ⊥
+recovery_not_of_words (recovery.BadRecord g) of = of
+recovery_not_of_words (recovery.BadStage g i) of = of
+recovery_not_of_words recovery.Limit of = of
+recovery_not_of_words recovery.Failed of = of
+recovery_not_of_words recovery.Memory of = of
+
+-- a run of some builder that ended for its words: there is none
+pub ran_not_of_words : {B : Type 0} (tells : Bool) (told : B → Order → List Entry) (resting : List B) (a : AtomValue) (old new : Story) (history : List ℕ) (s : Status)
+    → OfSomeBuilder tells told resting (λ image. Ran a image old new history s) → IsOfWords s → ⊥
+ran_not_of_words tells told resting a old new history s h of = not_of_words a old.now.holds h.2.0 s h.2.2.answer of
+
+-- a last line makes no refusal of the words of another status
+pub usage_kept : {X : Type 0} (came s : Status) (f : WordFault) → (s ≡ came) ⊎ ((s ≡ status.Memory) ⊎ ((s ≡ status.OutputFault) × X)) → s ≡ status.Usage f → came ≡ status.Usage f
+usage_kept came s f (inl is) e = sym is ∙ e
+usage_kept came s f (inr (inl is)) e = absurd (cc (is, e))
+usage_kept came s f (inr (inr (is, x))) e = absurd (cc (is, e))
 
 -- what a refused tree asks for
 pub tree_asks : (a : AtomValue) (m : Map) (image : Order → List Entry) (r : Refusal) → TreeRefuses m a r → AsksFor a m image (status_of r)
 tree_asks a m image (refusals.NotBuilt Repository) refuses = refuses
 tree_asks a m image (refusals.NotBuilt Database) refuses = refuses
-tree_asks a m image (refusals.NotBuilt Journal) refuses = refuses
+tree_asks a m image (refusals.NotBuilt Command) refuses = refuses
 tree_asks a m image (refusals.NotBuilt Image) refuses = absurd refuses
 tree_asks a m image refusals.Failed refuses = tt
 tree_asks a m image refusals.Memory refuses = tt
@@ -118,8 +167,10 @@ outcome_before tells told resting words old new s s' history b has asks same non
 
 asks_after : (words : List (List ℕ)) (a : AtomValue) (opening m : Map) (image : Order → List Entry) (s : Status) → IsRequest words a → IsRecovered opening m → AsksFor a m image s → Asks words opening image s
 asks_after words a opening m image (status.Ok groups) asked is asks = (a, asked, (m, is, asks))
-asks_after words a opening m image status.Usage asked is asks = absurd asks
-asks_after words a opening m image (status.NotBuilt Journal) asked is asks = absurd asks
+asks_after words a opening m image (status.Usage fault) asked is asks = absurd asks
+asks_after words a opening m image (status.NotBuilt Command) asked is asks = absurd asks
+asks_after words a opening m image (status.BadJournal fault) asked is asks = absurd asks
+asks_after words a opening m image (status.Limit quantity) asked is asks = absurd asks
 asks_after words a opening m image (status.NotBuilt Repository) asked is asks = (a, asked, (m, is, asks))
 asks_after words a opening m image (status.NotBuilt Database) asked is asks = (a, asked, (m, is, asks))
 asks_after words a opening m image (status.NotBuilt Image) asked is asks = (a, asked, (m, is, asks))
@@ -233,7 +284,9 @@ late_asks a f m image (status.Ok n) late one ready fits = inl (f, ready, (fits, 
 late_asks a f m image status.DeviceFault late one ready fits = tt
 late_asks a f m image status.OutputFault late one ready fits = tt
 late_asks a f m image status.Memory late one ready fits = tt
-late_asks a f m image status.Usage late one ready fits = absurd late
+late_asks a f m image (status.Usage fault) late one ready fits = absurd late
+late_asks a f m image (status.BadJournal fault) late one ready fits = absurd late
+late_asks a f m image (status.Limit quantity) late one ready fits = absurd late
 late_asks a f m image (status.NotBuilt part) late one ready fits = absurd late
 late_asks a f m image (status.NoCandidate atom reasons) late one ready fits = absurd late
 late_asks a f m image (status.BuildFailed id) late one ready fits = absurd late

@@ -2,6 +2,8 @@
 use Rattle.std.specs.Prelude.{◌≡◌, ◌⊎◌, ℕ, true, false, List, [], map}
 use Rattle.std.specs.List.{AllByRecursion}
 use Rattle.file_tree.specs.Disk.{HasBelow, Map}
+use Rattle.file_tree.specs.declared.limits.Quantity.{Quantity}
+use Rattle.file_tree.specs.declared.limits.Quantity.TheVariants.{Groups}
 use Rattle.file_tree.specs.declared.objects.Entry.{Entry}
 use Rattle.dep_atom.specs.Match.{value_matches}
 use Rattle.dep_atom.specs.Values.{AtomValue, atom_value}
@@ -9,17 +11,20 @@ use Rattle.dep_atom.specs.declared.package.Facts.{Facts}
 use Rattle.dep_atom.specs.declared.package.PackageId.{PackageId}
 use Rattle.build_pool.specs.declared.orders.Order.{Order}
 use Rattle.merge_record.specs.Recovered.{IsRecovered}
-use Rattle.recovery.specs.Promise.{IsBroken}
+use Rattle.recovery.specs.Found.{HasTooManyGates}
+use Rattle.recovery.specs.Promise.{IsFaultOf}
+use Rattle.recovery.specs.declared.fault.RecoverFault.{RecoverFault}
+use Rattle.recovery.specs.declared.fault.RecoverFault.TheVariants as recovery
 use Rattle.vdb_text.specs.Database.{IsInstalled}
 use Rattle.vdb_text.specs.Files.{database_path}
 use Rattle.visible_set.specs.Candidates.{AreOffers, HasOddEntry, IsChosen}
 use Rattle.emerge_run.specs.Images.{FitsImage}
 use Rattle.emerge_run.specs.Package.{order_of}
-use Rattle.emerge_run.specs.Words.{IsCommand, IsRequest}
+use Rattle.emerge_run.specs.Words.{AskForOther, AskForPackage, IsRequest, IsUsage}
 use Rattle.emerge_run.specs.declared.judge.Standing.{Standing}
 use Rattle.emerge_run.specs.declared.judge.Standing.TheVariants.{Chosen, Installed, Unmatched}
 use Rattle.emerge_run.specs.declared.status.Part.{Part}
-use Rattle.emerge_run.specs.declared.status.Part.TheVariants.{Repository, Database, Journal, Image}
+use Rattle.emerge_run.specs.declared.status.Part.TheVariants.{Command, Repository, Database, Image}
 use Rattle.emerge_run.specs.declared.status.Reason.{Reason}
 use Rattle.emerge_run.specs.declared.status.Reason.TheVariants.{NotMatched}
 use Rattle.emerge_run.specs.declared.status.Status.{Status}
@@ -69,9 +74,9 @@ HasMatched a (Unmatched reasons) = Unit {0}
 
 -- what a recovered tree is refused for, the first in this order
 abbrev pub Refuses : Map → AtomValue → Part → Type 0
+Refuses m a Command = ⊥
 Refuses m a Repository = HasOddEntry m a.name
 Refuses m a Database = (HasOddEntry m a.name → ⊥) × (HasBelow m database_path × (IsMet m a → ⊥))
-Refuses m a Journal = ⊥
 Refuses m a Image = ⊥
 
 -- the answer of a run for this atom over a recovered tree and this image: each part that is not
@@ -82,8 +87,10 @@ abbrev pub AsksFor : AtomValue → Map → (Order → List Entry) → Status →
 AsksFor a m image (status.Ok groups) =
     ((f : Facts) × IsReady m a f × (FitsImage m (image (order_of f)) × (groups ≡ 1))) ⊎
     (((HasOddEntry m a.name → ⊥) × IsMet m a) × (groups ≡ 0))
-AsksFor a m image status.Usage = ⊥
-AsksFor a m image (status.NotBuilt Journal) = ⊥
+AsksFor a m image (status.Usage fault) = ⊥
+AsksFor a m image (status.NotBuilt Command) = ⊥
+AsksFor a m image (status.BadJournal fault) = ⊥
+AsksFor a m image (status.Limit quantity) = ⊥
 AsksFor a m image (status.NotBuilt Repository) = Refuses m a Repository
 AsksFor a m image (status.NotBuilt Database) = Refuses m a Database
 AsksFor a m image (status.NotBuilt Image) =
@@ -100,12 +107,26 @@ abbrev pub AsksAfter : List (List ℕ) → Map → (Order → List Entry) → St
 AsksAfter words opening image s =
     (a : AtomValue) × IsRequest words a × ((m : Map) × IsRecovered opening m × AsksFor a m image s)
 
--- The answer of a run over this tree and this image. Usage comes exactly where the words are no
--- command, and the journal is refused exactly where it is broken.
+-- the first open group of the tree that isn't in form, where its gates aren't too many
+abbrev pub IsBroken : RecoverFault → Map → Type 0
+IsBroken (recovery.BadRecord g) m = IsFaultOf (recovery.BadRecord g) m
+IsBroken (recovery.BadStage g i) m = IsFaultOf (recovery.BadStage g i) m
+IsBroken fault m = ⊥
+
+-- the tree has more of the quantity than may be
+abbrev pub HasTooMany : Quantity → Map → Type 0
+HasTooMany Groups m = HasTooManyGates m
+HasTooMany quantity m = ⊥
+
+-- The answer of a run over this tree and this image. Usage comes exactly where the words are refused
+-- for just this, another command is told as one, and the journal is refused exactly where it has too
+-- many gates or is broken so.
 abbrev pub Asks : List (List ℕ) → Map → (Order → List Entry) → Status → Type 0
 Asks words opening image (status.Ok groups) = AsksAfter words opening image (status.Ok groups)
-Asks words opening image status.Usage = IsCommand words → ⊥
-Asks words opening image (status.NotBuilt Journal) = IsCommand words × IsBroken opening
+Asks words opening image (status.Usage fault) = IsUsage words fault
+Asks words opening image (status.NotBuilt Command) = AskForOther words
+Asks words opening image (status.BadJournal fault) = AskForPackage words × IsBroken fault opening
+Asks words opening image (status.Limit quantity) = AskForPackage words × HasTooMany quantity opening
 Asks words opening image (status.NotBuilt Repository) =
     AsksAfter words opening image (status.NotBuilt Repository)
 Asks words opening image (status.NotBuilt Database) =

@@ -156,7 +156,9 @@ ImageAsks tells told m id (status.BuildFailed failed) = failed ≡ id
 ImageAsks tells told m id status.DeviceFault = Unit {0}
 ImageAsks tells told m id status.Memory = Unit {0}
 ImageAsks tells told m id status.OutputFault = ⊥
-ImageAsks tells told m id status.Usage = ⊥
+ImageAsks tells told m id (status.Usage fault) = ⊥
+ImageAsks tells told m id (status.BadJournal fault) = ⊥
+ImageAsks tells told m id (status.Limit quantity) = ⊥
 ImageAsks tells told m id (status.NoCandidate atom reasons) = ⊥
 ImageAsks tells told m id (status.Ok groups) = ⊥
 
@@ -173,7 +175,9 @@ IsNamed words tells opening id = (a : AtomValue) × IsRequest words a ×
 
 -- an answer that is given before anything is changed
 abbrev pub IsRefusal : Status → Type 0
-IsRefusal status.Usage = Unit {0}
+IsRefusal (status.Usage fault) = Unit {0}
+IsRefusal (status.BadJournal fault) = Unit {0}
+IsRefusal (status.Limit quantity) = Unit {0}
 IsRefusal (status.NotBuilt part) = Unit {0}
 IsRefusal (status.NoCandidate atom reasons) = Unit {0}
 IsRefusal (status.BuildFailed id) = Unit {0}
@@ -189,7 +193,9 @@ IsFromBuild status.DeviceFault = Unit {0}
 IsFromBuild status.Memory = Unit {0}
 IsFromBuild (status.BuildFailed id) = Unit {0}
 IsFromBuild (status.NoCandidate atom reasons) = ⊥
-IsFromBuild status.Usage = ⊥
+IsFromBuild (status.Usage fault) = ⊥
+IsFromBuild (status.BadJournal fault) = ⊥
+IsFromBuild (status.Limit quantity) = ⊥
 IsFromBuild (status.Ok groups) = ⊥
 IsFromBuild status.OutputFault = ⊥
 
@@ -199,7 +205,9 @@ IsLate (status.Ok groups) = Unit {0}
 IsLate status.DeviceFault = Unit {0}
 IsLate status.OutputFault = Unit {0}
 IsLate status.Memory = Unit {0}
-IsLate status.Usage = ⊥
+IsLate (status.Usage fault) = ⊥
+IsLate (status.BadJournal fault) = ⊥
+IsLate (status.Limit quantity) = ⊥
 IsLate (status.NotBuilt part) = ⊥
 IsLate (status.NoCandidate atom reasons) = ⊥
 IsLate (status.BuildFailed id) = ⊥

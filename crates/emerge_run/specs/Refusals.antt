@@ -1,20 +1,19 @@
 -- The status that each inner fault becomes, and what the tree is refused for.
 use Rattle.file_tree.specs.Disk.{Map}
 use Rattle.dep_atom.specs.Values.{AtomValue}
-use Rattle.dep_atom.specs.declared.fault.AtomFault.{AtomFault}
-use Rattle.dep_atom.specs.declared.fault.AtomFault.TheVariants as atoms
 use Rattle.emerge_run.specs.Answers.{Refuses}
+use Rattle.file_tree.specs.declared.limits.Quantity.TheVariants.{Groups}
 use Rattle.file_tree.specs.declared.fault.TreeFault.{TreeFault}
 use Rattle.file_tree.specs.declared.fault.TreeFault.TheVariants as tree
 use Rattle.recovery.specs.declared.fault.RecoverFault.{RecoverFault}
 use Rattle.recovery.specs.declared.fault.RecoverFault.TheVariants as recovery
 use Rattle.visible_set.specs.declared.fault.CandidateFault.{CandidateFault}
 use Rattle.visible_set.specs.declared.fault.CandidateFault.TheVariants as candidates
-use Rattle.emerge_run.specs.declared.status.Part.TheVariants.{Journal, Repository}
+use Rattle.emerge_run.specs.declared.status.Part.TheVariants.{Repository}
 use Rattle.emerge_run.specs.declared.refusal.Refusal.{Refusal}
 use Rattle.emerge_run.specs.declared.refusal.Refusal.TheVariants as refusals
-use Rattle.emerge_run.specs.declared.words.WordFault.{WordFault}
-use Rattle.emerge_run.specs.declared.words.WordFault.TheVariants as word
+use Rattle.emerge_words.specs.declared.request.WordFault.{WordFault}
+use Rattle.emerge_words.specs.declared.request.WordFault.TheVariants as words
 use Rattle.emerge_run.specs.declared.status.Status.{Status}
 use Rattle.emerge_run.specs.declared.status.Status.TheVariants as status
 
@@ -37,17 +36,15 @@ status_of_tree tree.Failed = status.DeviceFault
 status_of_tree tree.Memory = status.Memory
 
 abbrev pub status_of_recovery : RecoverFault → Status
-status_of_recovery recovery.Journal = status.NotBuilt Journal
+status_of_recovery (recovery.BadRecord g) = status.BadJournal (recovery.BadRecord g)
+status_of_recovery (recovery.BadStage g i) = status.BadJournal (recovery.BadStage g i)
+status_of_recovery recovery.Limit = status.Limit Groups
 status_of_recovery recovery.Failed = status.DeviceFault
 status_of_recovery recovery.Memory = status.Memory
 
-abbrev pub word_fault : AtomFault → WordFault
-word_fault atoms.Memory = word.Memory
-word_fault _ = word.Usage
-
 abbrev pub status_of_word : WordFault → Status
-status_of_word word.Usage = status.Usage
-status_of_word word.Memory = status.Memory
+status_of_word words.Memory = status.Memory
+status_of_word fault = status.Usage fault
 
 -- what the tree is refused for; a failure and want of memory say nothing of it
 abbrev pub TreeRefuses : Map → AtomValue → Refusal → Type 0

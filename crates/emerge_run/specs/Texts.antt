@@ -1,12 +1,18 @@
 -- What a run writes, and the number that it ends with.
-use Rattle.std.specs.Prelude.{ℕ, List, [], ◌∷◌, ◌++◌, codes}
+use Rattle.std.specs.Prelude.{ℕ, List, [], ◌∷◌, ◌++◌, codes, string_bytes}
 use Rattle.std.specs.Fmt.{decimal}
 use Rattle.std.specs.List.{flat_map}
 use Rattle.dep_atom.specs.Ids.{id_text}
 use Rattle.dep_atom.specs.Text.{atom_text}
 use Rattle.dep_atom.specs.declared.package.PackageId.{PackageId}
+use Rattle.emerge_words.specs.declared.request.WordFault.{WordFault}
+use Rattle.emerge_words.specs.declared.request.WordFault.TheVariants as words
 use Rattle.emerge_run.specs.declared.status.Part.{Part}
-use Rattle.emerge_run.specs.declared.status.Part.TheVariants.{Repository, Database, Journal, Image}
+use Rattle.emerge_run.specs.declared.status.Part.TheVariants.{Command, Repository, Database, Image}
+use Rattle.file_tree.specs.declared.limits.Quantity.{Quantity}
+use Rattle.file_tree.specs.declared.limits.Quantity.TheVariants.{Candidates, Groups, Packages, Paths, RecordBytes}
+use Rattle.recovery.specs.declared.fault.RecoverFault.{RecoverFault}
+use Rattle.recovery.specs.declared.fault.RecoverFault.TheVariants as recovery
 use Rattle.emerge_run.specs.declared.status.Reason.{Reason}
 use Rattle.emerge_run.specs.declared.status.Reason.TheVariants.{NotMatched}
 use Rattle.emerge_run.specs.declared.status.Status.{Status}
@@ -17,9 +23,9 @@ abbrev pub done_line : PackageId → ℕ → List ℕ
 done_line id group = codes "done " ++ (decimal group ++ (codes " +" ++ (id_text id ++ (10 ∷ []))))
 
 abbrev pub part_word : Part → List ℕ
+part_word Command = codes "Command"
 part_word Repository = codes "Repository"
 part_word Database = codes "Database"
-part_word Journal = codes "Journal"
 part_word Image = codes "Image"
 
 abbrev pub reason_word : Reason → List ℕ
@@ -29,14 +35,36 @@ reason_word NotMatched = codes "NotMatched"
 abbrev pub reason_text : PackageId × Reason → List ℕ
 reason_text r = codes " (" ++ (id_text r.0 ++ (32 ∷ (reason_word r.1 ++ (41 ∷ []))))
 
+-- the word, or the text of an option, that the words are refused for
+abbrev pub usage_word : WordFault → List ℕ
+usage_word words.Usage = codes "Usage"
+usage_word (words.BadAtom word) = codes "Usage: bad atom " ++ string_bytes word
+usage_word (words.BadNumber word) = codes "Usage: bad number " ++ string_bytes word
+usage_word words.Memory = codes "Usage"
+
+-- the group whose record is broken, or the stage
+abbrev pub broken_text : RecoverFault → List ℕ
+broken_text (recovery.BadRecord g) = decimal g ++ codes " record"
+broken_text (recovery.BadStage g i) = decimal g ++ (codes " stage " ++ decimal i)
+broken_text fault = []
+
+abbrev pub quantity_word : Quantity → List ℕ
+quantity_word Groups = codes "Groups"
+quantity_word Packages = codes "Packages"
+quantity_word Candidates = codes "Candidates"
+quantity_word Paths = codes "Paths"
+quantity_word RecordBytes = codes "RecordBytes"
+
 abbrev pub last_word : Status → List ℕ
 last_word (status.Ok groups) = codes "ok " ++ decimal groups
-last_word status.Usage = codes "Usage"
+last_word (status.Usage fault) = usage_word fault
+last_word (status.BadJournal fault) = codes "BadJournal: " ++ broken_text fault
 last_word (status.NoCandidate atom reasons) =
     codes "NoCandidate: " ++ (atom_text atom ++ flat_map reason_text reasons.items)
 last_word (status.BuildFailed id) = codes "BuildFailed: " ++ id_text id
 last_word status.DeviceFault = codes "DeviceFault"
 last_word status.OutputFault = codes "OutputFault"
+last_word (status.Limit quantity) = codes "Limit: " ++ quantity_word quantity
 last_word status.Memory = codes "Memory"
 last_word (status.NotBuilt what) = codes "NotBuilt: " ++ part_word what
 
@@ -46,10 +74,12 @@ last_line s = codes "emerge: " ++ (last_word s ++ (10 ∷ []))
 -- the number that a program ends with
 abbrev pub code_of : Status → ℕ
 code_of (status.Ok groups) = 0
-code_of status.Usage = 2
+code_of (status.Usage fault) = 2
+code_of (status.BadJournal fault) = 5
 code_of (status.NoCandidate atom reasons) = 7
 code_of (status.BuildFailed id) = 15
 code_of status.DeviceFault = 16
 code_of status.OutputFault = 17
+code_of (status.Limit quantity) = 18
 code_of status.Memory = 19
 code_of (status.NotBuilt what) = 20

@@ -1,6 +1,6 @@
 use crate::status::{Part, Status};
-use crate::words::WordFault;
-use file_tree::{Failed, TreeFault};
+use emerge_words::WordFault;
+use file_tree::{Failed, Quantity, TreeFault};
 use recovery::RecoverFault;
 use std::alloc::AllocError;
 use visible_set::CandidateFault;
@@ -101,8 +101,14 @@ impl From<RecoverFault> for Status {
 
     fn from(fault: RecoverFault) -> Status {
         match fault {
-            RecoverFault::Journal => Status::NotBuilt {
-                what: Part::Journal,
+            RecoverFault::BadRecord { group } => {
+                Status::BadJournal(RecoverFault::BadRecord { group })
+            }
+            RecoverFault::BadStage { group, index } => {
+                Status::BadJournal(RecoverFault::BadStage { group, index })
+            }
+            RecoverFault::Limit => Status::Limit {
+                quantity: Quantity::Groups,
             },
             RecoverFault::Failed => Status::DeviceFault,
             RecoverFault::Memory => Status::Memory,
@@ -118,8 +124,8 @@ impl From<WordFault> for Status {
 
     fn from(fault: WordFault) -> Status {
         match fault {
-            WordFault::Usage => Status::Usage,
             WordFault::Memory => Status::Memory,
+            fault => Status::Usage { fault },
         }
     }
 }

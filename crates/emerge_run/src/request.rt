@@ -11,6 +11,7 @@ ghost use Rattle.emerge_run.specs.Output.{AreLines, IsLines, Wrote};
 ghost use Rattle.emerge_run.specs.Package.{files, placing};
 ghost use Rattle.emerge_run.specs.Ready.{IsPlacing};
 ghost use Rattle.emerge_run.specs.Texts.{done_line};
+ghost use Rattle.emerge_words.specs.declared.request.WordFault.{WordFault};
 
 use crate::carry::{Prepared, carry_out};
 use crate::group::group_of;
@@ -39,7 +40,7 @@ pub fn run_request<T: Tree, S: Sink, B: Builder>(
     ensures outcome { IsTrue T.tells → OfSomeBuilder B.tells B.told pool.old.resting
         (λ image. Ran (atom_value atom) image (T.story tree.old)
         (T.story tree.new) result.history.items result.status) }
-    ensures no_usage { result.status ≡ Status.Usage → ⊥ }
+    ensures no_usage { (f : WordFault) → ¬ (result.status ≡ Status.Usage f) }
     ensures ok { (n : ℕ) → result.status ≡ Status.Ok n →
         ((n ≡ 0) × (result.acknowledged.items ≡ [])) ⊎
         ((n ≡ 1) × (result.acknowledged.items ≡ 1 ∷ [])) }
@@ -85,7 +86,7 @@ fn merge_chosen<T: Tree, S: Sink, B: Builder>(
         OfSomeBuilder B.tells B.told pool.old.resting
         (λ image. Ran a image (T.story tree.old)
         (T.story tree.new) result.history.items result.status) }
-    ensures no_usage { result.status ≡ Status.Usage → ⊥ }
+    ensures no_usage { (f : WordFault) → ¬ (result.status ≡ Status.Usage f) }
     ensures ok { (n : ℕ) → result.status ≡ Status.Ok n →
         (n ≡ 1) × (result.acknowledged.items ≡ 1 ∷ []) }
     ensures history { (result.history.items ≡ []) ⊎ (result.history.items ≡ 1 ∷ []) }

@@ -5,7 +5,8 @@ ghost use Rattle.build_pool.specs.Pool.{PoolRose, SameIds};
 ghost use Rattle.dep_atom.specs.declared.package.PackageId.{PackageId};
 ghost use Rattle.emerge_run.specs.Outcomes.{IsAnswer, IsNamed, IsRefusal, OfSomeBuilder, Outcome};
 ghost use Rattle.emerge_run.specs.Output.{IsLines, IsOutput, Wrote};
-ghost use Rattle.emerge_run.specs.Words.{IsCommand};
+ghost use Rattle.emerge_run.specs.Words.{AskForPackage, IsOfWords, IsUsage};
+ghost use Rattle.emerge_words.specs.declared.request.WordFault.{WordFault};
 
 use crate::ending::finish;
 use crate::request::run_request;
@@ -39,9 +40,9 @@ pub struct Reached {
 
 /// One command, from its words to its last line.
 ///
-/// First an interrupted merge is completed or dropped. The word is an atom without a block; of the
-/// candidates of its name the greatest version that it matches is merged, unless a package that it
-/// matches is installed. A package that is merged has its files at their paths and its record below
+/// The words are those of the whole product; what is done today is the merge of one atom. First an
+/// interrupted merge is completed or dropped. Of the candidates of the atom's name the greatest
+/// version that it matches is merged, unless a package that it matches is installed. A package that is merged has its files at their paths and its record below
 /// `var/db/pkg`; its line comes after they are synced, and last the journal is cleared. Want of memory
 /// may be answered in place of anything.
 pub fn emerge<T: Tree + Send, S: Sink + Send, B: Builder + Send>(
@@ -58,7 +59,7 @@ pub fn emerge<T: Tree + Send, S: Sink + Send, B: Builder + Send>(
     ensures outcome { IsTrue T.tells → OfSomeBuilder B.tells B.told pool.resting
         (λ image. Outcome (map string_bytes words.now) image (T.story tree)
         (T.story result.tree) result.history.items result.status) }
-    ensures unchanged { IsTrue T.tells → result.status ≡ Status.Usage →
+    ensures unchanged { IsTrue T.tells → IsOfWords result.status →
         T.story result.tree ≡ T.story tree }
     ensures ok { (n : ℕ) → result.status ≡ Status.Ok n →
         ((n ≡ 0) × (result.acknowledged.items ≡ [])) ⊎
@@ -77,9 +78,10 @@ pub fn emerge<T: Tree + Send, S: Sink + Send, B: Builder + Send>(
         (S.written out) (S.written result.out) }
 
     // Each answer but want of memory has its cause.
-    ensures usage { result.status ≡ Status.Usage → IsCommand (map string_bytes words.now) → ⊥ }
-    ensures no_command { (IsCommand (map string_bytes words.now) → ⊥) →
-        (result.status ≡ Status.Usage) ⊎ ((result.status ≡ Status.OutputFault) ⊎
+    ensures usage { (f : WordFault) → result.status ≡ Status.Usage f →
+        IsUsage (map string_bytes words.now) f }
+    ensures no_package { ¬ (AskForPackage (map string_bytes words.now)) →
+        IsOfWords result.status ⊎ ((result.status ≡ Status.OutputFault) ⊎
         (result.status ≡ Status.Memory)) }
     ensures build { (id : PackageId) → result.status ≡ Status.BuildFailed id →
         PoolRose B.faults pool result.pool }
@@ -116,7 +118,7 @@ fn attempt<T: Tree, S: Sink, B: Builder>(
     ensures outcome { IsTrue T.tells → OfSomeBuilder B.tells B.told pool.old.resting
         (λ image. Outcome (map string_bytes words.now) image (T.story tree.old)
         (T.story tree.new) result.history.items result.status) }
-    ensures unchanged { IsTrue T.tells → result.status ≡ Status.Usage →
+    ensures unchanged { IsTrue T.tells → IsOfWords result.status →
         T.story tree.new ≡ T.story tree.old }
     ensures ok { (n : ℕ) → result.status ≡ Status.Ok n →
         ((n ≡ 0) × (result.acknowledged.items ≡ [])) ⊎
@@ -129,9 +131,10 @@ fn attempt<T: Tree, S: Sink, B: Builder>(
         (IsLines (IsNamed (map string_bytes words.now) T.tells
         (T.story tree.old).now.holds) result.history.items result.acknowledged.items)
         (S.written out.old) (S.written out.new) }
-    ensures usage { result.status ≡ Status.Usage → IsCommand (map string_bytes words.now) → ⊥ }
-    ensures no_command { (IsCommand (map string_bytes words.now) → ⊥) →
-        (result.status ≡ Status.Usage) ⊎ (result.status ≡ Status.Memory) }
+    ensures usage { (f : WordFault) → result.status ≡ Status.Usage f →
+        IsUsage (map string_bytes words.now) f }
+    ensures no_package { ¬ (AskForPackage (map string_bytes words.now)) →
+        IsOfWords result.status ⊎ (result.status ≡ Status.Memory) }
     ensures build { (id : PackageId) → result.status ≡ Status.BuildFailed id →
         PoolRose B.faults pool.old pool.new }
     ensures device { result.status ≡ Status.DeviceFault →
@@ -144,10 +147,10 @@ fn attempt<T: Tree, S: Sink, B: Builder>(
 {
     let atom = match read_request(alloc, words) {
         Ok(atom) => atom,
-        Err(fault) => return stopped(alloc, Status::from(fault)),
+        Err(status) => return stopped(alloc, status),
     };
     match recover(alloc, tree) {
-        Ok(()) => run_request(alloc, atom, tree, out, pool),
+        Ok(_) => run_request(alloc, atom, tree, out, pool),
         Err(fault) => stopped(alloc, Status::from(fault)),
     }
 }

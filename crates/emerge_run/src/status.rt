@@ -1,14 +1,17 @@
 use dep_atom::{Atom, PackageId};
+use emerge_words::WordFault;
+use file_tree::Quantity;
+use recovery::RecoverFault;
 
 /// A part of the product that is not there yet for what the run met.
 #[derive(Clone, Copy, Debug, PartialEq, Eq)]
 pub enum Part {
+    /// A command that asks for more than the merge of one atom.
+    Command,
     /// A cache entry of another form.
     Repository,
     /// Something in the database of installed packages.
     Database,
-    /// Something in the journal.
-    Journal,
     /// An image of another form, or one that meets something in the tree.
     Image,
 }
@@ -27,8 +30,12 @@ pub enum Status {
     Ok {
         groups: u32,
     },
-    /// The words are no command.
-    Usage,
+    /// The words are no command, or a word in them is no number or no atom.
+    Usage {
+        fault: WordFault,
+    },
+    /// The first open group of the journal that isn't in form, by its record or a stage of it.
+    BadJournal(RecoverFault),
     /// The atom matches no candidate of its name: these are all of them, the greatest version first.
     NoCandidate {
         atom: Atom,
@@ -42,6 +49,10 @@ pub enum Status {
     DeviceFault,
     /// The output failed.
     OutputFault,
+    /// There is more of the quantity than may be.
+    Limit {
+        quantity: Quantity,
+    },
     /// Memory ran out.
     Memory,
     /// The run met what this part of the product can't do yet.
@@ -60,11 +71,13 @@ impl Status {
     {
         match self {
             Status::Ok { .. } => 0,
-            Status::Usage => 2,
+            Status::Usage { .. } => 2,
+            Status::BadJournal(_) => 5,
             Status::NoCandidate { .. } => 7,
             Status::BuildFailed { .. } => 15,
             Status::DeviceFault => 16,
             Status::OutputFault => 17,
+            Status::Limit { .. } => 18,
             Status::Memory => 19,
             Status::NotBuilt { .. } => 20,
         }

@@ -3,10 +3,14 @@ ghost use Rattle.std.specs.Prelude.{string_bytes};
 ghost use Rattle.std.specs.List.{flat_map};
 ghost use Rattle.dep_atom.specs.Ids.{id_text};
 ghost use Rattle.dep_atom.specs.Text.{atom_text};
-ghost use Rattle.emerge_run.specs.Texts.{done_line, last_line, reason_text, reason_word};
+ghost use Rattle.emerge_run.specs.Texts.{broken_text, done_line, last_line, reason_text};
+ghost use Rattle.emerge_run.specs.Texts.{reason_word};
 
 use crate::status::{Part, Reason, Status};
 use dep_atom::{Atom, PackageId};
+use emerge_words::WordFault;
+use file_tree::Quantity;
+use recovery::RecoverFault;
 use std::alloc::{AllocError, Global};
 
 /// The line of a group that adds the package.
@@ -23,17 +27,55 @@ pub fn fixed_line(status: &Status) -> Option<&'static str>
     ensures device { status.now ≡ Status.DeviceFault → IsSome result }
 {
     match status {
-        Status::Ok { .. } | Status::NoCandidate { .. } | Status::BuildFailed { .. } => None,
-        Status::Usage => Some("emerge: Usage\n"),
+        Status::Ok { .. }
+        | Status::BadJournal(_)
+        | Status::NoCandidate { .. }
+        | Status::BuildFailed { .. } => None,
+        Status::Usage { fault } => fixed_usage(fault),
         Status::DeviceFault => Some("emerge: DeviceFault\n"),
         Status::OutputFault => Some("emerge: OutputFault\n"),
+        Status::Limit { quantity } => Some(limit_line(*quantity)),
         Status::Memory => Some("emerge: Memory\n"),
         Status::NotBuilt { what } => Some(match what {
+            Part::Command => "emerge: NotBuilt: Command\n",
             Part::Repository => "emerge: NotBuilt: Repository\n",
             Part::Database => "emerge: NotBuilt: Database\n",
-            Part::Journal => "emerge: NotBuilt: Journal\n",
             Part::Image => "emerge: NotBuilt: Image\n",
         }),
+    }
+}
+
+/// The last line of words that are no command, where it names no word.
+fn fixed_usage(fault: &WordFault) -> Option<&'static str>
+    ensures { IfSome result (λ t. t.now ≡ last_line (Status.Usage fault.now)) }
+{
+    match fault {
+        WordFault::Usage => Some("emerge: Usage\n"),
+        _ => None,
+    }
+}
+
+/// The last line of words that are no command.
+fn usage_line(alloc: Global, fault: &WordFault) -> Result<String, AllocError>
+    ensures { IfOk result (λ t. string_bytes t ≡ last_line (Status.Usage fault.now)) }
+{
+    match fault {
+        WordFault::Usage => String::from_str(alloc, "emerge: Usage\n"),
+        WordFault::BadAtom { word } => format!(in alloc; "emerge: Usage: bad atom {word}\n"),
+        WordFault::BadNumber { word } => format!(in alloc; "emerge: Usage: bad number {word}\n"),
+        WordFault::Memory => Err(AllocError),
+    }
+}
+
+fn limit_line(quantity: Quantity) -> &'static str
+    ensures { result.now ≡ last_line (Status.Limit quantity) }
+{
+    match quantity {
+        Quantity::Groups => "emerge: Limit: Groups\n",
+        Quantity::Packages => "emerge: Limit: Packages\n",
+        Quantity::Candidates => "emerge: Limit: Candidates\n",
+        Quantity::Paths => "emerge: Limit: Paths\n",
+        Quantity::RecordBytes => "emerge: Limit: RecordBytes\n",
     }
 }
 
@@ -43,12 +85,35 @@ pub fn line_of_status(alloc: Global, status: &Status) -> Result<String, AllocErr
 {
     match status {
         Status::Ok { groups } => format!(in alloc; "emerge: ok {groups}\n"),
+        Status::BadJournal(fault) => broken_line(alloc, *fault),
         Status::NoCandidate { atom, reasons } => unmatched_line(alloc, atom, reasons),
         Status::BuildFailed { package } => failed_line(alloc, package),
+        Status::Usage { fault } => usage_line(alloc, fault),
         other => match fixed_line(other) {
             Some(line) => String::from_str(alloc, line),
             None => Err(AllocError),
         },
+    }
+}
+
+fn broken_line(alloc: Global, fault: RecoverFault) -> Result<String, AllocError>
+    ensures { IfOk result (λ t. string_bytes t ≡
+        codes "emerge: BadJournal: " ++ (broken_text fault ++ 10 ∷ [])) }
+{
+    let text = broken_part(alloc, fault)?;
+    format!(in alloc; "emerge: BadJournal: {text}\n")
+}
+
+/// The group whose record is broken, or the stage.
+fn broken_part(alloc: Global, fault: RecoverFault) -> Result<String, AllocError>
+    ensures { IfOk result (λ t. string_bytes t ≡ broken_text fault) }
+{
+    match fault {
+        RecoverFault::BadRecord { group } => format!(in alloc; "{group} record"),
+        RecoverFault::BadStage { group, index } => format!(in alloc; "{group} stage {index}"),
+        RecoverFault::Limit | RecoverFault::Failed | RecoverFault::Memory => {
+            Ok(String::new(alloc))
+        }
     }
 }
 

@@ -1,1 +1,7 @@
 pub mod Device
+pub mod Kept
+pub mod Lines
+pub mod Opened
+pub mod Placed
+pub mod Reading
+pub mod Stood

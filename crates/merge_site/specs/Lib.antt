@@ -1,1 +1,3 @@
+pub mod Happened
 pub mod Quiet
+pub mod Site

@@ -1,22 +1,40 @@
 //! A site: a tree on which many groups are merged through the journal, event by event.
 //!
-//! **A contract sees** the tree as its story, and a call on it as the event of the machine that it
-//! performs.
+//! **A contract sees** a [`Site`] as its account: the machine of all groups, the events so far with
+//! what their devices answered, the tree as it was handed in and as it is, and the sink. A call on
+//! the tree alone is seen as the event of the machine that it performs.
 //!
-//! **Proved**: over any tree, a call is its event. Wherever the machine admits that, the machine
-//! and the disk stay in order, and each crash image of each moment of the call recovers to the
-//! opening with the committed groups applied.
+//! **Proved**: over any tree, a call is its event. Each method of a site adds its event with its
+//! device's answer, and only that; a refused one adds none. Whatever came and whatever was
+//! answered, each crash image of each moment since the opening recovers to the opening with the
+//! groups applied that were committed then, all settled ones among them ([`Site::promise`]).
 //!
 //! **Only tested**: nothing so far.
 //!
 //! ```
-//! sync_group(&mut tree, group, core.needs_sync(group))?;
+//! let mut site = Site::open(alloc, tree, sink, groups)?;
+//! site.begin(group);
+//! site.put_token(group)?;
+//! site.sync_sealed(group)?;
 //! ```
 #![tactic(auto)]
 
 mod calls;
+mod ending;
+mod gates;
+mod group;
+mod history;
+mod job;
+mod moves;
+mod open;
+mod reads;
+mod site;
+mod steps;
 
 pub use calls::{
     close_gate, open_gate, place_path, put_record, put_stage, put_token, quiet_events, remove_path,
     sync_group,
 };
+pub use group::SiteGroup;
+pub use history::{Happened, What};
+pub use site::Site;

@@ -1,10 +1,7 @@
-pub mod Accepted
-pub mod Carried
-pub mod Images
+pub mod Applied
+pub mod Cleared
+pub mod Gates
 pub mod Lists
 pub mod Places
-pub mod Records
 pub mod Steps
 pub mod Stretches
-pub mod Survives
-pub mod Turns

@@ -1,18 +1,22 @@
 -- Membership told in two ways, and lists without repetition.
-use Rattle.std.proofs.Common.{◌≡◌, ◌⊎◌, ◌<◌, ◌≤◌, ◌+◌, ◌^◌, ℕ, zero, suc, Bool, true, false, cond, List, [], ◌∷◌, ◌++◌, Option, None, Some, inl, inr, refl, sym, ap, subst, ◌∙◌, arith, add-one, append_assoc, append-nil, drop, drop-cons, get_or, length, map, take}
+use Rattle.std.proofs.Common.{◌≡◌, ◌⊎◌, ◌<◌, ◌≤◌, ◌+◌, ◌^◌, ℕ, zero, suc, Bool, true, false, cond, List, [], ◌∷◌, ◌++◌, Option, None, Some, inl, inr, refl, sym, ap, subst, ◌∙◌, arith, add-one, append_assoc, append-nil, drop, drop-cons, eqb, get_or, length, map, take}
 use Rattle.std.specs.Prelude.{◌↔◌, Contains, MatchOption, filter}
 use Rattle.std.specs.Cmp.Lexicographic.{slice_cmp}
-use Rattle.std.specs.List.{AllByRecursion}
-use Rattle.std.specs.List.Sorted.{IsStrictlySortedBy}
+use Rattle.std.specs.List.{AllByRecursion, AllPairs, IsDistinct}
+use Rattle.std.specs.List.Sorted.{IsPermutation, IsSorted, IsStrictlySortedBy}
 use Rattle.std.specs.Ordering.{is_eq, nat_cmp}
 use Rattle.std.specs.declared.cmp.Ordering.TheVariants.{Less}
-use Rattle.std.proofs.lemmas.Bool.{cond-false, cond-true}
+use Rattle.std.proofs.lemmas.Bool.{cases_eq, cond-false, cond-true, eq-eqb, ne_eqb}
 use Rattle.std.proofs.lemmas.List.{drop_all}
+use Rattle.std.proofs.lemmas.List.Kept.{AllPairs-from_increasing}
+use Rattle.std.proofs.lemmas.List.Sorted.{Contains-permutation, IsNonDecreasingBy-from_sort}
+use Rattle.std.proofs.lemmas.Map.Keys.{IsDistinct-IsPermutation, IsStrictlyIncreasing-from_distinct}
 use Rattle.std.proofs.lemmas.Map.Text.{is_eq-slice_cmp}
 use Rattle.std.proofs.lemmas.Slice.Eq.{bytes_eq-Decides}
 use Rattle.basics.specs.Members.{AreDistinct, Has}
 use Rattle.basics.proofs.Membership.{has-append_cases, has-append_left, has-append_right}
 use Rattle.merge_record.specs.Names.{gate_path}
+use Rattle.merge_record.specs.Open.{IsRising}
 use Rattle.group_merge.proofs.Walk.{has_at}
 use Rattle.recovery.proofs.Places.{gates_same}
 
@@ -82,14 +86,6 @@ has_filter p (g ∷ gs) h (inr k) passes = go (p g) refl (has_filter p gs h k pa
     go : (b : Bool) → p g ≡ b → Has (filter p gs) h → Has (filter p (g ∷ gs)) h
     go true e rest = subst (λ (l : List ℕ). Has l h) (sym (cond-true (p g) (g ∷ filter p gs) (filter p gs) e)) (inr rest)
     go false e rest = subst (λ (l : List ℕ). Has l h) (sym (cond-false (p g) (g ∷ filter p gs) (filter p gs) e)) rest
-
-pub distinct_filter : (p : ℕ → Bool) (gs : List ℕ) → AreDistinct gs → AreDistinct (filter p gs)
-distinct_filter p [] d = tt
-distinct_filter p (g ∷ gs) d = go (p g) refl (distinct_filter p gs d.1)
-  where
-    go : (b : Bool) → p g ≡ b → AreDistinct (filter p gs) → AreDistinct (filter p (g ∷ gs))
-    go true e rest = subst (λ (l : List ℕ). AreDistinct l) (sym (cond-true (p g) (g ∷ filter p gs) (filter p gs) e)) ((λ has. d.0 (filter_has p gs g has).0), rest)
-    go false e rest = subst (λ (l : List ℕ). AreDistinct l) (sym (cond-false (p g) (g ∷ filter p gs) (filter p gs) e)) rest
 
 -- ---- the front of a list, one element at a time
 
@@ -191,6 +187,46 @@ distinct_if_sorted (p ∷ ps) h = (
       absurd (cc (ap is_eq less, is_eq-slice_cmp p p, (bytes_eq-Decides p p).1 refl)),
   distinct_if_sorted ps h.1,
 )
+
+-- ---- numbers that are sorted, and all differ, rise
+
+differ : (gs : List ℕ) → AreDistinct gs → IsDistinct eqb gs
+unfolding IsDistinct
+differ [] d = tt
+differ (g ∷ gs) d = (others gs d.0, differ gs d.1)
+  where
+    others : (hs : List ℕ) → (Has hs g → ⊥) → AllByRecursion (λ h. eqb g h ≡ false) hs
+    others [] none = tt
+    others (h ∷ hs) none = (ne_eqb g h (λ e. none (inl (sym e))), others hs (λ has. none (inr has)))
+
+flips : (g h : ℕ) → eqb g h ≡ eqb h g
+flips g h = elim (cases_eq g h) [
+  | inl e ↦ eq-eqb g h e ∙ sym (eq-eqb h g (sym e))
+  | inr ne ↦ ne_eqb g h ne ∙ sym (ne_eqb h g (λ e. ne (sym e)))
+]
+
+rising_if_pairs : (gs : List ℕ) → AllPairs (λ g h. g < h) gs → IsRising gs
+rising_if_pairs [] pairs = tt
+rising_if_pairs (g ∷ gs) pairs = (
+  λ h has. let c = contains_if_has gs h has in subst (λ (n : ℕ). g < n) c.2 (pairs 0 (suc c.0) h (omega arith) (omega (arith, c.1))),
+  rising_if_pairs gs (λ i j d lt in_it. pairs (suc i) (suc j) d (omega (arith, lt)) (omega (arith, in_it))),
+)
+
+pub rising_if_sorted : (gs hs : List ℕ) → AreDistinct gs → IsPermutation gs hs → IsSorted nat_cmp hs → IsRising hs
+rising_if_sorted gs hs d moved sorted =
+    rising_if_pairs hs (AllPairs-from_increasing hs (IsStrictlyIncreasing-from_distinct hs (IsNonDecreasingBy-from_sort (λ x. x) hs sorted) (IsDistinct-IsPermutation eqb flips gs hs moved (differ gs d))))
+
+pub has_if_moved : {A : Type 0} (xs ys : List A) (x : A) → IsPermutation xs ys → Has xs x → Has ys x
+has_if_moved xs ys x moved has = has_if_contains ys x (Contains-permutation xs ys x moved (contains_if_has xs x has))
+
+-- some of a rising list
+pub rising_filter : (p : ℕ → Bool) (gs : List ℕ) → IsRising gs → IsRising (filter p gs)
+rising_filter p [] rise = tt
+rising_filter p (g ∷ gs) rise = go (p g) refl (rising_filter p gs rise.1)
+  where
+    go : (b : Bool) → p g ≡ b → IsRising (filter p gs) → IsRising (filter p (g ∷ gs))
+    go true e rest = subst IsRising (sym (cond-true (p g) (g ∷ filter p gs) (filter p gs) e)) ((λ h has. rise.0 h (filter_has p gs h has).0), rest)
+    go false e rest = subst IsRising (sym (cond-false (p g) (g ∷ filter p gs) (filter p gs) e)) rest
 
 -- what is known where nothing was found
 pub not_found : (found : Option ℕ) (P : Type 0) (Q : ℕ → Type 0) → ((g : ℕ) → found ≡ Some g → ⊥) → MatchOption found P Q → P

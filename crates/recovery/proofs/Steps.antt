@@ -1,11 +1,25 @@
 -- From call to call.
-use Rattle.std.proofs.Common.{◌≡◌, ◌<◌, ℕ, zero, suc, List, [], ◌∷◌, ◌++◌, Some, refl, ap, subst, ◌∙◌, arith, length, drop, get_or, map}
+use Rattle.std.proofs.Common.{◌≡◌, ◌<◌, ◌^◌, ℕ, zero, suc, false, List, [], ◌∷◌, ◌++◌, Some, refl, ap, subst, ◌∙◌, inl, inr, arith, length, drop, get_or, map}
+use Rattle.std.specs.Prelude.{bytes_eq}
+use Rattle.std.proofs.lemmas.Bool.{cases_Bool, cond-false, cond-true}
+use Rattle.std.proofs.lemmas.List.{length-append}
+use Rattle.std.proofs.lemmas.Slice.Eq.{bytes_eq-Decides}
+use Rattle.basics.specs.Members.{Has}
 use Rattle.file_tree.specs.Disk.{Disk, Moves, Story, write}
+use Rattle.file_tree.specs.Paths.{is_below}
 use Rattle.file_tree.specs.Thing.{Thing}
-use Rattle.merge_record.specs.Names.{record_path}
+use Rattle.merge_record.specs.Names.{jobs, record_path}
+use Rattle.merge_record.specs.Names.Part.{Changes}
+use Rattle.merge_record.specs.Spelling.{PassesLimit, number_text, spelling}
+use Rattle.merge_record.specs.declared.record.Placement.{Placement}
+use Rattle.merge_record.proofs.Numbers.{length-number_text}
+use Rattle.merge_core.specs.Recovery.{empty_content}
 use Rattle.group_merge.specs.Calls.{Asked}
 use Rattle.group_merge.proofs.Asked.{AskedOn, asked_step}
+use Rattle.group_merge.proofs.Survives.{journal_apart, part_below}
+use Rattle.group_merge.proofs.Turns.{held_here, held_there}
 use Rattle.recovery.specs.Calls.{empty_record, emptied}
+use Rattle.recovery.proofs.Places.{records_same}
 
 -- calls on some paths, and then on others
 pub asked_both : (ps qs : List (List ℕ)) (old mid new : Story) → Asked ps old mid → Asked qs mid new → Asked (ps ++ qs) old new
@@ -29,3 +43,55 @@ pub emptied_step : (i : ℕ) (gs : List ℕ) (p : List ℕ) (o : Thing) (d d' : 
 emptied_step i [] p o d d' lt at is wrote = absurd (omega arith)
 emptied_step zero (g ∷ gs) p o d d' lt at is wrote = ap (emptied gs) (wrote ∙ (ap (λ (q : List ℕ). write d q (Some o)) at ∙ ap (λ (x : Thing). write d (record_path g) (Some x)) is))
 emptied_step (suc i) (g ∷ gs) p o d d' lt at is wrote = emptied_step i gs p o d d' (omega arith) at is wrote
+
+-- ---- the records once they are put
+
+pub emptied_outside : (gs : List ℕ) (d : Disk) (q : List ℕ) → is_below jobs q ≡ false → (emptied gs d).holds q ≡ d.holds q
+emptied_outside [] d q out = refl
+emptied_outside (g ∷ gs) d q out =
+    emptied_outside gs (write d (record_path g) (Some (empty_record g))) q out
+    ∙ held_there d (record_path g) q (Some (empty_record g)) (journal_apart (record_path g) q (part_below g Changes) out)
+
+emptied_stays : (gs : List ℕ) (d : Disk) (h : ℕ) → h < 2 ^ 32 → ((g : ℕ) → Has gs g → g < 2 ^ 32) → d.holds (record_path h) ≡ Some (empty_record h) → (emptied gs d).holds (record_path h) ≡ Some (empty_record h)
+emptied_stays [] d h hs small e = e
+emptied_stays (g ∷ gs) d h hs small e =
+    emptied_stays gs (write d (record_path g) (Some (empty_record g))) h hs (λ k has. small k (inr has))
+    (elim (cases_Bool (bytes_eq (record_path g) (record_path h))) [
+      | inl is ↦
+          let same = records_same g h (small g (inl refl)) hs ((bytes_eq-Decides (record_path g) (record_path h)).0 is) in
+          cond-true (bytes_eq (record_path g) (record_path h)) (Some (empty_record g)) (d.holds (record_path h)) is ∙ ap (λ (n : ℕ). Some (empty_record n)) same
+      | inr not_it ↦ cond-false (bytes_eq (record_path g) (record_path h)) (Some (empty_record g)) (d.holds (record_path h)) not_it ∙ e
+    ])
+
+pub emptied_has : (gs : List ℕ) (d : Disk) (h : ℕ) → h < 2 ^ 32 → ((g : ℕ) → Has gs g → g < 2 ^ 32) → Has gs h → (emptied gs d).holds (record_path h) ≡ Some (empty_record h)
+emptied_has [] d h hs small has = absurd has
+emptied_has (g ∷ gs) d h hs small (inl e) =
+    emptied_stays gs (write d (record_path g) (Some (empty_record g))) h hs (λ k has. small k (inr has))
+    (subst (λ (n : ℕ). (write d (record_path g) (Some (empty_record g))).holds (record_path n) ≡ Some (empty_record n)) e (held_here d (record_path g) (Some (empty_record g))))
+emptied_has (g ∷ gs) d h hs small (inr k) = emptied_has gs (write d (record_path g) (Some (empty_record g))) h hs (λ k has. small k (inr has)) k
+
+-- ---- a record without paths passes no limit
+
+rest_length : (g : ℕ) → length (number_text 4 g ++ (number_text 4 0 ++ ([] ++ (number_text 4 0 ++ [])))) ≡ 12
+rest_length g =
+    let a = length-number_text 4 g in
+    let b = length-number_text 4 0 in
+    let d = length-append (number_text 4 0) ([] ++ (number_text 4 0 ++ [])) in
+    let e = length-append (number_text 4 0) [] in
+    let f = length-append (number_text 4 g) (number_text 4 0 ++ ([] ++ (number_text 4 0 ++ []))) in
+    omega (arith, a, b, d, e, f)
+
+empty_length : (g : ℕ) → length (spelling (empty_content g)) ≡ 17
+unfolding number_text
+empty_length g = ap (λ (n : ℕ). suc (suc (suc (suc (suc n))))) (rest_length g)
+
+no_limit : (g : ℕ) → PassesLimit (empty_content g) → ⊥
+no_limit g (inl lt) = omega (arith, empty_length g, lt)
+no_limit g (inr (inl lt)) = omega (arith, lt)
+no_limit g (inr (inr any)) = omega (arith, any.1)
+
+pub empty_passes : (g : ℕ) (rs : List (List ℕ)) (ps : List Placement) → rs ≡ [] → ps ≡ [] → PassesLimit (record { group = g; removals = rs; placements = ps }) → ⊥
+empty_passes g rs ps no_removals no_placements passes =
+    no_limit g
+    (subst (λ (l : List Placement). PassesLimit (record { group = g; removals = []; placements = l })) no_placements
+    (subst (λ (l : List (List ℕ)). PassesLimit (record { group = g; removals = l; placements = ps })) no_removals passes))

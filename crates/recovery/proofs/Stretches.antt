@@ -1,80 +1,122 @@
 -- What is so at each moment of a stretch of recovery, whatever its calls answered.
-use Rattle.std.proofs.Common.{◌≡◌, ◌⊎◌, ℕ, List, inl, inr, refl, sym, ap, subst, ◌∙◌, map}
+use Rattle.std.proofs.Common.{◌≡◌, ◌⊎◌, ◌<◌, ◌^◌, ℕ, true, false, cond, List, [], Option, None, Some, Ok, inl, inr, refl, sym, ap, subst, ◌∙◌, map}
 use Rattle.std.specs.Prelude.{IsSome}
-use Rattle.basics.proofs.Membership.{has-map_back}
-use Rattle.file_tree.specs.Disk.{Disk, IsImage, IsUntouched, Map, Story, Syncs, next, settled, write}
+use Rattle.std.proofs.lemmas.Bool.{cases_Bool, cond-false, cond-true}
+use Rattle.basics.specs.Members.{Has}
+use Rattle.basics.proofs.Membership.{has-map}
+use Rattle.file_tree.specs.Disk.{Disk, IsImage, IsUntouched, Map, Story, Syncs, next, settled}
 use Rattle.file_tree.specs.Moments.{Since}
-use Rattle.file_tree.proofs.Moments.{Runs, runs_start, runs_sync, since_start, since_syncs, since_then, since_weaker}
+use Rattle.file_tree.specs.Paths.{is_below}
+use Rattle.file_tree.specs.Thing.{Thing}
+use Rattle.file_tree.proofs.Moments.{since_then, since_weaker}
+use Rattle.journal.specs.Group.{Group, covers}
 use Rattle.merge_record.specs.Content.{Content}
-use Rattle.merge_record.specs.Judging.{footprint}
+use Rattle.merge_record.specs.Judging.{are_free, footprint, is_in, judged_open}
+use Rattle.merge_record.specs.Names.{gate_path, jobs, record_path}
+use Rattle.merge_record.specs.Names.Part.{Gate}
+use Rattle.merge_record.specs.Open.{is_open, open_groups}
 use Rattle.merge_record.specs.Recovered.{IsRecovered}
-use Rattle.merge_record.specs.Names.{gate_path, record_path}
-use Rattle.group_merge.specs.Calls.{Asked}
+use Rattle.merge_record.proofs.Form.{in_if_has}
+use Rattle.merge_core.specs.Order.{IsFirm}
+use Rattle.merge_core.specs.Phase.{gate_owed}
+use Rattle.merge_core.specs.Recovery.{Recovers, found_content, found_group, recovered, redo, redone, redone_phase, shut}
+use Rattle.merge_core.specs.Roll.{Standing, phase_at, stood}
+use Rattle.merge_core.proofs.Paths.{covered_outside, live_if_working}
+use Rattle.merge_core.proofs.Redo.{beginning_recovers, found_by, gates_settle, judged_opens, redo_firm, redo_recovers, redo_settles, redo_sound, redone_recovers, working_among}
+use Rattle.merge_core.proofs.Walk.{first_sync, gates_walk, odd_walks, walk_start, walk_synced}
+use Rattle.group_merge.specs.Calls.{Asked, removed}
 use Rattle.group_merge.specs.Group.{cleared}
 use Rattle.group_merge.specs.Phases.{IsShut}
-use Rattle.group_merge.proofs.Asked.{runs_asked}
-use Rattle.group_merge.proofs.Images.{shut_leaves}
-use Rattle.group_merge.proofs.Survives.{shut_settled}
-use Rattle.group_merge.proofs.Walk.{Before}
-use Rattle.recovery.specs.Found.{AreClosed, AreGates, Found, IsFound, IsWork}
-use Rattle.recovery.specs.Phases.{IsMended, IsRedoing, mended}
+use Rattle.group_merge.proofs.Turns.{removed_holds}
+use Rattle.recovery.specs.Calls.{emptied}
+use Rattle.recovery.specs.Found.{AreGates, AreOdd, Found, IsFound}
+use Rattle.recovery.specs.Phases.{IsRedone}
 use Rattle.recovery.specs.Promise.{RecoversAlike}
-use Rattle.recovery.proofs.Carried.{alike, mended_is}
-use Rattle.recovery.proofs.Images.{Mends, mended_clear, mended_leaves, redoing_leaves}
-use Rattle.recovery.proofs.Lists.{contains_if_has}
-use Rattle.recovery.proofs.Survives.{mended_settled, mended_write, none_is_not_some, redoing_settled, redoing_write, shut_below}
-use Rattle.recovery.proofs.Turns.{AreBelow, redoing_start}
+use Rattle.recovery.proofs.Applied.{same_asked}
+use Rattle.recovery.proofs.Cleared.{none_is_not_some}
+use Rattle.recovery.proofs.Steps.{emptied_has, emptied_outside}
 
--- ---- the open group is applied, and the records of the others are emptied
+-- ---- the open groups are applied, and the records of the odd ones are emptied
 
-pub redoing_begins : (r : Content) (s : Story) → IsWork s.now.holds r → IsUntouched s.now → Runs (IsRedoing s.now.holds r) (Mends s.now.holds r) s s
-redoing_begins r s w untouched = runs_start (IsRedoing s.now.holds r) (Mends s.now.holds r) (redoing_leaves s.now.holds r w) s (redoing_start r s.now untouched)
+pub applied_begins : (s : Story) (rs : List Content) → judged_open s.now.holds ≡ Ok rs → IsUntouched s.now → Recovers s.now.holds (redo s.now.holds) s s
+applied_begins s rs form untouched =
+    let a = s.now.holds in
+    let j = judged_opens a rs form in
+    walk_start a (redo a) s (redo_recovers a rs j) (redo_firm a rs j s.now untouched (λ q. refl))
 
-pub redoing_applied : (a : Map) (r : Content) (old mid new : Story) → IsWork a r → Runs (IsRedoing a r) (Mends a r) old mid → Asked (footprint r) mid new → Runs (IsRedoing a r) (Mends a r) old new
-redoing_applied a r old mid new w run asked =
-    runs_asked (IsRedoing a r) (Mends a r) (redoing_leaves a r w) (footprint r) old mid new (λ p has. redoing_write a r p (inl has)) run asked
+pub odd_emptied : (a : Map) (rs : List Content) (gs : List ℕ) (old mid new : Story) → judged_open a ≡ Ok rs → AreOdd a gs → Recovers a (redo a) old mid → Asked (map record_path gs) mid new → Recovers a (redo a) old new
+odd_emptied a rs gs old mid new form odd walks asked =
+    odd_walks a rs form old mid new gs (λ g has. let k = (odd g).0 has in (k.small, k.odd)) walks (same_asked (map record_path gs) mid new asked)
 
-pub redoing_emptied : (a : Map) (r : Content) (gs : List ℕ) (old mid new : Story) → IsWork a r → AreClosed a gs → Runs (IsRedoing a r) (Mends a r) old mid → Asked (map record_path gs) mid new → Runs (IsRedoing a r) (Mends a r) old new
-redoing_emptied a r gs old mid new w closed run asked =
-    runs_asked (IsRedoing a r) (Mends a r) (redoing_leaves a r w) (map record_path gs) old mid new
-    (λ p has.
-    let k = has-map_back record_path gs p has in
-    let b = (closed k.0).0 k.1 in
-    redoing_write a r p (inr (k.0, b.0, b.2, sym k.2))) run asked
+pub redo_synced : (a : Map) (rs : List Content) (old mid new : Story) → judged_open a ≡ Ok rs → Recovers a (redo a) old mid → Syncs mid new → Recovers a (redo a) old new
+redo_synced a rs old mid new form walks = walk_synced a (redo a) old mid new (redo_recovers a rs (judged_opens a rs form)) walks
 
-pub redoing_synced : (a : Map) (r : Content) (old mid new : Story) → IsWork a r → Runs (IsRedoing a r) (Mends a r) old mid → Syncs mid new → Runs (IsRedoing a r) (Mends a r) old new
-redoing_synced a r old mid new w run syncs = runs_sync (IsRedoing a r) (Mends a r) (redoing_leaves a r w) old mid new (redoing_settled a r) run syncs
+-- a path of an open group is outside the journal
+own_outside : (a : Map) (rs : List Content) (g : ℕ) (q : List ℕ) → judged_open a ≡ Ok rs → Has (open_groups a) g → covers (found_group a g) q ≡ true → is_below jobs q ≡ false
+own_outside a rs g q form has mine =
+    let j = judged_opens a rs form in
+    let k = working_among a rs j g has in
+    covered_outside (found_group a g) q (ap (λ (z : Group). are_free [] (footprint z.content)) (sym k.1) ∙ (redo_sound a rs j).free g (live_if_working (phase_at (redo a) g) k.0)) mine
+
+pub redone_if_synced : (a : Map) (f : Found) (s1 s2 s3 : Disk) → IsFound a f → IsFirm a (redo a) s2 → ((q : List ℕ) → s1.holds q ≡ stood a (redo a) q) → s2 ≡ emptied f.odd s1 → s3 ≡ settled s2 → IsRedone a f.gates s3
+redone_if_synced a f s1 s2 s3 found firm reads put synced = record {
+  records = f.records;
+  form = found.records;
+  gates = found.gates;
+  firm = subst (λ (d : Disk). IsFirm a (redone a) d) (sym synced) (redo_settles a f.records (judged_opens a f.records found.records) s2 firm
+      (λ g q has mine. ap (λ (d : Disk). d.holds q) put ∙ (emptied_outside f.odd s1 q (own_outside a f.records g q found.records has mine) ∙ reads q))
+      (λ g small odd some. ap (λ (d : Disk). d.holds (record_path g)) put ∙ emptied_has f.odd s1 g small (λ h has. ((found.odd h).0 has).small) ((found.odd g).1 (record { small = small; some = some; odd = odd }))));
+}
 
 -- ---- the gates go
 
-pub mended_begins : (a : Map) (r : Content) (s : Story) → IsWork a r → IsMended a r s.now → Runs (IsMended a r) (Mends a r) s s
-mended_begins a r s w k = runs_start (IsMended a r) (Mends a r) (mended_leaves a r w) s k
+pub gates_begin : (a : Map) (gs : List ℕ) (s : Story) → IsRedone a gs s.now → Recovers a (redone a) s s
+gates_begin a gs s k = walk_start a (redone a) s (redone_recovers a k.records (judged_opens a k.records k.form)) k.firm
 
-pub gates_go : (a : Map) (r : Content) (gs : List ℕ) (old mid new : Story) → IsWork a r → AreGates a gs → Runs (IsMended a r) (Mends a r) old mid → Asked (map gate_path gs) mid new → Runs (IsMended a r) (Mends a r) old new
-gates_go a r gs old mid new w gates run asked =
-    runs_asked (IsMended a r) (Mends a r) (mended_leaves a r w) (map gate_path gs) old mid new
-    (λ p has d x k.
-    let h = has-map_back gate_path gs p has in
-    let b = (gates h.0).0 h.1 in
-    subst (λ (q : List ℕ). IsMended a r (write d q x)) h.2 (mended_write a r h.0 b.0 b.1 d x k)) run asked
+pub gates_go : (a : Map) (gs : List ℕ) (s new : Story) → IsRedone a gs s.now → Asked (map gate_path gs) s new → Recovers a (redone a) s new
+gates_go a gs s new k asked =
+    gates_walk a k.records k.form s s new gs (λ g has. (k.gates.has g).0 has) (gates_begin a gs s k) (same_asked (map gate_path gs) s new asked)
 
-pub mended_synced : (a : Map) (r : Content) (old mid new : Story) → IsWork a r → Runs (IsMended a r) (Mends a r) old mid → Syncs mid new → Runs (IsMended a r) (Mends a r) old new
-mended_synced a r old mid new w run syncs = runs_sync (IsMended a r) (Mends a r) (mended_leaves a r w) old mid new (mended_settled a r) run syncs
+pub gates_synced : (a : Map) (gs : List ℕ) (s mid new : Story) → IsRedone a gs s.now → Recovers a (redone a) s mid → Syncs mid new → Recovers a (redone a) s new
+gates_synced a gs s mid new k walks = walk_synced a (redone a) s mid new (redone_recovers a k.records (judged_opens a k.records k.form)) walks
 
--- ---- the journal is cleared
+none_is_open : (x : Option Thing) → x ≡ None → is_open x ≡ true → ⊥
+none_is_open None e is = cc is
+none_is_open (Some o) e is = cc e
 
-pub shut_begins : (m : Map) (s : Story) → IsShut m s.now → Runs (IsShut m) (Before m) s s
-shut_begins m s k = runs_start (IsShut m) (Before m) (shut_leaves m) s k
+-- a gate that held nothing at first holds nothing
+bare_gate : (a : Map) (d : Disk) (g : ℕ) → g < 2 ^ 32 → IsFirm a (redone a) d → a (gate_path g) ≡ None → d.holds (gate_path g) ≡ None
+bare_gate a d g small firm none =
+    (firm.keeps (gate_path g) None (inl (record {
+      group = g;
+      small = small;
+      part = Gate;
+      path = refl;
+      owed = found_by a (λ i s. a (gate_path i) ≡ None → gate_owed (a (gate_path i)) (redone_phase s.phase) ≡ Some None)
+          (λ i low is e. absurd (none_is_open (a (gate_path i)) e is)) (λ i low is some e. absurd (none_is_not_some (a (gate_path i)) e some)) (λ i bare e. refl) g none;
+    }))).reads
 
-pub shut_cleared : (m : Map) (ps : List (List ℕ)) (s new : Story) → AreBelow ps s.now → IsShut m s.now → Asked ps s new → Runs (IsShut m) (Before m) s new
-shut_cleared m ps s new all k asked =
-    runs_asked (IsShut m) (Before m) (shut_leaves m) ps s s new
-    (λ p has.
-    let b = (all p).0 (contains_if_has ps p has) in
-    shut_below m p b.0 (λ h small e. none_is_not_some (s.now.holds (gate_path h)) (k.gates h small).reads (subst (λ (q : List ℕ). IsSome (s.now.holds q)) e b.1))) (shut_begins m s k) asked
+gate_gone : (a : Map) (gs : List ℕ) (d : Disk) (g : ℕ) → IsRedone a gs d → g < 2 ^ 32 → (removed (map gate_path gs) d).holds (gate_path g) ≡ None
+gate_gone a gs d g k small = removed_holds (map gate_path gs) d (gate_path g) ∙ go (a (gate_path g)) refl
+  where
+    go : (x : Option Thing) → a (gate_path g) ≡ x → cond (is_in (map gate_path gs) (gate_path g)) None (d.holds (gate_path g)) ≡ None
+    go None e = elim (cases_Bool (is_in (map gate_path gs) (gate_path g))) [
+      | inl is ↦ cond-true (is_in (map gate_path gs) (gate_path g)) None (d.holds (gate_path g)) is
+      | inr not_it ↦ cond-false (is_in (map gate_path gs) (gate_path g)) None (d.holds (gate_path g)) not_it ∙ bare_gate a d g small k.firm e
+    ]
+    go (Some o) e =
+        cond-true (is_in (map gate_path gs) (gate_path g)) None (d.holds (gate_path g)) (in_if_has (map gate_path gs) (gate_path g) (has-map gate_path gs g ((k.gates.has g).1 (small, subst IsSome (sym e) refl))))
 
-pub shut_synced : (m : Map) (old mid new : Story) → Runs (IsShut m) (Before m) old mid → Syncs mid new → Runs (IsShut m) (Before m) old new
-shut_synced m old mid new run syncs = runs_sync (IsShut m) (Before m) (shut_leaves m) old mid new (shut_settled m) run syncs
+shut_if_firm : (a : Map) (d : Disk) → IsFirm a (shut a) d → IsShut (stood a (redo a)) d
+shut_if_firm a d firm = record {
+  outside = λ q out. firm.keeps q (stood a (redo a) q) (inr (record { outside = out; quiet = λ g w. absurd (cc w); stands = refl }));
+  gates = λ h small. firm.keeps (gate_path h) None (inl (record { group = h; small = small; part = Gate; path = refl; owed = refl }));
+}
+
+pub shut_if_gone : (a : Map) (gs : List ℕ) (s mid new : Disk) → IsRedone a gs s → IsFirm a (redone a) mid → mid ≡ removed (map gate_path gs) s → new ≡ settled mid → IsShut (stood a (redo a)) new
+shut_if_gone a gs s mid new k firm gone synced =
+    subst (λ (d : Disk). IsShut (stood a (redo a)) d) (sym synced)
+    (shut_if_firm a (settled mid) (gates_settle a k.records (judged_opens a k.records k.form) mid firm (λ g small. ap (λ (d : Disk). d.holds (gate_path g)) gone ∙ gate_gone a gs s g k small)))
 
 -- ---- the whole
 
@@ -84,10 +126,7 @@ Stays d c = IsImage d c ⊎ RecoversAlike d.holds c
 
 -- the first sync leaves the images of the beginning
 pub stays_synced : (old new : Story) → Syncs old new → Since (Stays old.now) old new
-stays_synced old new syncs = since_syncs (Stays old.now) old old new (since_start (Stays old.now) old (λ c image. inl image)) (λ c image. inl (λ q untouched. image q refl)) syncs
-
-pub stays_mended : (d : Disk) (r : Content) (old mid new : Story) → IsWork d.holds r → Since (Stays d) old mid → Since (Mends d.holds r) mid new → Since (Stays d) old new
-stays_mended d r old mid new w a b = since_then (Stays d) old mid new a (since_weaker (Mends d.holds r) (Stays d) (λ c k. inr (alike d.holds c r w k)) mid new b)
+stays_synced old new syncs = since_weaker (IsImage old.now) (Stays old.now) (λ c image. inl image) old new (first_sync old new syncs)
 
 -- what the journal was read as, it was at the beginning
 abbrev pub AtRest : Story → Story → Story → Type 0
@@ -96,17 +135,26 @@ AtRest s s1 s2 = (s1 ≡ next s (settled s.now)) × (s2 ≡ s1)
 pub same_holds : (s s1 s2 : Story) → AtRest s s1 s2 → s2.now.holds ≡ s.now.holds
 same_holds s s1 s2 rest = ap (λ (x : Story). x.now.holds) (rest.1 ∙ rest.0)
 
-pub still_work : (s s1 s2 : Story) (f : Found) → AtRest s s1 s2 → IsFound s1.now.holds f → IsFound s.now.holds f
-still_work s s1 s2 f rest found = subst (λ (m : Map). IsFound m f) (ap (λ (x : Story). x.now.holds) rest.0) found
+pub still_found : (s s1 s2 : Story) (f : Found) → AtRest s s1 s2 → IsFound s1.now.holds f → IsFound s.now.holds f
+still_found s s1 s2 f rest found = subst (λ (m : Map). IsFound m f) (ap (λ (x : Story). x.now.holds) rest.0) found
 
-pub stays_redone : (s s1 s2 s3 : Story) (r : Content) → AtRest s s1 s2 → IsWork s.now.holds r → Since (Mends s2.now.holds r) s2 s3 → Since (Stays s.now) s s3
-stays_redone s s1 s2 s3 r rest w since =
-    stays_mended s.now r s s2 s3 w (subst (λ (x : Story). Since (Stays s.now) s x) (sym rest.1) (stays_synced s s1 (inr rest.0)))
-    (subst (λ (m : Map). Since (Mends m r) s2 s3) (same_holds s s1 s2 rest) since)
+-- one more stretch
+pub stays_on : (d : Disk) (rs : List Content) (old mid new : Story) → judged_open d.holds ≡ Ok rs → Since (Stays d) old mid → Since (λ c. IsRecovered c (recovered d.holds)) mid new → Since (Stays d) old new
+stays_on d rs old mid new form a b =
+    since_then (Stays d) old mid new a (since_weaker (λ c. IsRecovered c (recovered d.holds)) (Stays d) (λ c is. inr (recovered d.holds, beginning_recovers d.holds rs form, is)) mid new b)
 
-pub stays_cleared : (d : Disk) (r : Content) (old mid new : Story) → IsWork d.holds r → Since (Stays d) old mid → Since (Before (mended d.holds r)) mid new → Since (Stays d) old new
-stays_cleared d r old mid new w a b = stays_mended d r old mid new w a (subst (λ (m : Map). Since (λ (c : Map). IsRecovered c m) mid new) (mended_clear d.holds r) b)
+pub stays_redone : (s s1 s2 s3 : Story) (rs : List Content) → AtRest s s1 s2 → judged_open s.now.holds ≡ Ok rs → Recovers s2.now.holds (redo s2.now.holds) s2 s3 → Since (Stays s.now) s s3
+stays_redone s s1 s2 s3 rs rest form walks =
+    stays_on s.now rs s s2 s3 form (subst (λ (x : Story). Since (Stays s.now) s x) (sym rest.1) (stays_synced s s1 (inr rest.0)))
+    (subst (λ (m : Map). Since (λ c. IsRecovered c (recovered m)) s2 s3) (same_holds s s1 s2 rest) walks.0)
+
+cleared_is : (a : Map) → cleared (stood a (redo a)) ≡ recovered a
+cleared_is a = refl
+
+pub stays_cleared : (d : Disk) (rs : List Content) (old mid new : Story) → judged_open d.holds ≡ Ok rs → Since (Stays d) old mid → Since (λ c. IsRecovered c (cleared (stood d.holds (redo d.holds)))) mid new → Since (Stays d) old new
+stays_cleared d rs old mid new form a b =
+    stays_on d rs old mid new form a (subst (λ (m : Map). Since (λ c. IsRecovered c m) mid new) (cleared_is d.holds) b)
 
 -- the tree at the end is the recovered one
-pub recovered_at_end : (a : Map) (r : Content) (d : Disk) → IsWork a r → ((q : List ℕ) → d.holds q ≡ cleared (mended a r) q) → IsRecovered a d.holds
-recovered_at_end a r d w is = subst (λ (m : Map). IsRecovered a m) (sym (mended_clear a r) ∙ (λ i q. sym (is q) i)) (mended_is a r w)
+pub recovered_at_end : (a : Map) (rs : List Content) (d : Disk) → judged_open a ≡ Ok rs → ((q : List ℕ) → d.holds q ≡ cleared (stood a (redo a)) q) → IsRecovered a d.holds
+recovered_at_end a rs d form is = subst (λ (m : Map). IsRecovered a m) (λ i q. sym (is q) i) (beginning_recovers a rs form)

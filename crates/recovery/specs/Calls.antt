@@ -2,17 +2,13 @@
 use Rattle.std.specs.Prelude.{ℕ, List, [], ◌∷◌, Some}
 use Rattle.file_tree.specs.Disk.{Disk, write}
 use Rattle.file_tree.specs.Thing.{Thing, plain}
-use Rattle.merge_record.specs.Content.{Content}
+use Rattle.merge_core.specs.Recovery.{empty_content}
 use Rattle.merge_record.specs.Names.{record_path}
 use Rattle.merge_record.specs.Spelling.{spelling}
 
--- what a group without paths does
-abbrev pub nothing : ℕ → Content
-nothing g = record { group = g; removals = []; placements = [] }
-
 -- the record of a group without paths
 abbrev pub empty_record : ℕ → Thing
-empty_record g = plain (spelling (nothing g))
+empty_record g = plain (spelling (empty_content g))
 
 -- each of these groups has a record without paths
 abbrev pub emptied : List ℕ → Disk → Disk

@@ -11,7 +11,7 @@ tree_fault tree_faults.Failed = faults.Failed
 tree_fault tree_faults.Memory = faults.Memory
 
 abbrev pub judge_fault : JudgeFault → RecoverFault
-judge_fault (judge_faults.BadRecord g) = faults.Journal
-judge_fault (judge_faults.BadStage g i) = faults.Journal
+judge_fault (judge_faults.BadRecord g) = faults.BadRecord g
+judge_fault (judge_faults.BadStage g i) = faults.BadStage g i
 judge_fault judge_faults.Failed = faults.Failed
 judge_fault judge_faults.Memory = faults.Memory

@@ -1,39 +1,49 @@
--- What recovery finds in a journal that it accepts.
-use Rattle.std.specs.Prelude.{◌≡◌, ◌↔◌, ◌<◌, ◌^◌, ℕ, true, false, List, [], Ok, IsSome}
+-- The gates of a map, and what recovery finds in a journal that it accepts.
+use Rattle.std.specs.Prelude.{◌≡◌, ◌↔◌, ◌<◌, ◌≤◌, ◌^◌, ℕ, true, false, length, List, [], Ok, IsSome}
 use Rattle.basics.specs.Members.{Has}
 use Rattle.file_tree.specs.Disk.{Map}
 use Rattle.merge_record.specs.Content.{Content}
-use Rattle.merge_record.specs.Judging.{judged}
+use Rattle.merge_record.specs.Judging.{are_free, footprint, judged_open}
 use Rattle.merge_record.specs.Names.{gate_path}
-use Rattle.merge_record.specs.Open.{is_open}
-use Rattle.recovery.specs.Calls.{nothing}
+use Rattle.merge_record.specs.Open.{IsRising, is_open, open_groups}
+use Rattle.recovery.specs.declared.limits.TheConstants.{MOST_GATES}
 
--- the record of the open group, or of one without paths; the groups whose gate holds an object; and
--- those of them that aren't open
+-- the groups whose gate holds an object, rising
+pub record AreGates (m : Map) (gs : List ℕ) : Type 0 where
+  pub rising : IsRising gs
+  pub has : (g : ℕ) → Has gs g ↔ ((g < 2 ^ 32) × IsSome (m (gate_path g)))
+
+-- the gates of too many groups hold an object
+abbrev pub HasTooManyGates : Map → Type 0
+HasTooManyGates m = (gs : List ℕ) × AreGates m gs × (MOST_GATES < length gs)
+
+-- a group whose gate holds an object, but isn't open
+pub record IsOdd (m : Map) (g : ℕ) : Type 0 where
+  pub small : g < 2 ^ 32
+  pub some : IsSome (m (gate_path g))
+  pub odd : is_open (m (gate_path g)) ≡ false
+
+-- the groups whose gate holds an object, but isn't open
+abbrev pub AreOdd : Map → List ℕ → Type 0
+AreOdd m gs = (g : ℕ) → Has gs g ↔ IsOdd m g
+
+-- the paths of each record are apart and outside the journal, and its stages have numbers
+abbrev pub AreApplicable : List Content → Type 0
+AreApplicable rs = (r : Content) → Has rs r →
+    (are_free [] (footprint r) ≡ true) × (length r.placements < 2 ^ 32)
+
+-- the open groups, the record of each, the groups whose gate holds an object, and those of them
+-- that aren't open
 pub record Found : Type 0 where
-  pub what : Content
+  pub opened : List ℕ
+  pub records : List Content
   pub gates : List ℕ
-  pub closed : List ℕ
+  pub odd : List ℕ
 
--- the record is that of the one open group, which is in form; where no group is open, it has no
--- paths
-pub record IsWork (a : Map) (r : Content) : Type 0 where
-  pub small : r.group < 2 ^ 32
-  pub live : (h : ℕ) → h < 2 ^ 32 → is_open (a (gate_path h)) ≡ true →
-      (h ≡ r.group) × (judged a [] h ≡ Ok r)
-  pub none : is_open (a (gate_path r.group)) ≡ false → r ≡ nothing r.group
-
--- the groups whose gate holds an object
-abbrev pub AreGates : Map → List ℕ → Type 0
-AreGates a gs = (h : ℕ) → Has gs h ↔ ((h < 2 ^ 32) × IsSome (a (gate_path h)))
-
--- the groups whose gate holds an object that isn't open
-abbrev pub AreClosed : Map → List ℕ → Type 0
-AreClosed a gs = (h : ℕ) → Has gs h ↔
-    ((h < 2 ^ 32) × IsSome (a (gate_path h)) × (is_open (a (gate_path h)) ≡ false))
-
--- what was found is so in this map
-pub record IsFound (a : Map) (f : Found) : Type 0 where
-  pub work : IsWork a f.what
-  pub gates : AreGates a f.gates
-  pub closed : AreClosed a f.closed
+-- what was found is so in this map, whose open groups are in form
+pub record IsFound (m : Map) (f : Found) : Type 0 where
+  pub opened : f.opened ≡ open_groups m
+  pub records : judged_open m ≡ Ok f.records
+  pub gates : AreGates m f.gates
+  pub few : length f.gates ≤ MOST_GATES
+  pub odd : AreOdd m f.odd

@@ -1,19 +1,30 @@
 -- What recovery promises.
-use Rattle.std.specs.Prelude.{◌≡◌, ◌⊎◌, [], ◌∷◌, Ok}
+use Rattle.std.specs.Prelude.{◌≡◌, ⊤, Err}
 use Rattle.file_tree.specs.Disk.{Map}
-use Rattle.merge_record.specs.Content.{Content}
-use Rattle.merge_record.specs.Judging.{judged}
-use Rattle.merge_record.specs.Open.{open_groups}
+use Rattle.merge_record.specs.Judging.{judged_open}
 use Rattle.merge_record.specs.Recovered.{IsRecovered}
+use Rattle.merge_record.specs.declared.fault.JudgeFault.TheVariants as judge_faults
+use Rattle.recovery.specs.Found.{HasTooManyGates}
+use Rattle.recovery.specs.declared.fault.RecoverFault.{RecoverFault}
+use Rattle.recovery.specs.declared.fault.RecoverFault.TheVariants as faults
 
 -- both maps recover, and to the same map
 abbrev pub RecoversAlike : Map → Map → Type 0
 RecoversAlike a c = (m : Map) × IsRecovered a m × IsRecovered c m
 
--- no group is open, or just one, and it is in form
-abbrev pub IsMendable : Map → Type 0
-IsMendable m = (open_groups m ≡ []) ⊎ ((r : Content) × (open_groups m ≡ r.group ∷ []) ×
-    (judged m [] r.group ≡ Ok r))
+-- the fault is one of the map: too many gates, or else the first fault of its open groups; a
+-- failure and want of memory may come with any map
+abbrev pub IsFaultOf : RecoverFault → Map → Type 0
+IsFaultOf faults.Limit m = HasTooManyGates m
+IsFaultOf (faults.BadRecord g) m =
+    ¬ HasTooManyGates m × (judged_open m ≡ Err (judge_faults.BadRecord g))
+IsFaultOf (faults.BadStage g i) m =
+    ¬ HasTooManyGates m × (judged_open m ≡ Err (judge_faults.BadStage g i))
+IsFaultOf faults.Failed m = ⊤
+IsFaultOf faults.Memory m = ⊤
 
-abbrev pub IsBroken : Map → Type 0
-IsBroken m = IsMendable m → ⊥
+-- a fault that comes before anything is changed
+abbrev pub IsRefusal : RecoverFault → Type 0
+IsRefusal faults.Failed = ⊥
+IsRefusal faults.Memory = ⊥
+IsRefusal fault = ⊤

@@ -1,13 +1,13 @@
-ghost use Rattle.std.specs.Prelude.{◌≡◌, ◌≤◌, ℕ, List, map, IfOk, IsErrOf, IsTrue, OnOk};
-ghost use Rattle.file_tree.specs.Disk.{IsUntouched, Map, Rose};
+ghost use Rattle.std.specs.Prelude.{◌≡◌, ℕ, List, map, IfOk, IsErrOf, IsTrue, OnOk};
+ghost use Rattle.file_tree.specs.Disk.{CountsFault, IsUntouched, Map};
 ghost use Rattle.file_tree.specs.Moments.{Since};
-ghost use Rattle.merge_record.specs.Content.{Content};
 ghost use Rattle.merge_record.specs.Names.{gate_path};
 ghost use Rattle.merge_record.specs.Recovered.{IsRecovered};
+ghost use Rattle.merge_core.specs.Recovery.{recovered, redo};
+ghost use Rattle.merge_core.specs.Roll.{stood};
 ghost use Rattle.group_merge.specs.Group.{cleared};
 ghost use Rattle.group_merge.specs.Phases.{IsShut};
-ghost use Rattle.recovery.specs.Found.{AreGates, IsWork};
-ghost use Rattle.recovery.specs.Phases.{IsMended, mended};
+ghost use Rattle.recovery.specs.Phases.{IsRedone};
 
 use file_tree::{Path, Tree, TreeFault};
 use group_merge::remove_all;
@@ -31,14 +31,12 @@ pub(crate) fn remove_gates<T: Tree>(
     tree: &mut T,
     groups: &[u32],
 ) -> Result<(), TreeFault>
-    ensures moments { IsTrue T.tells → (a : Map) (r : Content) → IsWork a r →
-        AreGates a groups.now → IsMended a r (T.story tree.old).now →
-        Since (λ c. IsRecovered c (mended a r)) (T.story tree.old) (T.story tree.new) }
-    ensures ok { IsTrue T.tells → (a : Map) (r : Content) → IsWork a r → AreGates a groups.now →
-        IsMended a r (T.story tree.old).now →
-        OnOk result (IsShut (mended a r) (T.story tree.new).now) }
-    ensures count { T.faults tree.old ≤ T.faults tree.new }
-    ensures cause { IsErrOf result TreeFault.Failed → Rose (T.faults tree.old) (T.faults tree.new) }
+    ensures moments { IsTrue T.tells → (a : Map) → IsRedone a groups.now (T.story tree.old).now →
+        Since (λ c. IsRecovered c (recovered a)) (T.story tree.old) (T.story tree.new) }
+    ensures ok { IsTrue T.tells → (a : Map) → IsRedone a groups.now (T.story tree.old).now →
+        OnOk result (IsShut (stood a (redo a)) (T.story tree.new).now) }
+    ensures faults { CountsFault (IsErrOf result TreeFault.Failed) (T.faults tree.old)
+        (T.faults tree.new) }
 {
     let paths = gate_paths(alloc, groups)?;
     remove_all(tree, &paths)?;
@@ -53,8 +51,8 @@ pub fn clear_journal<T: Tree>(alloc: Global, tree: &mut T) -> Result<(), TreeFau
     ensures cleared { IsTrue T.tells → (m : Map) → IsShut m (T.story tree.old).now →
         OnOk result ((q : List ℕ) → (T.story tree.new).now.holds q ≡ cleared m q) }
     ensures settled { IsTrue T.tells → OnOk result (IsUntouched (T.story tree.new).now) }
-    ensures count { T.faults tree.old ≤ T.faults tree.new }
-    ensures cause { IsErrOf result TreeFault.Failed → Rose (T.faults tree.old) (T.faults tree.new) }
+    ensures faults { CountsFault (IsErrOf result TreeFault.Failed) (T.faults tree.old)
+        (T.faults tree.new) }
 {
     let jobs = jobs_folder(alloc)?;
     let paths = tree.list(&jobs)?;

@@ -6,9 +6,15 @@ use thiserror::Error;
 /// What recovery refuses, or fails with.
 #[derive(Clone, Copy, Debug, PartialEq, Eq, Error)]
 pub enum RecoverFault {
-    /// Two or more groups are open, or the open one isn't in form.
-    #[error("the journal is broken")]
-    Journal,
+    /// The record of an open group isn't in form, isn't the group's own, or has a path that is taken.
+    #[error("the record of group {group} is broken")]
+    BadRecord { group: u32 },
+    /// A stage of an open group isn't as its record tells.
+    #[error("stage {index} of group {group} is broken")]
+    BadStage { group: u32, index: u32 },
+    /// More gates hold an object than are recovered.
+    #[error("the journal has too many gates")]
+    Limit,
     #[error("the device failed")]
     Failed,
     #[error("out of memory")]
@@ -70,8 +76,8 @@ impl From<JudgeFault> for RecoverFault {
 
     fn from(fault: JudgeFault) -> RecoverFault {
         match fault {
-            JudgeFault::BadRecord { .. } => RecoverFault::Journal,
-            JudgeFault::BadStage { .. } => RecoverFault::Journal,
+            JudgeFault::BadRecord { group } => RecoverFault::BadRecord { group },
+            JudgeFault::BadStage { group, index } => RecoverFault::BadStage { group, index },
             JudgeFault::Failed => RecoverFault::Failed,
             JudgeFault::Memory => RecoverFault::Memory,
         }

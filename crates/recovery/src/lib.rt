@@ -1,10 +1,12 @@
 //! Recovery of a tree whose last run stopped at any moment.
 //!
-//! **A contract sees** the tree as its story, and what a map recovers to as `IsRecovered`.
+//! **A contract sees** the tree as its story, what a map recovers to as `IsRecovered`, and
+//! which fault is one of the map as `IsFaultOf`.
 //!
-//! **Proved**: the open group of the journal is applied, and a crash at any moment of this
-//! recovers to the same tree. A journal with two open groups, or with one that isn't in form, is
-//! refused; the tree then reads the same as before, and may have been synced.
+//! **Proved**: the open groups of the journal, however many, are applied in the order of their
+//! numbers, and a crash at any moment of this recovers to the same tree. A journal is refused
+//! exactly where an open group isn't in form or too many gates hold an object; the tree then reads
+//! the same as before, and may have been synced.
 //!
 //! **Only tested**, within whole runs: that with ample memory a tree is recovered.
 //!
@@ -17,10 +19,11 @@
 mod clearing;
 mod fault;
 mod finding;
-mod journal;
+mod limits;
 mod redoing;
 mod run;
 
 pub use clearing::clear_journal;
 pub use fault::RecoverFault;
-pub use run::recover;
+pub use limits::MOST_GATES;
+pub use run::{Recovered, recover};

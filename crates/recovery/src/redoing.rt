@@ -1,24 +1,23 @@
-ghost use Rattle.std.specs.Prelude.{◌≡◌, ◌≤◌, ◌<◌, ◌^◌, [], ℕ, true, length, map, IfOk, IsErrOf};
-ghost use Rattle.std.specs.Prelude.{IsSome, IsTrue, OnOk};
-ghost use Rattle.file_tree.specs.Disk.{IsUntouched, Rose};
-ghost use Rattle.file_tree.specs.Moments.{Since};
-ghost use Rattle.merge_record.specs.Judging.{are_free, footprint};
+ghost use Rattle.std.specs.Prelude.{◌≡◌, ◌<◌, ◌^◌, [], ℕ, List, Ok, true, length, map, IfOk};
+ghost use Rattle.std.specs.Prelude.{IsErrOf, IsSome, IsTrue, OnOk};
+ghost use Rattle.file_tree.specs.Disk.{CountsFault, IsUntouched};
+ghost use Rattle.merge_record.specs.Judging.{are_free, footprint, judged_open};
 ghost use Rattle.merge_record.specs.Names.{record_path, stage_path};
-ghost use Rattle.merge_record.specs.Recovered.{IsRecovered};
+ghost use Rattle.merge_core.specs.Recovery.{Recovers, redo};
+ghost use Rattle.merge_core.specs.Roll.{stood};
 ghost use Rattle.group_merge.specs.Calls.{Asked, placed, removed};
 ghost use Rattle.recovery.specs.Calls.{empty_record, emptied};
-ghost use Rattle.recovery.specs.Found.{IsFound};
-ghost use Rattle.recovery.specs.Phases.{IsMended, mended};
+ghost use Rattle.recovery.specs.Found.{AreApplicable, IsFound};
+ghost use Rattle.recovery.specs.Phases.{IsRedone};
 
-use crate::fault::RecoverFault;
-use crate::journal::Journal;
+use crate::finding::Journal;
 use file_tree::{Kind, Object, Tree, TreeFault};
 use group_merge::{JournalPaths, place_all, remove_all};
 use merge_record::{Record, RecordFault, encode, record_path};
 use std::alloc::{AllocError, Global};
 
 /// Does what the record says.
-fn apply<T: Tree>(alloc: Global, tree: &mut T, what: &Record) -> Result<(), RecoverFault>
+fn apply<T: Tree>(alloc: Global, tree: &mut T, what: &Record) -> Result<(), TreeFault>
     requires free { are_free [] (footprint what.now) ≡ true }
     requires short { length what.now.placements < 2 ^ 32 }
     requires there { IsTrue T.tells → (i : ℕ) → i < length what.now.placements →
@@ -28,15 +27,33 @@ fn apply<T: Tree>(alloc: Global, tree: &mut T, what: &Record) -> Result<(), Reco
     ensures ok { IsTrue T.tells → OnOk result
         ((T.story tree.new).now ≡ placed what.now.group 0 what.now.placements
         (removed what.now.removals (T.story tree.old).now)) }
-    ensures refused { IsErrOf result RecoverFault.Journal → ⊥ }
-    ensures count { T.faults tree.old ≤ T.faults tree.new }
-    ensures cause { IsErrOf result RecoverFault.Failed →
-        Rose (T.faults tree.old) (T.faults tree.new) }
+    ensures faults { CountsFault (IsErrOf result TreeFault.Failed) (T.faults tree.old)
+        (T.faults tree.new) }
 {
     let count = what.placements.len() as u32;
     let paths = JournalPaths::new(alloc, what.group, count)?;
     remove_all(tree, &what.removals)?;
     place_all(tree, &paths, &what.placements)?;
+    Ok(())
+}
+
+/// Applies the open groups, in rising order.
+fn apply_all<T: Tree>(alloc: Global, tree: &mut T, records: &[Record]) -> Result<(), TreeFault>
+    requires judged { IsTrue T.tells →
+        judged_open (T.story tree.old).now.holds ≡ Ok records.now }
+    requires applicable { AreApplicable records.now }
+    requires untouched { IsTrue T.tells → IsUntouched (T.story tree.old).now }
+    ensures walks { IsTrue T.tells →
+        Recovers (T.story tree.old).now.holds (redo (T.story tree.old).now.holds)
+        (T.story tree.old) (T.story tree.new) }
+    ensures ok { IsTrue T.tells → OnOk result ((q : List ℕ) → (T.story tree.new).now.holds q ≡
+        stood (T.story tree.old).now.holds (redo (T.story tree.old).now.holds) q) }
+    ensures faults { CountsFault (IsErrOf result TreeFault.Failed) (T.faults tree.old)
+        (T.faults tree.new) }
+{
+    for what in records {
+        apply(alloc, tree, what)?;
+    }
     Ok(())
 }
 
@@ -65,8 +82,8 @@ fn empty_records<T: Tree>(alloc: Global, tree: &mut T, groups: &[u32]) -> Result
         (T.story tree.new) }
     ensures ok { IsTrue T.tells → OnOk result
         ((T.story tree.new).now ≡ emptied groups.now (T.story tree.old).now) }
-    ensures count { T.faults tree.old ≤ T.faults tree.new }
-    ensures cause { IsErrOf result TreeFault.Failed → Rose (T.faults tree.old) (T.faults tree.new) }
+    ensures faults { CountsFault (IsErrOf result TreeFault.Failed) (T.faults tree.old)
+        (T.faults tree.new) }
 {
     for group in groups {
         let path = record_path(alloc, *group)?;
@@ -76,28 +93,21 @@ fn empty_records<T: Tree>(alloc: Global, tree: &mut T, groups: &[u32]) -> Result
     Ok(())
 }
 
-/// Applies the open group, empties the records of the groups that aren't open, and syncs.
-pub(crate) fn redo<T: Tree>(
-    alloc: Global,
-    tree: &mut T,
-    journal: &Journal,
-) -> Result<(), RecoverFault>
+/// Applies the open groups, empties the record of each group whose gate is odd, and syncs.
+pub(crate) fn redo<T: Tree>(alloc: Global, tree: &mut T, journal: &Journal) -> Result<(), TreeFault>
     requires found { IsTrue T.tells → IsFound (T.story tree.old).now.holds journal.now }
-    requires free { are_free [] (footprint journal.now.what) ≡ true }
-    requires short { length journal.now.what.placements < 2 ^ 32 }
+    requires applicable { AreApplicable journal.now.records }
     requires untouched { IsTrue T.tells → IsUntouched (T.story tree.old).now }
-    ensures moments { IsTrue T.tells → Since
-        (λ c. IsRecovered c (mended (T.story tree.old).now.holds journal.now.what))
+    ensures walks { IsTrue T.tells →
+        Recovers (T.story tree.old).now.holds (redo (T.story tree.old).now.holds)
         (T.story tree.old) (T.story tree.new) }
     ensures ok { IsTrue T.tells → OnOk result
-        (IsMended (T.story tree.old).now.holds journal.now.what (T.story tree.new).now) }
-    ensures refused { IsErrOf result RecoverFault.Journal → ⊥ }
-    ensures count { T.faults tree.old ≤ T.faults tree.new }
-    ensures cause { IsErrOf result RecoverFault.Failed →
-        Rose (T.faults tree.old) (T.faults tree.new) }
+        (IsRedone (T.story tree.old).now.holds journal.now.gates (T.story tree.new).now) }
+    ensures faults { CountsFault (IsErrOf result TreeFault.Failed) (T.faults tree.old)
+        (T.faults tree.new) }
 {
-    apply(alloc, tree, &journal.what)?;
-    empty_records(alloc, tree, &journal.closed)?;
+    apply_all(alloc, tree, &journal.records)?;
+    empty_records(alloc, tree, &journal.odd)?;
     tree.sync()?;
     Ok(())
 }

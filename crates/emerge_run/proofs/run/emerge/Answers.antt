@@ -1,7 +1,7 @@
 use Rattle.std.specs.Prelude.{map, string_bytes}
 use Rattle.emerge_run.specs.Outcomes.{IsAnswer, IsNamed}
 use Rattle.emerge_run.proofs.Asked.{some_builder}
-use Rattle.emerge_run.proofs.Endings.{built_before, came_asked, memory_asked, outcome_finished}
+use Rattle.emerge_run.proofs.Endings.{built_before, came_asked, memory_asked, outcome_finished, usage_kept}
 use Rattle.emerge_run.proofs.Lines.{wrote_all}
 use Rattle.emerge_run.proofs.run.emerge.Goals as goal
 
@@ -25,3 +25,6 @@ returns-clause-outcome g c t =
 
 pub returns-clause-build : goal.returns-clause-build
 returns-clause-build g c id is = c.attempt-reached.ensures.build id (built_before c.attempt-reached.result.status c.finish-status.result id _ c.finish-status.ensures.status is)
+
+pub returns-clause-usage : goal.returns-clause-usage
+returns-clause-usage g c f is = c.attempt-reached.ensures.usage f (usage_kept c.attempt-reached.result.status c.finish-status.result f c.finish-status.ensures.status is)

@@ -3,8 +3,7 @@ use Rattle.file_tree.specs.Disk.{Story, settled}
 use Rattle.file_tree.specs.Moments.{Since}
 use Rattle.group_merge.specs.Calls.{Asked, removed}
 use Rattle.group_merge.proofs.Walk.{Before}
-use Rattle.recovery.proofs.Stretches.{shut_begins, shut_cleared, shut_synced}
-use Rattle.recovery.proofs.Turns.{cleared_at_end, listed}
+use Rattle.recovery.proofs.Cleared.{cleared_at_end, listed, shut_begins, shut_cleared, shut_synced}
 use Rattle.recovery.proofs.clearing.clear_journal.Goals as goal
 
 pub returns-in_err-jobs-clause-moments : goal.returns-in_err-jobs-clause-moments

@@ -1,16 +1,27 @@
+use Rattle.std.proofs.Common.{◌≡◌, ◌∙◌, ◌≤◌, ◌<◌, [], List, ℕ, ap, length, subst, sym}
+use Rattle.std.specs.Prelude.{vec_len}
 use Rattle.std.proofs.lemmas.Result.{err_from_is_err_and}
-use Rattle.recovery.proofs.Accepted.{accepted, refused}
+use Rattle.recovery.proofs.Gates.{fault_judged, found_if_judged}
+use Rattle.recovery.specs.declared.limits.TheConstants.{MOST_GATES}
 use Rattle.recovery.proofs.finding.read_journal.Goals as goal
 
-pub returns-in_err-what-clause-refused : goal.returns-in_err-what-clause-refused
-returns-in_err-what-clause-refused g c t e =
-    let p = err_from_is_err_and c.from_residual-in_err-what.result c.from_residual-in_err-what.ensures.1 in
-    let why = c.judge_open.ensures.refused t (cc (p.1, p.2, e, c.in_err-what.was)) in
-    refused (g.T.Tree.story c.args.tree.now) (g.T.Tree.story c.find_gates.new.tree) (g.T.Tree.story c.parted.new.tree) c.in_ok-gates.gates.items c.deref.result.now c.in_ok-opened.opened.items c.deref-2.result.now
-    (c.find_gates.ensures.same t) (c.parted.ensures.same t) (c.in_ok-gates.ensures.gates t) c.in_ok-gates.ensures.distinct c.deref.ensures.value c.deref-2.ensures.value (c.in_ok-opened.ensures.open t) why
+pub returns-in_err-records-clause-refused : goal.returns-in_err-records-clause-refused
+returns-in_err-records-clause-refused g c t =
+    let s = g.T.Tree.story c.args.tree.now in
+    let s1 = g.T.Tree.story c.find_gates.new.tree in
+    let s2 = g.T.Tree.story c.parted.new.tree in
+    let all : vec_len c.in_ok-gates.gates ≡ length c.in_ok-gates.gates.items = cc in
+    let few : length c.in_ok-gates.gates.items ≤ MOST_GATES = subst (λ (n : ℕ). n ≤ MOST_GATES) (c.len.ensures ∙ all) c.if-len-gt-MOST_GATES.false in
+    let p = err_from_is_err_and c.from_residual-in_err-records.result c.from_residual-in_err-records.ensures.1 in
+    rw (p.1, p.2) (fault_judged s s1 s2 c.in_ok-gates.gates.items c.deref.result.now c.in_ok-opened.opened.items c.deref-2.result.now _
+    (c.find_gates.ensures.same t) (c.parted.ensures.same t) (c.in_ok-gates.ensures.gates t) few c.deref.ensures.value c.deref-2.ensures.value (c.in_ok-opened.ensures.open t) (c.in_err-records.ensures.answer t))
 
 pub returns-clause-found : goal.returns-clause-found
 returns-clause-found g c t =
-    accepted (g.T.Tree.story c.args.tree.now) (g.T.Tree.story c.find_gates.new.tree) (g.T.Tree.story c.parted.new.tree) c.in_ok-gates.gates.items c.deref.result.now c.in_ok-opened.opened.items c.deref-2.result.now c.in_ok-opened.closed.items c.in_ok-what.what
-    (c.find_gates.ensures.same t) (c.parted.ensures.same t) (c.in_ok-gates.ensures.gates t) c.deref.ensures.value c.deref-2.ensures.value (c.in_ok-opened.ensures.open t) (c.in_ok-opened.ensures.shut t)
-    c.in_ok-what.ensures.few c.in_ok-what.ensures.none (c.in_ok-what.ensures.one t)
+    let s = g.T.Tree.story c.args.tree.now in
+    let s1 = g.T.Tree.story c.find_gates.new.tree in
+    let s2 = g.T.Tree.story c.parted.new.tree in
+    let all : vec_len c.in_ok-gates.gates ≡ length c.in_ok-gates.gates.items = cc in
+    let few : length c.in_ok-gates.gates.items ≤ MOST_GATES = subst (λ (n : ℕ). n ≤ MOST_GATES) (c.len.ensures ∙ all) c.if-len-gt-MOST_GATES.false in
+    found_if_judged s s1 s2 c.in_ok-gates.gates.items c.deref.result.now c.in_ok-opened.opened.items c.deref-2.result.now c.in_ok-opened.odd.items c.in_ok-records.records.items
+    (c.find_gates.ensures.same t) (c.parted.ensures.same t) (c.in_ok-gates.ensures.gates t) few c.deref.ensures.value c.deref-2.ensures.value (c.in_ok-opened.ensures.open t) (c.in_ok-opened.ensures.odd t) (c.in_ok-records.ensures.answer t)

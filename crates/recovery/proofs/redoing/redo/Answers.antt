@@ -1,98 +1,67 @@
-use Rattle.std.proofs.Common.{◌<◌, ◌∙◌, ℕ, List, ap, length, map, refl, subst, sym}
-use Rattle.std.specs.Prelude.{IsSome}
-use Rattle.file_tree.specs.Disk.{Disk, Story, settled}
+use Rattle.std.proofs.Common.{◌≡◌, ◌∙◌, ℕ, List, Ok, ap, map, subst, sym}
+use Rattle.file_tree.specs.Disk.{Story}
 use Rattle.merge_record.specs.Content.{Content}
-use Rattle.merge_record.specs.Judging.{footprint}
-use Rattle.merge_record.specs.Names.{record_path, stage_path}
-use Rattle.group_merge.specs.Calls.{Asked, placed, removed}
+use Rattle.merge_record.specs.Judging.{judged_open}
+use Rattle.merge_record.specs.Names.{record_path}
+use Rattle.group_merge.specs.Calls.{Asked}
 use Rattle.recovery.specs.Calls.{emptied}
-use Rattle.recovery.specs.Found.{Found}
-use Rattle.recovery.proofs.Places.{stage_some}
-use Rattle.recovery.proofs.Stretches.{redoing_applied, redoing_begins, redoing_emptied, redoing_synced}
-use Rattle.recovery.proofs.Turns.{mended_if_redone}
+use Rattle.recovery.specs.Found.{AreApplicable, Found}
+use Rattle.recovery.proofs.Stretches.{odd_emptied, redo_synced, redone_if_synced}
 use Rattle.recovery.proofs.redoing.redo.Goals as goal
 
-pub apply-requires-clause-there : goal.apply-requires-clause-there
-apply-requires-clause-there g c t i lt =
-    let what = ap (λ (f : Found). f.what) c.journal.view_is in
-    let a = (g.T.Tree.story c.args.tree.now).now.holds in
-    subst (λ (r : Content). IsSome (a (stage_path r.group i))) (sym what)
-    (stage_some a c.args.journal.now.what (c.requires.found t).work i (subst (λ (r : Content). i < length r.placements) what lt))
+pub apply_all-requires-clause-judged : goal.apply_all-requires-clause-judged
+apply_all-requires-clause-judged g c t =
+    let records = c.deref.ensures.value ∙ ap (λ (f : Found). f.records) c.journal.view_is in
+    subst (λ (l : List Content). judged_open (g.T.Tree.story c.args.tree.now).now.holds ≡ Ok l) (sym records) (c.requires.found t).records
 
-pub returns-in_err-apply-clause-moments : goal.returns-in_err-apply-clause-moments
-returns-in_err-apply-clause-moments g c t =
-    let r = c.args.journal.now.what in
-    let s = g.T.Tree.story c.args.tree.now in
-    let s1 = g.T.Tree.story c.apply.new.tree in
-    let w = (c.requires.found t).work in
-    let asked = subst (λ (x : Content). Asked (footprint x) s s1) (ap (λ (f : Found). f.what) c.journal.view_is) (c.apply.ensures.asked t) in
-    (redoing_applied s.now.holds r s s s1 w (redoing_begins r s w (c.requires.untouched t)) asked).since
+pub apply_all-requires-clause-applicable : goal.apply_all-requires-clause-applicable
+apply_all-requires-clause-applicable g c =
+    let records = c.deref.ensures.value ∙ ap (λ (f : Found). f.records) c.journal.view_is in
+    subst AreApplicable (sym records) c.requires.applicable
 
-pub returns-in_err-empty_records-clause-moments : goal.returns-in_err-empty_records-clause-moments
-returns-in_err-empty_records-clause-moments g c t =
-    let r = c.args.journal.now.what in
-    let gs = c.args.journal.now.closed in
+pub returns-in_err-empty_records-clause-walks : goal.returns-in_err-empty_records-clause-walks
+returns-in_err-empty_records-clause-walks g c t =
+    let f = c.args.journal.now in
+    let found = c.requires.found t in
     let s = g.T.Tree.story c.args.tree.now in
-    let s1 = g.T.Tree.story c.apply.new.tree in
+    let s1 = g.T.Tree.story c.apply_all.new.tree in
     let s2 = g.T.Tree.story c.empty_records.new.tree in
-    let w = (c.requires.found t).work in
-    let closed = c.deref.ensures.value ∙ ap (λ (f : Found). f.closed) c.journal.view_is in
-    let asked = subst (λ (x : Content). Asked (footprint x) s s1) (ap (λ (f : Found). f.what) c.journal.view_is) (c.apply.ensures.asked t) in
-    let emptying = subst (λ (l : List ℕ). Asked (map record_path l) s1 s2) closed (c.empty_records.ensures.asked t) in
-    let run = redoing_applied s.now.holds r s s s1 w (redoing_begins r s w (c.requires.untouched t)) asked in
-    (redoing_emptied s.now.holds r gs s s1 s2 w (c.requires.found t).closed run emptying).since
+    let odd = c.deref-2.ensures.value ∙ ap (λ (x : Found). x.odd) c.journal.view_is in
+    odd_emptied s.now.holds f.records f.odd s s1 s2 found.records found.odd (c.apply_all.ensures.walks t) (subst (λ (l : List ℕ). Asked (map record_path l) s1 s2) odd (c.empty_records.ensures.asked t))
 
-pub returns-in_err-sync-clause-moments : goal.returns-in_err-sync-clause-moments
-returns-in_err-sync-clause-moments g c t =
-    let r = c.args.journal.now.what in
-    let gs = c.args.journal.now.closed in
+pub returns-in_err-sync-clause-walks : goal.returns-in_err-sync-clause-walks
+returns-in_err-sync-clause-walks g c t =
+    let f = c.args.journal.now in
+    let found = c.requires.found t in
     let s = g.T.Tree.story c.args.tree.now in
-    let s1 = g.T.Tree.story c.apply.new.tree in
+    let s1 = g.T.Tree.story c.apply_all.new.tree in
     let s2 = g.T.Tree.story c.empty_records.new.tree in
     let s3 = g.T.Tree.story c.sync.new.self in
-    let w = (c.requires.found t).work in
-    let closed = c.deref.ensures.value ∙ ap (λ (f : Found). f.closed) c.journal.view_is in
-    let asked = subst (λ (x : Content). Asked (footprint x) s s1) (ap (λ (f : Found). f.what) c.journal.view_is) (c.apply.ensures.asked t) in
-    let emptying = subst (λ (l : List ℕ). Asked (map record_path l) s1 s2) closed (c.empty_records.ensures.asked t) in
-    let run = redoing_applied s.now.holds r s s s1 w (redoing_begins r s w (c.requires.untouched t)) asked in
-    let run' = redoing_emptied s.now.holds r gs s s1 s2 w (c.requires.found t).closed run emptying in
-    (redoing_synced s.now.holds r s s2 s3 w run' (c.sync.ensures.moved t)).since
+    let odd = c.deref-2.ensures.value ∙ ap (λ (x : Found). x.odd) c.journal.view_is in
+    let walks = odd_emptied s.now.holds f.records f.odd s s1 s2 found.records found.odd (c.apply_all.ensures.walks t) (subst (λ (l : List ℕ). Asked (map record_path l) s1 s2) odd (c.empty_records.ensures.asked t)) in
+    redo_synced s.now.holds f.records s s2 s3 found.records walks (c.sync.ensures.moved t)
 
-pub returns-clause-moments : goal.returns-clause-moments
-returns-clause-moments g c t =
-    let r = c.args.journal.now.what in
-    let gs = c.args.journal.now.closed in
+pub returns-clause-walks : goal.returns-clause-walks
+returns-clause-walks g c t =
+    let f = c.args.journal.now in
+    let found = c.requires.found t in
     let s = g.T.Tree.story c.args.tree.now in
-    let s1 = g.T.Tree.story c.apply.new.tree in
+    let s1 = g.T.Tree.story c.apply_all.new.tree in
     let s2 = g.T.Tree.story c.empty_records.new.tree in
     let s3 = g.T.Tree.story c.sync.new.self in
-    let w = (c.requires.found t).work in
-    let closed = c.deref.ensures.value ∙ ap (λ (f : Found). f.closed) c.journal.view_is in
-    let asked = subst (λ (x : Content). Asked (footprint x) s s1) (ap (λ (f : Found). f.what) c.journal.view_is) (c.apply.ensures.asked t) in
-    let emptying = subst (λ (l : List ℕ). Asked (map record_path l) s1 s2) closed (c.empty_records.ensures.asked t) in
-    let run = redoing_applied s.now.holds r s s s1 w (redoing_begins r s w (c.requires.untouched t)) asked in
-    let run' = redoing_emptied s.now.holds r gs s s1 s2 w (c.requires.found t).closed run emptying in
-    (redoing_synced s.now.holds r s s2 s3 w run' (c.sync.ensures.moved t)).since
+    let odd = c.deref-2.ensures.value ∙ ap (λ (x : Found). x.odd) c.journal.view_is in
+    let walks = odd_emptied s.now.holds f.records f.odd s s1 s2 found.records found.odd (c.apply_all.ensures.walks t) (subst (λ (l : List ℕ). Asked (map record_path l) s1 s2) odd (c.empty_records.ensures.asked t)) in
+    redo_synced s.now.holds f.records s s2 s3 found.records walks (c.sync.ensures.moved t)
 
 pub returns-clause-ok : goal.returns-clause-ok
 returns-clause-ok g c t =
-    let r = c.args.journal.now.what in
-    let gs = c.args.journal.now.closed in
+    let f = c.args.journal.now in
+    let found = c.requires.found t in
     let s = g.T.Tree.story c.args.tree.now in
-    let s1 = g.T.Tree.story c.apply.new.tree in
+    let s1 = g.T.Tree.story c.apply_all.new.tree in
     let s2 = g.T.Tree.story c.empty_records.new.tree in
     let s3 = g.T.Tree.story c.sync.new.self in
-    let w = (c.requires.found t).work in
-    let what = ap (λ (f : Found). f.what) c.journal.view_is in
-    let closed = c.deref.ensures.value ∙ ap (λ (f : Found). f.closed) c.journal.view_is in
-    let asked = subst (λ (x : Content). Asked (footprint x) s s1) what (c.apply.ensures.asked t) in
-    let emptying = subst (λ (l : List ℕ). Asked (map record_path l) s1 s2) closed (c.empty_records.ensures.asked t) in
-    let run = redoing_applied s.now.holds r s s s1 w (redoing_begins r s w (c.requires.untouched t)) asked in
-    let run' = redoing_emptied s.now.holds r gs s s1 s2 w (c.requires.found t).closed run emptying in
-    let run'' = redoing_synced s.now.holds r s s2 s3 w run' (c.sync.ensures.moved t) in
-    let made = ap (λ (x : Story). x.now) (c.in_ok-sync.ensures.ok t)
-    ∙ (ap settled (c.in_ok-empty_records.ensures.ok t)
-    ∙ (ap (λ (l : List ℕ). settled (emptied l s1.now)) closed
-    ∙ (ap (λ (x : Disk). settled (emptied gs x)) (c.in_ok-apply.ensures.ok t)
-    ∙ ap (λ (x : Content). settled (emptied gs (placed x.group 0 x.placements (removed x.removals s.now)))) what))) in
-    mended_if_redone s.now.holds r gs s.now s3.now w (c.requires.found t).closed refl run''.phase made
+    let odd = c.deref-2.ensures.value ∙ ap (λ (x : Found). x.odd) c.journal.view_is in
+    let walks = odd_emptied s.now.holds f.records f.odd s s1 s2 found.records found.odd (c.apply_all.ensures.walks t) (subst (λ (l : List ℕ). Asked (map record_path l) s1 s2) odd (c.empty_records.ensures.asked t)) in
+    redone_if_synced s.now.holds f s1.now s2.now s3.now found walks.1 (c.in_ok-apply_all.ensures.ok t)
+    (c.in_ok-empty_records.ensures.ok t ∙ ap (λ (l : List ℕ). emptied l s1.now) odd) (ap (λ (x : Story). x.now) (c.in_ok-sync.ensures.ok t))

@@ -1,9 +1,9 @@
 use Rattle.std.proofs.Common.{◌∙◌, ℕ, List, ap, subst, sym}
 use Rattle.file_tree.specs.Disk.{Map}
-use Rattle.recovery.specs.Found.{AreGates, Found}
-use Rattle.recovery.specs.Phases.{IsMended, mended}
-use Rattle.recovery.proofs.Carried.{mendable}
-use Rattle.recovery.proofs.Stretches.{AtRest, recovered_at_end, same_holds, stays_cleared, stays_mended, stays_redone, still_work}
+use Rattle.recovery.specs.Found.{Found}
+use Rattle.recovery.specs.Phases.{IsRedone}
+use Rattle.recovery.proofs.Gates.{few_gates}
+use Rattle.recovery.proofs.Stretches.{AtRest, recovered_at_end, same_holds, stays_cleared, stays_on, stays_redone, still_found}
 use Rattle.recovery.proofs.run.recover.Goals as goal
 
 pub returns-in_err-redo-clause-moments : goal.returns-in_err-redo-clause-moments
@@ -12,10 +12,10 @@ returns-in_err-redo-clause-moments g c t =
     let s1 = g.T.Tree.story c.sync.new.self in
     let s2 = g.T.Tree.story c.read_journal.new.tree in
     let s3 = g.T.Tree.story c.redo.new.tree in
-    let r = c.in_ok-journal.journal.what in
+    let f = c.in_ok-journal.journal in
     let rest : AtRest s s1 s2 = (c.in_ok-sync.ensures.ok t, c.read_journal.ensures.same t) in
-    let found = still_work s s1 s2 c.in_ok-journal.journal rest (c.in_ok-journal.ensures.found t) in
-    stays_redone s s1 s2 s3 r rest found.work (c.redo.ensures.moments t)
+    let found = still_found s s1 s2 f rest (c.in_ok-journal.ensures.found t) in
+    stays_redone s s1 s2 s3 f.records rest found.records (c.redo.ensures.walks t)
 
 pub returns-in_err-remove_gates-clause-moments : goal.returns-in_err-remove_gates-clause-moments
 returns-in_err-remove_gates-clause-moments g c t =
@@ -23,15 +23,14 @@ returns-in_err-remove_gates-clause-moments g c t =
     let s1 = g.T.Tree.story c.sync.new.self in
     let s2 = g.T.Tree.story c.read_journal.new.tree in
     let s3 = g.T.Tree.story c.redo.new.tree in
-    let r = c.in_ok-journal.journal.what in
-    let rest : AtRest s s1 s2 = (c.in_ok-sync.ensures.ok t, c.read_journal.ensures.same t) in
-    let found = still_work s s1 s2 c.in_ok-journal.journal rest (c.in_ok-journal.ensures.found t) in
-    let first = stays_redone s s1 s2 s3 r rest found.work (c.redo.ensures.moments t) in
     let s4 = g.T.Tree.story c.remove_gates.new.tree in
-    let gates = c.deref.ensures.value ∙ ap (λ (f : Found). f.gates) c.journal.view_is in
-    let all = subst (λ (l : List ℕ). AreGates s.now.holds l) (sym gates) found.gates in
-    let mended' = subst (λ (m : Map). IsMended m r s3.now) (same_holds s s1 s2 rest) (c.in_ok-redo.ensures.ok t) in
-    stays_mended s.now r s s3 s4 found.work first (c.remove_gates.ensures.moments t s.now.holds r found.work all mended')
+    let f = c.in_ok-journal.journal in
+    let rest : AtRest s s1 s2 = (c.in_ok-sync.ensures.ok t, c.read_journal.ensures.same t) in
+    let found = still_found s s1 s2 f rest (c.in_ok-journal.ensures.found t) in
+    let first = stays_redone s s1 s2 s3 f.records rest found.records (c.redo.ensures.walks t) in
+    let gates = c.deref.ensures.value ∙ ap (λ (x : Found). x.gates) c.journal.view_is in
+    let redone = subst (λ (m : Map). IsRedone m f.gates s3.now) (same_holds s s1 s2 rest) (c.in_ok-redo.ensures.ok t) in
+    stays_on s.now f.records s s3 s4 found.records first (c.remove_gates.ensures.moments t s.now.holds (subst (λ (l : List ℕ). IsRedone s.now.holds l s3.now) (sym gates) redone))
 
 pub returns-in_err-clear_journal-clause-moments : goal.returns-in_err-clear_journal-clause-moments
 returns-in_err-clear_journal-clause-moments g c t =
@@ -39,18 +38,18 @@ returns-in_err-clear_journal-clause-moments g c t =
     let s1 = g.T.Tree.story c.sync.new.self in
     let s2 = g.T.Tree.story c.read_journal.new.tree in
     let s3 = g.T.Tree.story c.redo.new.tree in
-    let r = c.in_ok-journal.journal.what in
-    let rest : AtRest s s1 s2 = (c.in_ok-sync.ensures.ok t, c.read_journal.ensures.same t) in
-    let found = still_work s s1 s2 c.in_ok-journal.journal rest (c.in_ok-journal.ensures.found t) in
-    let first = stays_redone s s1 s2 s3 r rest found.work (c.redo.ensures.moments t) in
     let s4 = g.T.Tree.story c.remove_gates.new.tree in
-    let gates = c.deref.ensures.value ∙ ap (λ (f : Found). f.gates) c.journal.view_is in
-    let all = subst (λ (l : List ℕ). AreGates s.now.holds l) (sym gates) found.gates in
-    let mended' = subst (λ (m : Map). IsMended m r s3.now) (same_holds s s1 s2 rest) (c.in_ok-redo.ensures.ok t) in
-    let second = stays_mended s.now r s s3 s4 found.work first (c.remove_gates.ensures.moments t s.now.holds r found.work all mended') in
     let s5 = g.T.Tree.story c.clear_journal.new.tree in
-    let shut = c.in_ok-remove_gates.ensures.ok t s.now.holds r found.work all mended' in
-    stays_cleared s.now r s s4 s5 found.work second (c.clear_journal.ensures.moments t (mended s.now.holds r) shut)
+    let f = c.in_ok-journal.journal in
+    let rest : AtRest s s1 s2 = (c.in_ok-sync.ensures.ok t, c.read_journal.ensures.same t) in
+    let found = still_found s s1 s2 f rest (c.in_ok-journal.ensures.found t) in
+    let first = stays_redone s s1 s2 s3 f.records rest found.records (c.redo.ensures.walks t) in
+    let gates = c.deref.ensures.value ∙ ap (λ (x : Found). x.gates) c.journal.view_is in
+    let redone = subst (λ (m : Map). IsRedone m f.gates s3.now) (same_holds s s1 s2 rest) (c.in_ok-redo.ensures.ok t) in
+    let redone' = subst (λ (l : List ℕ). IsRedone s.now.holds l s3.now) (sym gates) redone in
+    let second = stays_on s.now f.records s s3 s4 found.records first (c.remove_gates.ensures.moments t s.now.holds redone') in
+    let shut = c.in_ok-remove_gates.ensures.ok t s.now.holds redone' in
+    stays_cleared s.now f.records s s4 s5 found.records second (c.clear_journal.ensures.moments t _ shut)
 
 pub returns-clause-moments : goal.returns-clause-moments
 returns-clause-moments g c t =
@@ -58,18 +57,18 @@ returns-clause-moments g c t =
     let s1 = g.T.Tree.story c.sync.new.self in
     let s2 = g.T.Tree.story c.read_journal.new.tree in
     let s3 = g.T.Tree.story c.redo.new.tree in
-    let r = c.in_ok-journal.journal.what in
-    let rest : AtRest s s1 s2 = (c.in_ok-sync.ensures.ok t, c.read_journal.ensures.same t) in
-    let found = still_work s s1 s2 c.in_ok-journal.journal rest (c.in_ok-journal.ensures.found t) in
-    let first = stays_redone s s1 s2 s3 r rest found.work (c.redo.ensures.moments t) in
     let s4 = g.T.Tree.story c.remove_gates.new.tree in
-    let gates = c.deref.ensures.value ∙ ap (λ (f : Found). f.gates) c.journal.view_is in
-    let all = subst (λ (l : List ℕ). AreGates s.now.holds l) (sym gates) found.gates in
-    let mended' = subst (λ (m : Map). IsMended m r s3.now) (same_holds s s1 s2 rest) (c.in_ok-redo.ensures.ok t) in
-    let second = stays_mended s.now r s s3 s4 found.work first (c.remove_gates.ensures.moments t s.now.holds r found.work all mended') in
     let s5 = g.T.Tree.story c.clear_journal.new.tree in
-    let shut = c.in_ok-remove_gates.ensures.ok t s.now.holds r found.work all mended' in
-    stays_cleared s.now r s s4 s5 found.work second (c.clear_journal.ensures.moments t (mended s.now.holds r) shut)
+    let f = c.in_ok-journal.journal in
+    let rest : AtRest s s1 s2 = (c.in_ok-sync.ensures.ok t, c.read_journal.ensures.same t) in
+    let found = still_found s s1 s2 f rest (c.in_ok-journal.ensures.found t) in
+    let first = stays_redone s s1 s2 s3 f.records rest found.records (c.redo.ensures.walks t) in
+    let gates = c.deref.ensures.value ∙ ap (λ (x : Found). x.gates) c.journal.view_is in
+    let redone = subst (λ (m : Map). IsRedone m f.gates s3.now) (same_holds s s1 s2 rest) (c.in_ok-redo.ensures.ok t) in
+    let redone' = subst (λ (l : List ℕ). IsRedone s.now.holds l s3.now) (sym gates) redone in
+    let second = stays_on s.now f.records s s3 s4 found.records first (c.remove_gates.ensures.moments t s.now.holds redone') in
+    let shut = c.in_ok-remove_gates.ensures.ok t s.now.holds redone' in
+    stays_cleared s.now f.records s s4 s5 found.records second (c.clear_journal.ensures.moments t _ shut)
 
 pub returns-clause-recovered : goal.returns-clause-recovered
 returns-clause-recovered g c t =
@@ -77,23 +76,20 @@ returns-clause-recovered g c t =
     let s1 = g.T.Tree.story c.sync.new.self in
     let s2 = g.T.Tree.story c.read_journal.new.tree in
     let s3 = g.T.Tree.story c.redo.new.tree in
-    let r = c.in_ok-journal.journal.what in
-    let rest : AtRest s s1 s2 = (c.in_ok-sync.ensures.ok t, c.read_journal.ensures.same t) in
-    let found = still_work s s1 s2 c.in_ok-journal.journal rest (c.in_ok-journal.ensures.found t) in
-    let s4 = g.T.Tree.story c.remove_gates.new.tree in
-    let gates = c.deref.ensures.value ∙ ap (λ (f : Found). f.gates) c.journal.view_is in
-    let all = subst (λ (l : List ℕ). AreGates s.now.holds l) (sym gates) found.gates in
-    let mended' = subst (λ (m : Map). IsMended m r s3.now) (same_holds s s1 s2 rest) (c.in_ok-redo.ensures.ok t) in
     let s5 = g.T.Tree.story c.clear_journal.new.tree in
-    let shut = c.in_ok-remove_gates.ensures.ok t s.now.holds r found.work all mended' in
-    (recovered_at_end s.now.holds r s5.now found.work (c.in_ok-clear_journal.ensures.cleared t (mended s.now.holds r) shut), c.in_ok-clear_journal.ensures.settled t)
+    let f = c.in_ok-journal.journal in
+    let rest : AtRest s s1 s2 = (c.in_ok-sync.ensures.ok t, c.read_journal.ensures.same t) in
+    let found = still_found s s1 s2 f rest (c.in_ok-journal.ensures.found t) in
+    let gates = c.deref.ensures.value ∙ ap (λ (x : Found). x.gates) c.journal.view_is in
+    let redone = subst (λ (m : Map). IsRedone m f.gates s3.now) (same_holds s s1 s2 rest) (c.in_ok-redo.ensures.ok t) in
+    let shut = c.in_ok-remove_gates.ensures.ok t s.now.holds (subst (λ (l : List ℕ). IsRedone s.now.holds l s3.now) (sym gates) redone) in
+    (recovered_at_end s.now.holds f.records s5.now found.records (c.in_ok-clear_journal.ensures.cleared t _ shut), c.in_ok-clear_journal.ensures.settled t)
 
-pub returns-clause-ok : goal.returns-clause-ok
-returns-clause-ok g c t broken =
+pub returns-clause-few : goal.returns-clause-few
+returns-clause-few g c t many =
     let s = g.T.Tree.story c.args.tree.now in
     let s1 = g.T.Tree.story c.sync.new.self in
     let s2 = g.T.Tree.story c.read_journal.new.tree in
-    let r = c.in_ok-journal.journal.what in
     let rest : AtRest s s1 s2 = (c.in_ok-sync.ensures.ok t, c.read_journal.ensures.same t) in
-    let found = still_work s s1 s2 c.in_ok-journal.journal rest (c.in_ok-journal.ensures.found t) in
-    broken (mendable s.now.holds r found.work)
+    let found = still_found s s1 s2 c.in_ok-journal.journal rest (c.in_ok-journal.ensures.found t) in
+    few_gates s.now.holds c.in_ok-journal.journal.gates found.gates found.few many

@@ -1,0 +1,58 @@
+ghost use Rattle.std.specs.Prelude.{◌≡◌, is_ok, IsErr, IsTrue};
+ghost use Rattle.file_tree.specs.Disk.{CountsFault};
+ghost use Rattle.merge_core.specs.Event.{Acknowledge, SyncClosed};
+ghost use Rattle.merge_core.specs.Steps.{IsTaken};
+ghost use Rattle.merge_site.specs.Site.{Adds, Writes};
+
+use crate::calls;
+use crate::site::{Site, enter};
+use file_tree::{Failed, Sink, Tree};
+use merge_core::Step;
+
+impl<T: Tree, S: Sink> Site<T, S> {
+    /// Makes the closed gate of a group durable.
+    pub fn sync_closed(&mut self, group: u32) -> Result<(), Failed>
+        requires taken { IsTaken self.old.keeping group Step.SyncClosed }
+        ensures event { Adds self.old self.new (SyncClosed group) (is_ok result) }
+        ensures sink { self.new.sink ≡ self.old.sink }
+        ensures faults { CountsFault (IsErr result) (T.faults self.old.tree)
+            (T.faults self.new.tree) }
+    {
+        let needs = self.core.needs_sync(group);
+        let answer = calls::sync_group(&mut self.tree, group, needs);
+        let ok = answer.is_ok();
+        enter(
+            &mut self.core,
+            &mut self.log,
+            self.alloc,
+            group,
+            Step::SyncClosed,
+            ok,
+        );
+        answer
+    }
+
+    /// Writes the line of a group that is done.
+    pub fn acknowledge(&mut self, group: u32) -> Result<(), Failed>
+        requires taken { IsTaken self.old.keeping group Step.Acknowledge }
+        ensures event { Adds self.old self.new (Acknowledge group) (is_ok result) }
+        ensures writes { IsTrue S.tells → Writes self.old.groups group (is_ok result)
+            (S.written self.old.sink) (S.written self.new.sink) }
+        ensures tree { self.new.tree ≡ self.old.tree }
+        ensures faults { CountsFault (IsErr result) (S.faults self.old.sink)
+            (S.faults self.new.sink) }
+    {
+        let line = &self.groups[group as usize].line;
+        let answer = self.sink.write(line);
+        let ok = answer.is_ok();
+        enter(
+            &mut self.core,
+            &mut self.log,
+            self.alloc,
+            group,
+            Step::Acknowledge,
+            ok,
+        );
+        answer
+    }
+}

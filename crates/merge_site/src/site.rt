@@ -1,0 +1,69 @@
+ghost use Rattle.std.specs.Prelude.{◌≡◌, ◌<◌, ◌≤◌, ◌^◌, ◌++◌, ◌∷◌, ◌+◌, [], ℕ, IfOk, IfErr, IsTrue, length};
+ghost use Rattle.merge_core.specs.Event.{answered};
+ghost use Rattle.merge_core.specs.Keeping.{machine_of};
+ghost use Rattle.merge_core.specs.Steps.{IsTaken, event_of};
+
+use crate::group::SiteGroup;
+use crate::history::Happened;
+use crate::job::Job;
+use file_tree::{Object, Sink, Tree};
+use http_server::Log;
+use merge_core::{Core, Step};
+use std::alloc::Global;
+use std::marker::Model;
+use std::snapshot::Snapshot;
+
+/// A tree on which groups are merged through the journal, event by event. In clauses, its account:
+/// the machine, the events so far, the tree at the beginning and now, and the sink.
+#[derive(Drop)]
+pub struct Site<T: Tree, S: Sink> {
+    pub(crate) alloc: Global,
+    pub(crate) tree: T,
+    pub(crate) sink: S,
+    pub(crate) core: Core,
+    pub(crate) groups: Vec<SiteGroup>,
+    pub(crate) jobs: Vec<Job>,
+    pub(crate) mark: Object,
+    pub(crate) opened: Snapshot<T>,
+    pub(crate) log: Log<Happened, bool>,
+}
+
+impl<T: Tree, S: Sink> Model for Site<T, S> {
+    ghost use Rattle.merge_site.specs.Site.{Account, IsKept};
+
+    ghost Value = { Account T S };
+
+    ghost view = { λ s. record {
+      keeping = s.core;
+      events = s.log.items;
+      groups = s.groups.items;
+      opened = s.opened.value;
+      tree = s.tree;
+      sink = s.sink;
+    } };
+
+    ghost invariant = { λ s. IsKept T.tells s.core s.log.items s.groups.items
+        s.jobs.items (T.story s.opened.value) (T.story s.tree) s.mark };
+}
+
+/// Takes a step that may come into the machine and the log. It takes no memory.
+pub(crate) fn enter(
+    core: &mut Core,
+    log: &mut Log<Happened, bool>,
+    alloc: Global,
+    group: u32,
+    step: Step,
+    ok: bool,
+)
+    requires taken { IsTaken core.old group step }
+    ensures machine { machine_of core.new ≡
+        answered (machine_of core.old) (event_of group step) ok }
+    ensures groups { length core.new.standings ≡ length core.old.standings }
+    ensures log { log.new.items ≡ log.old.items ++ (event_of group step, ok) ∷ [] }
+{
+    if core.step(alloc, group, step, ok).is_err() {
+        unreachable!();
+    }
+    let event = Happened::step(group, step);
+    *log = log.and(&event, &ok);
+}

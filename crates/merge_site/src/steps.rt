@@ -1,0 +1,135 @@
+ghost use Rattle.std.specs.Prelude.{◌≡◌, true, is_ok, IsErr, OnErr, OnOk};
+ghost use Rattle.file_tree.specs.Disk.{CountsFault};
+ghost use Rattle.merge_core.specs.Event.{Abandon, Begin, CloseGate, OpenGate, SyncGate};
+ghost use Rattle.merge_core.specs.Event.{SyncPlaced, SyncSealed};
+ghost use Rattle.merge_core.specs.Steps.{IsTaken};
+ghost use Rattle.merge_site.specs.Site.{Adds};
+
+use crate::calls;
+use crate::site::{Site, enter};
+use file_tree::{Failed, Sink, Tree};
+use merge_core::Step;
+
+impl<T: Tree, S: Sink> Site<T, S> {
+    /// A group begins.
+    pub fn begin(&mut self, group: u32)
+        requires taken { IsTaken self.old.keeping group Step.Begin }
+        ensures event { Adds self.old self.new (Begin group) true }
+        ensures sink { self.new.sink ≡ self.old.sink }
+        ensures tree { self.new.tree ≡ self.old.tree }
+    {
+        enter(
+            &mut self.core,
+            &mut self.log,
+            self.alloc,
+            group,
+            Step::Begin,
+            true,
+        );
+    }
+
+    /// A group that has no claim yet is given up.
+    pub fn abandon(&mut self, group: u32)
+        requires taken { IsTaken self.old.keeping group Step.Abandon }
+        ensures event { Adds self.old self.new (Abandon group) true }
+        ensures sink { self.new.sink ≡ self.old.sink }
+        ensures tree { self.new.tree ≡ self.old.tree }
+    {
+        enter(
+            &mut self.core,
+            &mut self.log,
+            self.alloc,
+            group,
+            Step::Abandon,
+            true,
+        );
+    }
+
+    /// Makes the stages, the record and the token of a group durable.
+    pub fn sync_sealed(&mut self, group: u32) -> Result<(), Failed>
+        requires taken { IsTaken self.old.keeping group Step.SyncSealed }
+        ensures event { Adds self.old self.new (SyncSealed group) (is_ok result) }
+        ensures sink { self.new.sink ≡ self.old.sink }
+        ensures faults { CountsFault (IsErr result) (T.faults self.old.tree)
+            (T.faults self.new.tree) }
+    {
+        let needs = self.core.needs_sync(group);
+        let answer = calls::sync_group(&mut self.tree, group, needs);
+        let ok = answer.is_ok();
+        enter(
+            &mut self.core,
+            &mut self.log,
+            self.alloc,
+            group,
+            Step::SyncSealed,
+            ok,
+        );
+        answer
+    }
+
+    /// Makes the opened gate of a group durable.
+    pub fn sync_gate(&mut self, group: u32) -> Result<(), Failed>
+        requires taken { IsTaken self.old.keeping group Step.SyncGate }
+        ensures event { Adds self.old self.new (SyncGate group) (is_ok result) }
+        ensures sink { self.new.sink ≡ self.old.sink }
+        ensures faults { CountsFault (IsErr result) (T.faults self.old.tree)
+            (T.faults self.new.tree) }
+    {
+        let needs = self.core.needs_sync(group);
+        let answer = calls::sync_group(&mut self.tree, group, needs);
+        let ok = answer.is_ok();
+        enter(
+            &mut self.core,
+            &mut self.log,
+            self.alloc,
+            group,
+            Step::SyncGate,
+            ok,
+        );
+        answer
+    }
+
+    /// Makes the changed paths of a group durable.
+    pub fn sync_placed(&mut self, group: u32) -> Result<(), Failed>
+        requires taken { IsTaken self.old.keeping group Step.SyncPlaced }
+        ensures event { Adds self.old self.new (SyncPlaced group) (is_ok result) }
+        ensures sink { self.new.sink ≡ self.old.sink }
+        ensures faults { CountsFault (IsErr result) (T.faults self.old.tree)
+            (T.faults self.new.tree) }
+    {
+        let needs = self.core.needs_sync(group);
+        let answer = calls::sync_group(&mut self.tree, group, needs);
+        let ok = answer.is_ok();
+        enter(
+            &mut self.core,
+            &mut self.log,
+            self.alloc,
+            group,
+            Step::SyncPlaced,
+            ok,
+        );
+        answer
+    }
+
+    /// Removes the gate of a group whose paths are placed.
+    pub fn close_gate(&mut self, group: u32) -> Result<(), Failed>
+        requires taken { IsTaken self.old.keeping group Step.CloseGate }
+        ensures event { Adds self.old self.new (CloseGate group) (is_ok result) }
+        ensures sink { self.new.sink ≡ self.old.sink }
+        ensures faults { CountsFault (IsErr result) (T.faults self.old.tree)
+            (T.faults self.new.tree) }
+    {
+        let gate = self.jobs[group as usize].gate();
+        let answer = calls::close_gate(&mut self.tree, group, gate);
+        let ok = answer.is_ok();
+        enter(
+            &mut self.core,
+            &mut self.log,
+            self.alloc,
+            group,
+            Step::CloseGate,
+            ok,
+        );
+        answer
+    }
+}

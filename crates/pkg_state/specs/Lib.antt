@@ -1,0 +1,5 @@
+pub mod Codes
+pub mod Package
+pub mod Consistent
+pub mod Fault
+pub mod State

@@ -1,0 +1,20 @@
+/// When a package needs what a tree of dependencies names (PMS 8.1).
+#[derive(Clone, Copy, Debug)]
+pub enum Class {
+    /// While it runs.
+    Rdepend,
+    /// Some time after it was merged.
+    Pdepend,
+    /// While it is built, of the system that it is built for.
+    Depend,
+    /// While it is built, of the system that builds it.
+    Bdepend,
+    /// While it is merged or unmerged.
+    Idepend,
+}
+
+/// The edition of the package manager standard that a package is written for.
+#[derive(Clone, Copy, Debug)]
+pub enum Eapi {
+    Eight,
+}

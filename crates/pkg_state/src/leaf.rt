@@ -1,0 +1,71 @@
+ghost use Rattle.std.specs.Prelude.{◌≡◌};
+ghost use Rattle.std.specs.Option.{option_map};
+ghost use Rattle.dep_atom.specs.Values.{atom_value};
+ghost use Rattle.dep_group.specs.Trees.{is_member};
+ghost use Rattle.dep_tree.specs.Truth.{is_fact, kind};
+ghost use Rattle.dep_tree.specs.View.{trees_view, view};
+ghost use Rattle.pms_names.specs.Flags.{has};
+ghost use Rattle.pkg_state.specs.Fault.{lacking, lacking_of_all, lacking_of_first};
+
+use dep_atom::Atom;
+use dep_tree::{Node, Present};
+use pms_names::Flags;
+
+#[cycle(lacking)]
+fn lacking<'a, P: Present>(node: &'a Node, present: &P, asker: &Flags) -> Option<&'a Atom>
+    ensures { option_map (λ atom. atom_value atom.now) result ≡
+        lacking (is_fact (P.facts present.now) asker.now) (has asker.now) (view node.now) }
+{
+    match node {
+        Node::Leaf(atom) => Some(atom),
+        Node::All(nodes) => lacking_of_all(nodes, present, asker),
+        Node::AnyOf(nodes) => lacking_of_first(nodes, present, asker),
+        Node::When { nodes, .. } => lacking_of_all(nodes, present, asker),
+    }
+}
+
+/// The leaf to name of trees that should all hold: of the first that fails.
+#[cycle(lacking)]
+pub(crate) fn lacking_of_all<'a, P: Present>(
+    nodes: &'a [Node],
+    present: &P,
+    asker: &Flags,
+) -> Option<&'a Atom>
+    ensures { option_map (λ atom. atom_value atom.now) result ≡
+        lacking_of_all (is_fact (P.facts present.now) asker.now) (has asker.now)
+        (trees_view nodes.now) }
+{
+    for node in nodes {
+        if !node.holds(present, asker) {
+            return lacking(node, present, asker);
+        }
+    }
+    None
+}
+
+#[cycle(lacking)]
+fn lacking_of_first<'a, P: Present>(
+    nodes: &'a [Node],
+    present: &P,
+    asker: &Flags,
+) -> Option<&'a Atom>
+    ensures { option_map (λ atom. atom_value atom.now) result ≡
+        lacking_of_first (is_fact (P.facts present.now) asker.now) (has asker.now)
+        (trees_view nodes.now) }
+{
+    for node in nodes {
+        if is_member(node, asker) {
+            return lacking(node, present, asker);
+        }
+    }
+    None
+}
+
+fn is_member(node: &Node, asker: &Flags) -> bool
+    ensures { result ≡ is_member kind (has asker.now) (view node.now) }
+{
+    match node {
+        Node::When { flag, on, .. } => asker.has(flag) == *on,
+        _ => true,
+    }
+}

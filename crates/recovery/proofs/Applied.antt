@@ -1,0 +1,149 @@
+-- One open group after another is applied.
+use Rattle.std.proofs.Common.{◌≡◌, ◌≤◌, ◌<◌, ◌||◌, ◌++◌, ◌^◌, ℕ, zero, suc, true, false, length, get_or, None, List, [], ◌∷◌, Result, Ok, refl, sym, ap, subst, ◌∙◌, inl, inr, arith}
+use Rattle.std.specs.Prelude.{IsSome, bytes_eq}
+use Rattle.std.proofs.lemmas.Bool.{cases_Bool, cond-false}
+use Rattle.std.proofs.lemmas.Slice.Eq.{bytes_eq-Decides}
+use Rattle.basics.specs.Members.{Has}
+use Rattle.basics.proofs.Membership.{has-append_cases}
+use Rattle.file_tree.specs.Disk.{write, Disk, Map, Moves, Story}
+use Rattle.file_tree.specs.Paths.{is_below}
+use Rattle.merge_record.specs.Content.{Content}
+use Rattle.merge_record.specs.Judging.{are_free, footprint, judged, judged_all, judged_open, ◌>>=◌}
+use Rattle.merge_record.specs.Names.{jobs}
+use Rattle.merge_record.specs.Open.{open_groups}
+use Rattle.merge_record.specs.declared.fault.JudgeFault.{JudgeFault}
+use Rattle.merge_record.proofs.Form.{are_free-if, are_free-words, bind_ok, judged_words}
+use Rattle.group_merge.specs.Calls as calls
+use Rattle.merge_core.specs.Recovery.{Asked, Recovers, found_content, redo, with_placed, with_redone, with_removed}
+use Rattle.merge_core.proofs.Redo.{form_found, judged_opens}
+use Rattle.merge_core.proofs.Redone.{redone_reads}
+use Rattle.merge_core.specs.Roll.{stood}
+use Rattle.merge_record.specs.Names.{stage_path}
+use Rattle.merge_record.specs.declared.record.Placement.{Placement}
+use Rattle.std.proofs.Common.{drop}
+use Rattle.merge_core.proofs.Walk.{redo_walks}
+use Rattle.recovery.specs.Found.{AreApplicable}
+use Rattle.recovery.proofs.Places.{free_outside, placement_at}
+
+abbrev all_good : List Content → Result (List Content) JudgeFault
+all_good rs = Ok rs
+
+same_records : (xs ys : List Content) → all_good xs ≡ all_good ys → xs ≡ ys
+same_records xs ys e = cc
+
+pub same_asked : (ps : List (List ℕ)) (old new : Story) → calls.Asked ps old new → Asked ps old new
+same_asked [] old new h = h
+same_asked (p ∷ ps) old new h = (h.0, h.1, same_asked ps h.0 new h.2)
+
+-- the records that were judged good are what is found
+record_found : (c : Map) (taken : List (List ℕ)) (ns : List ℕ) (rs : List Content) → judged_all c taken ns ≡ Ok rs → (r : Content) → Has rs r → Has ns r.group × (found_content c r.group ≡ r)
+unfolding judged_all
+record_found c taken [] rs h r has = absurd (subst (λ (l : List Content). Has l r) (sym (same_records [] rs h)) has)
+record_found c taken (k ∷ ns) rs h r has =
+    let a = bind_ok (judged c taken k) (λ x. judged_all c (taken ++ footprint x) ns >>= λ xs. Ok (x ∷ xs)) rs h in
+    let b = bind_ok (judged_all c (taken ++ footprint a.0) ns) (λ xs. Ok (a.0 ∷ xs)) rs a.2 in
+    let form = judged_words c taken k a.0 a.1 in
+    elim (subst (λ (l : List Content). Has l r) (sym (same_records (a.0 ∷ b.0) rs b.2)) has) [
+      | inl e ↦ (inl (sym form.number ∙ ap (λ (x : Content). x.group) e), ap (found_content c) (ap (λ (x : Content). x.group) (sym e) ∙ form.number) ∙ (form_found c taken k a.0 a.1 ∙ e))
+      | inr later ↦ (let n = record_found c (taken ++ footprint a.0) ns b.0 b.1 r later in (inr n.0, n.1))
+    ]
+
+-- one more group
+pub one_walks : (a : Map) (rs : List Content) (old mid new : Story) (r : Content) → judged_open a ≡ Ok rs → Has rs r → Recovers a (redo a) old mid → calls.Asked (footprint r) mid new → Recovers a (redo a) old new
+one_walks a rs old mid new r judged_is has walks asked =
+    let k = record_found a [] (open_groups a) rs (judged_opens a rs judged_is) r has in
+    redo_walks a rs judged_is old mid new r.group k.0 walks (subst (λ (x : Content). Asked (footprint x) mid new) (sym k.1) (same_asked (footprint r) mid new asked))
+
+-- the disk once these records are redone, one after the other
+abbrev pub redone_by : List Content → Disk → Disk
+redone_by [] d = d
+redone_by (r ∷ rs) d = redone_by rs (calls.placed r.group 0 r.placements (calls.removed r.removals d))
+
+pub redone_step : (rs : List Content) (i : ℕ) (r : Content) (d : Disk) → i < length rs → r ≡ get_or rs i r → redone_by (drop (suc i) rs) (calls.placed r.group 0 r.placements (calls.removed r.removals d)) ≡ redone_by (drop i rs) d
+redone_step [] i r d lt is = absurd (omega arith)
+redone_step (x ∷ rs) zero r d lt is = ap (λ (y : Content). redone_by rs (calls.placed y.group 0 y.placements (calls.removed y.removals d))) is
+redone_step (x ∷ rs) (suc i) r d lt is = redone_step rs i r d (omega arith) is
+
+pub redone_end : (rs : List Content) (i : ℕ) (d : Disk) → length rs ≤ i → redone_by (drop i rs) d ≡ d
+redone_end [] zero d le = refl
+redone_end [] (suc i) d le = refl
+redone_end (r ∷ rs) zero d le = absurd (omega arith)
+redone_end (r ∷ rs) (suc i) d le = redone_end rs i d (omega arith)
+
+same_removed : (ps : List (List ℕ)) (d : Disk) → calls.removed ps d ≡ with_removed ps d
+same_removed [] d = refl
+same_removed (p ∷ ps) d = same_removed ps (write d p None)
+
+same_placed : (g i : ℕ) (ps : List Placement) (d : Disk) → calls.placed g i ps d ≡ with_placed g i ps d
+same_placed g i [] d = refl
+same_placed g i (p ∷ ps) d = same_placed g (suc i) ps (write d p.path (d.holds (stage_path g i)))
+
+same_redone : (c : Map) (taken : List (List ℕ)) (ns : List ℕ) (rs : List Content) (d : Disk) → judged_all c taken ns ≡ Ok rs → redone_by rs d ≡ with_redone c ns d
+unfolding judged_all
+same_redone c taken [] rs d h = ap (λ (l : List Content). redone_by l d) (sym (same_records [] rs h))
+same_redone c taken (k ∷ ns) rs d h =
+    let a = bind_ok (judged c taken k) (λ x. judged_all c (taken ++ footprint x) ns >>= λ xs. Ok (x ∷ xs)) rs h in
+    let b = bind_ok (judged_all c (taken ++ footprint a.0) ns) (λ xs. Ok (a.0 ∷ xs)) rs a.2 in
+    let form = judged_words c taken k a.0 a.1 in
+    let r = found_content c k in
+    let found : r ≡ a.0 = form_found c taken k a.0 a.1 in
+    let d1 = with_placed k 0 r.placements (with_removed r.removals d) in
+    ap (λ (l : List Content). redone_by l d) (sym (same_records (a.0 ∷ b.0) rs b.2))
+    ∙ (ap (redone_by b.0)
+    (same_placed a.0.group 0 a.0.placements (calls.removed a.0.removals d)
+    ∙ (ap (with_placed a.0.group 0 a.0.placements) (same_removed a.0.removals d)
+    ∙ (ap (λ (n : ℕ). with_placed n 0 a.0.placements (with_removed a.0.removals d)) form.number
+    ∙ ap (λ (x : Content). with_placed k 0 x.placements (with_removed x.removals d)) (sym found))))
+    ∙ same_redone c (taken ++ footprint a.0) ns b.0 d1 b.1)
+
+-- once all records are redone, the disk reads as it shall
+pub all_read : (a : Map) (rs : List Content) (d e : Disk) → judged_open a ≡ Ok rs → ((q : List ℕ) → d.holds q ≡ a q) → e ≡ redone_by rs d → (q : List ℕ) → e.holds q ≡ stood a (redo a) q
+all_read a rs d e judged_is same is q =
+    ap (λ (x : Disk). x.holds q) (is ∙ same_redone a [] (open_groups a) rs d (judged_opens a rs judged_is)) ∙ redone_reads a rs (judged_opens a rs judged_is) d same q
+
+-- below the journal's folder nothing changes
+moves_below : (old new : Story) (p q : List ℕ) → is_below jobs p ≡ false → is_below jobs q ≡ true → Moves old p new → new.now.holds q ≡ old.now.holds q
+moves_below old new p q out below (inl e) = ap (λ (s : Story). s.now.holds q) e
+moves_below old new p q out below (inr k) = ap (λ (s : Story). s.now.holds q) k.1 ∙ cond-false (bytes_eq p q) k.0 (old.now.holds q) (elim (cases_Bool (bytes_eq p q)) [
+  | inl e ↦ absurd (let same = ap (is_below jobs) ((bytes_eq-Decides p q).0 e) in cc (same, out, below))
+  | inr e ↦ e
+])
+
+asked_below : (ps : List (List ℕ)) (old new : Story) (q : List ℕ) → ((p : List ℕ) → Has ps p → is_below jobs p ≡ false) → is_below jobs q ≡ true → calls.Asked ps old new → new.now.holds q ≡ old.now.holds q
+asked_below [] old new q out below e = ap (λ (s : Story). s.now.holds q) e
+asked_below (p ∷ ps) old new q out below h = asked_below ps h.0 new q (λ x has. out x (inr has)) below h.2 ∙ moves_below old h.0 p q (out p (inl refl)) below h.1
+
+pub footprint_below : (r : Content) (old new : Story) (q : List ℕ) → are_free [] (footprint r) ≡ true → is_below jobs q ≡ true → calls.Asked (footprint r) old new → new.now.holds q ≡ old.now.holds q
+footprint_below r old new q free below asked = asked_below (footprint r) old new q (free_outside r free) below asked
+
+-- each placement has an object in its stage
+pub record_staged : (c : Map) (taken : List (List ℕ)) (ns : List ℕ) (rs : List Content) → judged_all c taken ns ≡ Ok rs → (r : Content) → Has rs r → (i : ℕ) → i < length r.placements → IsSome (c (stage_path r.group i))
+unfolding judged_all
+record_staged c taken [] rs h r has i lt = absurd (subst (λ (l : List Content). Has l r) (sym (same_records [] rs h)) has)
+record_staged c taken (k ∷ ns) rs h r has i lt =
+    let a = bind_ok (judged c taken k) (λ x. judged_all c (taken ++ footprint x) ns >>= λ xs. Ok (x ∷ xs)) rs h in
+    let b = bind_ok (judged_all c (taken ++ footprint a.0) ns) (λ xs. Ok (a.0 ∷ xs)) rs a.2 in
+    let form = judged_words c taken k a.0 a.1 in
+    elim (subst (λ (l : List Content). Has l r) (sym (same_records (a.0 ∷ b.0) rs b.2)) has) [
+      | inl e ↦
+          let at = placement_at a.0.placements i (subst (λ (x : Content). i < length x.placements) (sym e) lt) in
+          subst (λ (x : Content). IsSome (c (stage_path x.group i))) e
+          (subst (λ (n : ℕ). IsSome (c (stage_path n i))) (sym form.number) (subst IsSome (sym (form.stages i at.0 at.1).there) refl))
+      | inr later ↦ record_staged c (taken ++ footprint a.0) ns b.0 b.1 r later i lt
+    ]
+
+-- ---- records as they are judged
+
+free_alone : (taken paths : List (List ℕ)) → are_free taken paths ≡ true → are_free [] paths ≡ true
+free_alone taken paths free =
+    let k = are_free-words taken paths free in
+    are_free-if [] paths (record { distinct = k.distinct; outside = k.outside; apart = λ q has none. none })
+
+pub applicable_more : (rs : List Content) (r : Content) (taken : List (List ℕ)) → AreApplicable rs → are_free taken (footprint r) ≡ true → length r.placements < 2 ^ 32 → AreApplicable (rs ++ r ∷ [])
+applicable_more rs r taken all free few x has = elim (has-append_cases rs (r ∷ []) x has) [
+  | inl had ↦ all x had
+  | inr last ↦ elim last [
+    | inl e ↦ subst (λ (y : Content). (are_free [] (footprint y) ≡ true) × (length y.placements < 2 ^ 32)) e (free_alone taken (footprint r) free, few)
+    | inr none ↦ absurd none
+  ]
+]
