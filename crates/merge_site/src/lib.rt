@@ -21,6 +21,7 @@
 
 mod calls;
 mod ending;
+mod fault;
 mod gates;
 mod group;
 mod history;
@@ -28,6 +29,7 @@ mod job;
 mod moves;
 mod open;
 mod reads;
+mod records;
 mod site;
 mod steps;
 
@@ -35,6 +37,7 @@ pub use calls::{
     close_gate, open_gate, place_path, put_record, put_stage, put_token, quiet_events, remove_path,
     sync_group,
 };
+pub use fault::SiteFault;
 pub use group::SiteGroup;
 pub use history::{Happened, What};
 pub use site::Site;
