@@ -1,6 +1,7 @@
 -- States: packages in line order, at most one a line.
 use Rattle.std.specs.Prelude.{◌≡◌, ℕ, List, Option, bytes_eq, if◌then◌else◌}
 use Rattle.std.specs.List.{find}
+use Rattle.std.specs.Map.{keys_of, values_of}
 use Rattle.pms_names.specs.Flags.{IsRising}
 use Rattle.pkg_state.specs.Package.{Package, line_of, lines_of}
 
@@ -16,3 +17,8 @@ on_line ps line = find (λ p. bytes_eq line (line_of p.facts)) ps
 abbrev pub ChangesLine : List Package → List Package → List ℕ → Option Package → Type 0
 ChangesLine old new line now =
     (q : List ℕ) → on_line new q ≡ (if bytes_eq line q then now else on_line old q)
+
+-- each package stands at its own line, and the lines rise
+pub record HasLines (entries : List (List ℕ × Package)) : Type 0 where
+  pub rising : IsRising (keys_of entries)
+  pub own : keys_of entries ≡ lines_of (values_of entries)

@@ -1,15 +1,16 @@
-//! Packages that are installed side by side: when they are consistent, and which fault is the first
-//! of those that aren't.
+//! Packages that are installed side by side: states in line order, when packages are consistent,
+//! and which fault is the first of those that aren't.
 //!
-//! **A contract sees** a [`Pkg`] as a record of its facts, its trees by class and its REQUIRED_USE.
+//! **A contract sees** a [`Pkg`] as a record of its facts, its trees by class and its REQUIRED_USE,
+//! and a [`State`] as a list of these.
 //!
-//! **Proved**: packages are consistent, or just one fault is their first; a state, which has its
-//! packages in line order and one a line, is told by what it has on each line.
+//! **Proved**: a state has its packages in line order, one a line, and a change of one line leaves
+//! the others as they are; packages are consistent, or just one fault is their first.
 //!
-//! **Only tested**: nothing; the code that judges packages isn't here yet.
+//! **Only tested**: nothing yet; the code that judges packages isn't here yet.
 //!
 //! ```
-//! one_fault();
+//! let replaced = state.insert(alloc, package)?;
 //! ```
 #![tactic(auto)]
 
@@ -19,9 +20,11 @@ mod laws;
 mod leaf;
 mod line;
 mod package;
+mod state;
 
 pub use broken::Broken;
 pub use class::{Class, Eapi};
 pub use laws::{one_fault, one_state};
 pub use line::LineName;
 pub use package::Pkg;
+pub use state::State;
