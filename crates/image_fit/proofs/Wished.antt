@@ -61,10 +61,10 @@ later pre [] free p q before has = absurd has
 later pre (w ∷ ws) free p q before (inl e) = subst (λ (x : List ℕ). IsBeside p x) e (beside_free pre w p (free_here pre ws w free) before)
 later pre (w ∷ ws) free p q before (inr has) =
     later (pre ++ w ∷ []) ws (free_behind pre ws w free) p q (in_front pre (w ∷ []) p before) has where
-  in_front : (a b : List Wish) (x : List ℕ) → Has (map path_of a) x → Has (map path_of (a ++ b)) x
-  in_front [] b x h = absurd h
-  in_front (y ∷ a) b x (inl e) = inl e
-  in_front (y ∷ a) b x (inr h) = inr (in_front a b x h)
+      in_front : (a b : List Wish) (x : List ℕ) → Has (map path_of a) x → Has (map path_of (a ++ b)) x
+      in_front [] b x h = absurd h
+      in_front (y ∷ a) b x (inl e) = inl e
+      in_front (y ∷ a) b x (inr h) = inr (in_front a b x h)
 
 last_has : (pre : List Wish) (w : Wish) → Has (map path_of (pre ++ w ∷ [])) w.path
 last_has [] w = inl refl
