@@ -1,0 +1,14 @@
+//! The installed packages of a tree, when the tree keeps what they recorded, and what groups make
+//! of both: laws, and no code.
+//!
+//! **A contract sees** a tree as a map from paths to objects, a package as `pkg_state` has it with
+//! the paths that it recorded, and a group as the journal does.
+//!
+//! **Proved**: a group that is a fitting step takes a kept tree with a database to a kept tree with
+//! the database after it, and so does any number of them. What is written into CONTENTS is read
+//! back, a text of it tells one list of paths, and at most one line is its first faulty one.
+#![tactic(auto)]
+
+mod laws;
+
+pub use laws::{contents_are_read_back, groups_keep_the_database};
