@@ -1,5 +1,5 @@
 -- Packages are consistent, or one fault is their first.
-use Rattle.std.proofs.Common.{◌≡◌, ◌⊎◌, ◌∙◌, ◌&&◌, Bool, true, false, cond, not, List, [], ◌∷◌, Option, Some, None, refl, ap, sym, subst, inl, inr}
+use Rattle.std.proofs.Common.{◌≡◌, ◌⊎◌, ◌∙◌, ◌&&◌, Bool, true, false, cond, not, List, Option, Some, None, refl, ap, sym, subst, inl, inr}
 use Rattle.std.specs.List.{find, list_any}
 use Rattle.std.proofs.lemmas.Bool.{and_from, and_parts, both_ways, cases_Bool, not-false, not-true}
 use Rattle.basics.specs.Members.{Has}
@@ -9,7 +9,7 @@ use Rattle.pkg_state.specs.Consistent.{AreApart, AreConsistent, blocks, facts_of
 use Rattle.pkg_state.specs.Fault.{AreFirstTwins, Fault, IsFirstFault, IsFirstWrong, IsWrong, is_right, lacking_leaf}
 use Rattle.pkg_state.specs.Fault.Fault.{Blocked, RequiredUse, Runtime, SlotTwice}
 use Rattle.pkg_state.specs.declared.class.Class.TheVariants.{Rdepend}
-use Rattle.pkg_state.proofs.Lists.{any_none, found_or_none, found_passes, none_found, none_passes, not_found}
+use Rattle.pkg_state.proofs.Lists.{any_none, found_or_none, found_passes, none_passes, not_found}
 use Rattle.pkg_state.proofs.Lines.{apart_or_twins, one_pair, twins_not_apart}
 
 abbrev is_wrong : List Package → Package → Bool

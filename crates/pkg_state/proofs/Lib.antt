@@ -3,3 +3,8 @@ pub mod Lines
 pub mod Faults
 pub mod OneState
 pub mod States
+pub mod Listed
+pub mod Named
+pub mod LinesSeen
+pub mod Judged
+pub mod Grouped

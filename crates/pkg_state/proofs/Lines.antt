@@ -1,10 +1,10 @@
 -- Packages on one line.
-use Rattle.std.proofs.Common.{◌≡◌, ◌⊎◌, ◌∙◌, ℕ, Bool, true, false, List, [], ◌∷◌, ◌++◌, map, refl, ap, sym, subst, inl, inr, append_assoc}
+use Rattle.std.proofs.Common.{◌≡◌, ◌⊎◌, ◌∙◌, ℕ, List, [], ◌∷◌, ◌++◌, refl, ap, sym, subst, inl, inr, append_assoc}
 use Rattle.std.specs.Prelude.{bytes_eq}
 use Rattle.std.proofs.lemmas.Bool.{cases_Bool, both_ways}
 use Rattle.std.proofs.lemmas.List.{append-nil}
 use Rattle.std.proofs.lemmas.Slice.Eq.{bytes_eq-Decides}
-use Rattle.basics.specs.Members.{AreDistinct, Has}
+use Rattle.basics.specs.Members.{Has}
 use Rattle.basics.proofs.Membership.{has-append_cases, has-map, has-map_back}
 use Rattle.pkg_state.specs.Package.{Package, line_of, lines_of}
 use Rattle.pkg_state.specs.Consistent.{AreApart}

@@ -4,7 +4,7 @@ use Rattle.std.specs.Coded.{Coded, code_by, coded_list, coded_option, coded⊎}
 use Rattle.dep_group.specs.Trees.{Tree, Trees, group, leaf, no_trees, tree}
 use base.Stored.{coded_unit}
 use mathlib.Core.Logic.{inl, inr}
-use mathlib.Core.Path.{ap, sym, ◌∙◌}
+use mathlib.Core.Path.{ap, ◌∙◌}
 
 -- a leaf, the opener of a group, or its end
 abbrev pub Piece : Type 0 → Type 0 → Type 0

@@ -1,5 +1,5 @@
 -- When packages that are installed side by side are consistent.
-use Rattle.std.specs.Prelude.{◌≡◌, ◌&&◌, ◌||◌, ℕ, Bool, true, false, not, List, bytes_eq, map}
+use Rattle.std.specs.Prelude.{◌≡◌, ◌&&◌, ◌||◌, Bool, true, false, not, List, bytes_eq, map}
 use Rattle.std.specs.List.{list_any}
 use Rattle.basics.specs.Members.{AreDistinct, Has}
 use Rattle.pms_names.specs.Flags.{has}

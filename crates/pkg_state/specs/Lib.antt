@@ -3,3 +3,5 @@ pub mod Package
 pub mod Consistent
 pub mod Fault
 pub mod State
+pub mod Index
+pub mod Blocks

@@ -5,25 +5,34 @@
 //! and a [`State`] as a list of these.
 //!
 //! **Proved**: a state has its packages in line order, one a line, and a change of one line leaves
-//! the others as they are; packages are consistent, or just one fault is their first.
+//! the others as they are; packages are consistent, or just one fault is their first, and
+//! [`consistent`] tells which.
 //!
-//! **Only tested**: nothing yet; the code that judges packages isn't here yet.
+//! **Only tested**: that with ample memory packages are judged.
 //!
 //! ```
 //! let replaced = state.insert(alloc, package)?;
+//! consistent(alloc, &packages)?;
 //! ```
 #![tactic(auto)]
 
+mod around;
+mod block;
+mod blocks;
 mod broken;
+mod by_name;
 mod class;
+mod judging;
 mod laws;
 mod leaf;
 mod line;
 mod package;
 mod state;
+mod twins;
 
 pub use broken::Broken;
 pub use class::{Class, Eapi};
+pub use judging::consistent;
 pub use laws::{one_fault, one_state};
 pub use line::LineName;
 pub use package::Pkg;

@@ -1,7 +1,7 @@
 use Rattle.std.proofs.Common.{◌∙◌, ℕ, List, Some, ap, sym, subst}
 use Rattle.std.specs.Map.{values_of}
 use Rattle.pkg_state.specs.Package.{Package, line_of}
-use Rattle.pkg_state.specs.State.{ChangesLine, HasLines, on_line}
+use Rattle.pkg_state.specs.State.{ChangesLine, on_line}
 use Rattle.pkg_state.proofs.States.{AreOwn, Entries, changes_line, lookup_line, own_inserted}
 use Rattle.pkg_state.proofs.state.State.insert.Goals as goal
 

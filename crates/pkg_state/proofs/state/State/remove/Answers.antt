@@ -2,7 +2,7 @@ use Rattle.std.proofs.Common.{◌∙◌, List, None, ap, sym, subst}
 use Rattle.std.specs.BTreeMap.{is_at}
 use Rattle.std.specs.Map.{values_of}
 use Rattle.pkg_state.specs.Package.{Package}
-use Rattle.pkg_state.specs.State.{ChangesLine, HasLines, on_line}
+use Rattle.pkg_state.specs.State.{ChangesLine, on_line}
 use Rattle.pkg_state.proofs.States.{AreOwn, Entries, changes_line, cmp, lookup_line, own_removed}
 use Rattle.pkg_state.proofs.state.State.remove.Goals as goal
 
