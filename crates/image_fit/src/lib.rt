@@ -23,3 +23,4 @@ mod places;
 pub use fault::Misfit;
 pub use judging::judge_image;
 pub use limits::MOST_ENTRIES;
+pub use paths::{bad_by, is_good};

@@ -4,7 +4,7 @@ ghost use Rattle.image_fit.specs.Misfits.{AreGood, RefusesObjects, RefusesPaths,
 ghost use Rattle.image_fit.specs.Misfits.{bad_by, empty_book, misfit_of, wish_of};
 
 use crate::fault::Misfit;
-use file_tree::{Entry, Kind};
+use file_tree::{Entry, Kind, Path};
 use link_target::is_target;
 use merge_record::{MOST_FILE_BYTES, OwnerKey};
 use owner_book::{ClaimFault, ImageBad, OwnerBook, Wish};
@@ -24,7 +24,7 @@ pub(crate) fn judge_objects(alloc: Global, image: &[Entry]) -> Result<(), Misfit
 }
 
 /// Whether an object may be placed: a file that isn't too large, or a link whose target is in form.
-fn is_good(entry: &Entry) -> bool
+pub fn is_good(entry: &Entry) -> bool
     ensures { result ≡ is_good entry.now }
 {
     let bytes = entry.object.bytes.as_slice();
@@ -38,9 +38,16 @@ fn bad_of(alloc: Global, entry: &Entry) -> Result<ImageBad, AllocError>
     ensures { IfOk result (λ b. b ≡ bad_by entry.now.object.kind entry.now.path) }
 {
     let path = entry.path.try_clone()?;
-    match entry.object.kind {
-        Kind::Link => Ok(ImageBad::Link { path }),
-        _ => Ok(ImageBad::Large { path }),
+    Ok(bad_by(entry.object.kind, path))
+}
+
+/// What an object of this kind is refused for, at its path.
+pub fn bad_by(kind: Kind, path: Path) -> ImageBad
+    ensures { result ≡ bad_by kind path }
+{
+    match kind {
+        Kind::Link => ImageBad::Link { path },
+        _ => ImageBad::Large { path },
     }
 }
 

@@ -80,7 +80,7 @@ kept_by tells k k' es es' xs ps ps' start old new mark e ok kept may admits perf
     })
 
 -- what holds of each standing behind the event holds of each that is kept
-each_kept : (k k' : Keeping) (e : Event) (ok : Bool) (P : ℕ → Standing → Type 0) → machine_of k' ≡ answered (machine_of k) e ok → ((i : ℕ) → P i ((answered (machine_of k) e ok).roll.standing i)) → (i : ℕ) → P i (standing_in k'.standings i)
+pub each_kept : (k k' : Keeping) (e : Event) (ok : Bool) (P : ℕ → Standing → Type 0) → machine_of k' ≡ answered (machine_of k) e ok → ((i : ℕ) → P i ((answered (machine_of k) e ok).roll.standing i)) → (i : ℕ) → P i (standing_in k'.standings i)
 each_kept k k' e ok P goes each i = subst (λ (m : Machine). P i (m.roll.standing i)) (sym goes) (each i)
 
 fresh_on : (k k' : Keeping) (e : Event) (ok : Bool) → is_stage e ≡ false → Admits (machine_of k) e → machine_of k' ≡ answered (machine_of k) e ok → AreFresh k → AreFresh k'

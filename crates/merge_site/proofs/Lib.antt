@@ -4,4 +4,5 @@ pub mod Lines
 pub mod Opened
 pub mod Placed
 pub mod Reading
+pub mod Staged
 pub mod Stood

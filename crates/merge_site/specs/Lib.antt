@@ -1,3 +1,4 @@
 pub mod Happened
 pub mod Quiet
 pub mod Site
+pub mod Staging

@@ -1,4 +1,5 @@
 use merge_core::Refusal;
+use owner_book::ImageBad;
 use std::alloc::AllocError;
 use thiserror::Error;
 
@@ -40,4 +41,17 @@ impl SiteFault {
             _ => SiteFault::Memory,
         }
     }
+}
+
+/// Why an entry wasn't staged.
+#[derive(Debug, Drop, Error)]
+pub enum StageFault {
+    #[error("the device failed")]
+    Device,
+    #[error(transparent)]
+    Image(ImageBad),
+    #[error("too many entries")]
+    Limit,
+    #[error("out of memory")]
+    Memory,
 }

@@ -31,13 +31,14 @@ mod open;
 mod reads;
 mod records;
 mod site;
+mod staging;
 mod steps;
 
 pub use calls::{
     close_gate, open_gate, place_path, put_record, put_stage, put_token, quiet_events, remove_path,
     sync_group,
 };
-pub use fault::SiteFault;
+pub use fault::{SiteFault, StageFault};
 pub use group::SiteGroup;
 pub use history::{Happened, What};
 pub use site::Site;

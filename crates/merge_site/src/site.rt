@@ -1,9 +1,15 @@
-ghost use Rattle.std.specs.Prelude.{◌≡◌, ◌<◌, ◌≤◌, ◌^◌, ◌++◌, ◌∷◌, ◌+◌, [], ℕ, true, IfOk, IfErr, IsTrue, length};
+ghost use Rattle.std.specs.Prelude.{◌≡◌, ◌<◌, ◌≤◌, ◌^◌, ◌++◌, ◌∷◌, ◌+◌, [], ℕ, true, false};
+ghost use Rattle.std.specs.Prelude.{Ok, Some, IfOk, IfErr, IsTrue, OnErr, OnOk, length};
+ghost use Rattle.file_tree.specs.Disk.{CountsFault};
 ghost use Rattle.file_tree.specs.Thing.{plain};
+ghost use Rattle.merge_record.specs.Judging.{IsStaged};
+ghost use Rattle.merge_record.specs.Names.{stage_path};
 ghost use Rattle.merge_record.specs.Spelling.{Fits, spelling};
-ghost use Rattle.merge_core.specs.Event.{Admits, Claim, PutRecord, answered, put_content};
+ghost use Rattle.merge_core.specs.Core.{standing_in};
+ghost use Rattle.merge_core.specs.Event.{Admits, Claim, PutRecord, PutStage, answered, put_content};
 ghost use Rattle.merge_core.specs.Keeping.{machine_of};
 ghost use Rattle.merge_core.specs.Payloads.{IsApart, IsAt};
+ghost use Rattle.merge_core.specs.Site.{Performs};
 ghost use Rattle.merge_core.specs.Steps.{IsTaken, event_of};
 
 use crate::group::SiteGroup;
@@ -11,8 +17,9 @@ use crate::history::Happened;
 use crate::job::Job;
 use file_tree::{Object, Path, Sink, Tree};
 use http_server::Log;
-use merge_core::{Core, Phase, Step};
-use std::alloc::Global;
+use merge_core::{Core, Phase, Refusal, Step};
+use merge_record::Placement;
+use std::alloc::{AllocError, Global};
 use std::marker::Model;
 use std::snapshot::Snapshot;
 
@@ -110,4 +117,45 @@ pub(crate) fn enter_record(
     let event = Happened::record(group, &removals);
     core.take_record(group, removals, body, ok);
     *log = log.and(&event, &ok);
+}
+
+/// Puts the object as the group's next stage, takes that into the machine and the log, and tells
+/// whether the device did. Where memory runs out, nothing is done.
+pub(crate) fn enter_stage<T: Tree>(
+    tree: &mut T,
+    core: &mut Core,
+    log: &mut Log<Happened, bool>,
+    group: u32,
+    place: &Path,
+    placement: Placement,
+    object: &Object,
+) -> Result<bool, AllocError>
+    requires at { IsAt core.old group Phase.Building }
+    requires room { length (standing_in core.old.standings group).objects < 2 ^ 32 }
+    requires staged { IsStaged (Some object.now) placement }
+    requires place { place.now ≡
+        stage_path group (length (standing_in core.old.standings group).objects) }
+    ensures admitted { OnOk result (Admits (machine_of core.old)
+        (PutStage group placement object.now)) }
+    ensures machine { IfOk result (λ ok. machine_of core.new ≡
+        answered (machine_of core.old) (PutStage group placement object.now) ok) }
+    ensures groups { length core.new.standings ≡ length core.old.standings }
+    ensures log { IfOk result (λ ok. log.new.items ≡
+        log.old.items ++ (PutStage group placement object.now, ok) ∷ []) }
+    ensures performs { IsTrue T.tells → IfOk result (λ ok. Performs (machine_of core.old)
+        (PutStage group placement object.now) ok (T.story tree.old) (T.story tree.new)) }
+    ensures kept { OnErr result (core.new ≡ core.old) }
+    ensures none { OnErr result (log.new.items ≡ log.old.items) }
+    ensures same { IsTrue T.tells → OnErr result (T.story tree.new ≡ T.story tree.old) }
+    ensures faults { CountsFault (result ≡ Ok false) (T.faults tree.old) (T.faults tree.new) }
+{
+    let event = Happened::stage(group, &placement, object);
+    match core.stage_on(tree, group, place, placement, object) {
+        Ok(ok) => {
+            *log = log.and(&event, &ok);
+            Ok(ok)
+        }
+        Err(Refusal::Memory) => Err(AllocError),
+        Err(_) => unreachable!(),
+    }
 }

@@ -1,0 +1,89 @@
+ghost use Rattle.std.specs.Prelude.{◌≡◌, ◌<◌, ◌≤◌, true, false, Some, IfErr, IsErrOf, IsTrue, OnErr};
+ghost use Rattle.std.specs.Prelude.{OnOk, length, slice_get};
+ghost use Rattle.file_tree.specs.Disk.{CountsFault};
+ghost use Rattle.merge_core.specs.Event.{PutStage};
+ghost use Rattle.merge_core.specs.Payloads.{IsAt};
+ghost use Rattle.merge_site.specs.Site.{Adds, KeepsHistory, Payload};
+ghost use Rattle.merge_site.specs.Staging.{HasMore, HasPast, IsStageFault, MayStage};
+ghost use Rattle.merge_site.specs.Staging.{placement_of};
+
+use crate::fault::StageFault;
+use crate::job::Job;
+use crate::site::{Site, enter_stage};
+use file_tree::{Entry, Object, Path, Sink, Tree};
+use image_fit::{bad_by, is_good};
+use merge_core::Phase;
+use merge_record::{MOST_GROUP_PATHS, Placement, digest_of};
+use std::alloc::{AllocError, Global};
+
+/// How a record tells the object that a path is to hold.
+fn placement_of(path: Path, object: &Object) -> Placement
+    ensures { result ≡ placement_of (record { path = path; object = object.now }) }
+{
+    Placement {
+        path,
+        kind: object.kind,
+        length: object.bytes.len() as u64,
+        md5: digest_of(&object.bytes),
+    }
+}
+
+/// Makes the path of a group's stage with this index, unless there is one.
+fn make_place(jobs: &mut Vec<Job>, alloc: Global, group: u32, index: u32) -> Result<(), AllocError>
+    requires there { group < length jobs.old.items }
+    requires next { (p : Payload) → slice_get jobs.old.items group ≡ Some p → index ≤ p.staged }
+    ensures made { OnOk result (HasPast jobs.new.items group index) }
+    ensures more { HasMore jobs.old.items jobs.new.items }
+{
+    jobs[group as usize].make_stage(alloc, index)
+}
+
+impl<T: Tree, S: Sink> Site<T, S> {
+    /// Puts the object of an entry as the group's next stage. A rule that refuses the entry is told
+    /// before the device is asked; then, and where memory runs out, no event came.
+    pub fn stage(&mut self, group: u32, entry: Entry) -> Result<(), StageFault>
+        requires at { IsAt self.old.keeping group Phase.Building }
+        ensures ok { OnOk result
+            (Adds self.old self.new (PutStage group (placement_of entry) entry.object) true) }
+        ensures failed { IsErrOf result StageFault.Device →
+            Adds self.old self.new (PutStage group (placement_of entry) entry.object) false }
+        ensures taken { OnOk result (MayStage self.old.keeping group entry) }
+        ensures refused { IfErr result (IsStageFault self.old.keeping group entry) }
+        ensures kept { ¬ IsErrOf result StageFault.Device →
+            OnErr result (KeepsHistory self.old self.new) }
+        ensures same { IsTrue T.tells → ¬ IsErrOf result StageFault.Device →
+            OnErr result (T.story self.new.tree ≡ T.story self.old.tree) }
+        ensures sink { self.new.sink ≡ self.old.sink }
+        ensures faults { CountsFault (IsErrOf result StageFault.Device) (T.faults self.old.tree)
+            (T.faults self.new.tree) }
+    {
+        if !is_good(&entry) {
+            let bad = bad_by(entry.object.kind, entry.path);
+            return Err(StageFault::Image(bad));
+        }
+        let staged = self.core.staged(group);
+        if staged >= MOST_GROUP_PATHS {
+            return Err(StageFault::Limit);
+        }
+        if make_place(&mut self.jobs, self.alloc, group, staged as u32).is_err() {
+            return Err(StageFault::Memory);
+        }
+        let place = self.jobs[group as usize].stage(staged);
+        let Entry { path, object } = entry;
+        let placement = placement_of(path, &object);
+        let answer = enter_stage(
+            &mut self.tree,
+            &mut self.core,
+            &mut self.log,
+            group,
+            place,
+            placement,
+            &object,
+        );
+        match answer {
+            Ok(true) => Ok(()),
+            Ok(false) => Err(StageFault::Device),
+            Err(_) => Err(StageFault::Memory),
+        }
+    }
+}
