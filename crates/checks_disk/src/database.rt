@@ -5,8 +5,17 @@ use std::alloc::{AllocError, Global};
 use std::test::Fail;
 use vdb_text::record_files;
 
-/// The files of the record of `c/p-1` in slot `0/2` with one file of these bytes, a line each.
-fn record(alloc: Global, bytes: &[u8]) -> Result<String, Fail> {
+fn entry(alloc: Global, path: &str, kind: Kind, bytes: &[u8]) -> Result<Entry, Fail> {
+    let path = Path::parse(alloc, path)?;
+    let bytes = Vec::from_slice(alloc, bytes)?;
+    Ok(Entry {
+        path,
+        object: Object { kind, bytes },
+    })
+}
+
+/// The files of the record of `c/p-1` in slot `0/2` with this image, a line each.
+fn record(alloc: Global, image: &[Entry]) -> Result<String, Fail> {
     let facts = Facts {
         id: PackageId::parse(alloc, "c", "p-1")?,
         slot: SlotName::parse(alloc, "0")?,
@@ -14,12 +23,7 @@ fn record(alloc: Global, bytes: &[u8]) -> Result<String, Fail> {
         iuse: Flags::new(alloc),
         enabled: Flags::new(alloc),
     };
-    let object = Object {
-        kind: Kind::Plain,
-        bytes: Vec::from_slice(alloc, bytes)?,
-    };
-    let path = Path::parse(alloc, "usr/bin/p")?;
-    let files = record_files(alloc, &facts, &Entry { path, object })?;
+    let files = record_files(alloc, &facts, image)?;
     Ok(lines(alloc, &files)?)
 }
 
@@ -37,11 +41,22 @@ fn lines(alloc: Global, files: &[Entry]) -> Result<String, AllocError> {
 
 #[test]
 fn the_files_of_a_record(rt: HostRuntime) -> Result<(), Fail> {
-    // The digest of `abc` is one of RFC 1321's.
+    let alloc = rt.alloc();
+    let link = entry(alloc, "usr/lib/p.so", Kind::Link, b"a -> b")?;
+    let plain = entry(alloc, "usr/lib-p", Kind::Plain, b"")?;
+    let program = entry(alloc, "usr/bin/p", Kind::Exec, b"abc")?;
+    let image = vec![in alloc; link, plain, program]?;
+    // The digests of `abc` and of nothing are RFC 1321's.
     let wanted = "var/db/pkg/c/p-1/CONTENTS obj /usr/bin/p 900150983cd24fb0d6963f7d28e17f72 0
+obj /usr/lib-p d41d8cd98f00b204e9800998ecf8427e 0
+sym /usr/lib/p.so -> a -> b 0
 var/db/pkg/c/p-1/EAPI 8
 var/db/pkg/c/p-1/SLOT 0/2
 ";
-    assert_eq!(rt; record(rt.alloc(), b"abc")?.as_str(), wanted);
+    assert_eq!(rt; record(alloc, &image)?.as_str(), wanted);
+    let nothing = "var/db/pkg/c/p-1/CONTENTS var/db/pkg/c/p-1/EAPI 8
+var/db/pkg/c/p-1/SLOT 0/2
+";
+    assert_eq!(rt; record(alloc, &[])?.as_str(), nothing);
     Ok(())
 }

@@ -1,5 +1,8 @@
 pub mod Alone
+pub mod Arrows
+pub mod Ended
 pub mod Installed
 pub mod Lines
 pub mod Packages
+pub mod Rising
 pub mod Slots

@@ -1,4 +1,4 @@
--- A line of CONTENTS has one path and one digest.
+-- A line of CONTENTS for a file has one path and one digest.
 use Rattle.std.proofs.Common.{◌≡◌, ◌∙◌, ◌-◌, ◌&&◌, ℕ, suc, Bool, true, false, MatchBool, MatchOption, Option, Some, None, List, [], ◌∷◌, ◌++◌, length, take, drop, get_or, refl, ap, sym, arith, append_assoc, subst}
 use Rattle.std.proofs.lemmas.List.{append_cancel_left, append_cancel_right, drop_at, length-append, take-append-drop, take_at}
 use Rattle.std.proofs.Math.Seq.{take-length}
@@ -6,8 +6,8 @@ use Rattle.std.specs.List.{list_all}
 use Rattle.std.specs.Option.{is_some}
 use Rattle.std.specs.Str.{is_utf8}
 use Rattle.file_tree.specs.Paths.{is_path}
-use Rattle.vdb_text.specs.Database.{IsContents, is_hex}
-use Rattle.vdb_text.specs.Files.{obj_line}
+use Rattle.vdb_text.specs.Contents.{is_hex, obj_line}
+use Rattle.vdb_text.specs.Cuts.{IsFileLine}
 
 abbrev pub start : List ℕ
 start = 111 ∷ 98 ∷ 106 ∷ 32 ∷ 47 ∷ []
@@ -59,18 +59,18 @@ whole_rest (x ∷ xs) =
 pub glued : (k : ℕ) (xs a b : List ℕ) → a ≡ take k xs → b ≡ drop k xs → xs ≡ a ++ b
 glued k xs a b front back = sym (take-append-drop k xs) ∙ (ap (λ (l : List ℕ). l ++ drop k xs) (sym front) ∙ ap (λ (l : List ℕ). a ++ l) (sym back))
 
-pub not_if_no_hex : (text p d : List ℕ) → length d ≡ 32 → text ≡ obj_line p d → list_all is_hex d ≡ false → IsContents text → ⊥
+pub not_if_no_hex : (text p d : List ℕ) → length d ≡ 32 → text ≡ obj_line p d → list_all is_hex d ≡ false → IsFileLine text → ⊥
 not_if_no_hex text p d long line none is =
-    let same = same_line p is.path d is.digest long is.long (sym line ∙ is.line) in
-    cc (ap (list_all is_hex) same.1, none, is.hex)
+    let same = same_line p is.0 d is.1 long is.2.1 (sym line ∙ is.3) in
+    cc (ap (list_all is_hex) same.1, none, is.2.2)
 
-pub contents_if_found : (text p d : List ℕ) (found : Option (List ℕ)) (b : Bool) → length d ≡ 32 → text ≡ obj_line p d → list_all is_hex d ≡ true
+pub file_line_if_found : (text p d : List ℕ) (found : Option (List ℕ)) (b : Bool) → length d ≡ 32 → text ≡ obj_line p d → list_all is_hex d ≡ true
     → MatchOption found (is_utf8 p && is_path p ≡ false) (λ x. (x ≡ p) × (is_utf8 p && is_path p ≡ true)) → b ≡ is_some found
-    → MatchBool b (IsContents text) (IsContents text → ⊥)
-contents_if_found text p d None b long line hex found some =
-    subst (λ (x : Bool). MatchBool x (IsContents text) (IsContents text → ⊥)) (sym some)
-    (λ (is : IsContents text).
-    let same = same_line p is.path d is.digest long is.long (sym line ∙ is.line) in
-    cc (ap (λ (x : List ℕ). is_utf8 x && is_path x) same.0, found, is.spelled))
-contents_if_found text p d (Some x) b long line hex found some =
-    subst (λ (y : Bool). MatchBool y (IsContents text) (IsContents text → ⊥)) (sym some) (record { path = p; digest = d; line = line; spelled = found.1; long = long; hex = hex })
+    → MatchBool b (IsFileLine text) (IsFileLine text → ⊥)
+file_line_if_found text p d None b long line hex found some =
+    subst (λ (x : Bool). MatchBool x (IsFileLine text) (IsFileLine text → ⊥)) (sym some)
+    (λ (is : IsFileLine text).
+    let same = same_line p is.0 d is.1 long is.2.1 (sym line ∙ is.3) in
+    cc (ap (λ (x : List ℕ). is_utf8 x && is_path x) same.0, found, is.2.0))
+file_line_if_found text p d (Some x) b long line hex found some =
+    subst (λ (y : Bool). MatchBool y (IsFileLine text) (IsFileLine text → ⊥)) (sym some) (p, d, (found.1, long, hex), line)

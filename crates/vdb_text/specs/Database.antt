@@ -1,33 +1,18 @@
--- When one package, with one plain file, is all that the database of installed packages has.
-use Rattle.std.specs.Prelude.{◌≡◌, ◌⊎◌, ◌&&◌, ◌||◌, ℕ, Bool, true, List, [], ◌∷◌, ◌++◌, Option, Some, codes, length, nat_le, IsSome}
-use Rattle.std.specs.List.{list_all}
-use Rattle.basics.specs.Bytes.{is_digit}
+-- When one package is all that the database of installed packages has.
+use Rattle.std.specs.Prelude.{◌≡◌, ◌⊎◌, ℕ, true, List, [], ◌∷◌, ◌++◌, Option, Some, codes, IsSome}
 use Rattle.file_tree.specs.Disk.{HasBelow, Map}
 use Rattle.file_tree.specs.Paths.{is_below}
 use Rattle.file_tree.specs.Thing.{Thing, plain}
-use Rattle.merge_record.specs.Spelling.{IsPathText}
 use Rattle.dep_atom.specs.Ids.{IsId}
 use Rattle.dep_atom.specs.declared.package.Facts.{Facts}
 use Rattle.dep_atom.specs.declared.package.PackageId.{PackageId}
 use Rattle.slot_value.specs.Slots.{IsSlotValue}
-use Rattle.vdb_text.specs.Files.{database_path, eapi_text, obj_line, record_path}
+use Rattle.vdb_text.specs.Contents.{IsContents}
+use Rattle.vdb_text.specs.Files.{database_path, eapi_text, record_path}
 use Rattle.vdb_text.specs.declared.database.Database.{Database}
 use Rattle.vdb_text.specs.declared.database.Database.TheVariants.{Nothing, One, Other}
 
--- a hex digit in lower case
-abbrev pub is_hex : ℕ → Bool
-is_hex b = is_digit b || (nat_le 97 b && nat_le b 102)
-
--- one line for a plain file, with the time 0
-pub record IsContents (text : List ℕ) : Type 0 where
-  pub path : List ℕ
-  pub digest : List ℕ
-  pub line : text ≡ obj_line path digest
-  pub spelled : IsPathText path
-  pub long : length digest ≡ 32
-  pub hex : list_all is_hex digest ≡ true
-
--- an object is a plain file of such a line
+-- an object is a plain file of lines for files and links
 pub record HasContents (x : Option Thing) : Type 0 where
   pub text : List ℕ
   pub there : x ≡ Some (plain text)

@@ -1,3 +1,5 @@
+pub mod Contents
+pub mod Cuts
 pub mod Database
 pub mod Files
 pub mod Record

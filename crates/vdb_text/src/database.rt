@@ -16,7 +16,7 @@ use std::alloc::{AllocError, Global};
 #[derive(Debug, Drop)]
 pub enum Database {
     Nothing,
-    /// Just this package, with one plain file.
+    /// Just this package.
     One(Facts),
     /// Anything else.
     Other,

@@ -1,12 +1,12 @@
 ghost use Rattle.std.specs.Prelude.{◌≡◌, ◌++◌, ◌∷◌, [], IfOk, string_bytes};
 ghost use Rattle.file_tree.specs.Thing.{plain};
 ghost use Rattle.slot_value.specs.Slots.{slot_text};
-ghost use Rattle.vdb_text.specs.Files.{contents_text, database_path, record_file, record_files};
+ghost use Rattle.vdb_text.specs.Files.{AreRecordOf, database_path, record_file, record_files};
 ghost use Rattle.vdb_text.specs.Files.{record_path};
 
+use crate::written::text_of_contents;
 use dep_atom::{Facts, PackageId};
 use file_tree::{Entry, Kind, Object, Path};
-use md5::{Digest, Md5};
 use slot_value::print_slots;
 use std::alloc::{AllocError, Global};
 
@@ -38,11 +38,15 @@ pub(crate) fn path_of_record(alloc: Global, id: &PackageId, name: &str) -> Resul
     path_of(alloc, text.as_str())
 }
 
-fn record_file(alloc: Global, id: &PackageId, name: &str, text: &str) -> Result<Entry, AllocError>
-    ensures { IfOk result (λ e. e ≡ record_file id.now name.now text.now) }
+fn record_file(
+    alloc: Global,
+    id: &PackageId,
+    name: &str,
+    bytes: Vec<u8>,
+) -> Result<Entry, AllocError>
+    ensures { IfOk result (λ e. e ≡ record_file id.now name.now bytes.items) }
 {
     let path = path_of_record(alloc, id, name)?;
-    let bytes = Vec::from_slice(alloc, text.as_bytes())?;
     Ok(Entry {
         path,
         object: Object {
@@ -50,17 +54,6 @@ fn record_file(alloc: Global, id: &PackageId, name: &str, text: &str) -> Result<
             bytes,
         },
     })
-}
-
-/// The text of CONTENTS for a package of this one file.
-#[tactic(auto, unfolding(crate::specs::Files::contents_text))]
-fn text_of_contents(alloc: Global, entry: &Entry) -> Result<String, AllocError>
-    ensures { IfOk result (λ t. string_bytes t ≡ contents_text entry.now) }
-{
-    let digest = Md5::digest(entry.object.bytes.as_slice());
-    let hex = hex::encode(alloc, digest.as_slice())?;
-    let path = entry.path.text();
-    format!(in alloc; "obj /{path} {hex} 0\n")
 }
 
 /// The text of SLOT.
@@ -72,15 +65,16 @@ fn text_of_slots(alloc: Global, facts: &Facts) -> Result<String, AllocError>
     format!(in alloc; "{slots}\n")
 }
 
-/// The files of the record of a package whose image is this one file, in the order in which they
-/// are put.
-pub fn record_files(alloc: Global, facts: &Facts, entry: &Entry) -> Result<Vec<Entry>, AllocError>
-    ensures { IfOk result (λ v. v.items ≡ record_files facts.now entry.now) }
+/// The files of the record of a package with this image, in the order in which they are put.
+pub fn record_files(alloc: Global, facts: &Facts, image: &[Entry]) -> Result<Vec<Entry>, AllocError>
+    ensures { IfOk result (λ v. AreRecordOf facts.now image.now v.items) }
 {
-    let contents = text_of_contents(alloc, entry)?;
-    let contents = record_file(alloc, &facts.id, "CONTENTS", contents.as_str())?;
-    let eapi = record_file(alloc, &facts.id, "EAPI", EAPI_TEXT)?;
+    let contents = text_of_contents(alloc, image)?;
+    let contents = record_file(alloc, &facts.id, "CONTENTS", contents)?;
+    let eapi = Vec::from_slice(alloc, EAPI_TEXT.as_bytes())?;
+    let eapi = record_file(alloc, &facts.id, "EAPI", eapi)?;
     let slots = text_of_slots(alloc, facts)?;
-    let slot = record_file(alloc, &facts.id, "SLOT", slots.as_str())?;
+    let slots = Vec::from_slice(alloc, slots.as_bytes())?;
+    let slot = record_file(alloc, &facts.id, "SLOT", slots)?;
     Ok(vec![in alloc; contents, eapi, slot]?)
 }

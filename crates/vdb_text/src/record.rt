@@ -75,7 +75,7 @@ fn is_plain(object: &Object, text: &str) -> bool
     object.kind == Kind::Plain && object.bytes.as_slice() == text.as_bytes()
 }
 
-/// Whether a path holds one line of CONTENTS with the time 0.
+/// Whether a path holds a CONTENTS in form.
 fn holds_contents<T: Tree>(alloc: Global, tree: &mut T, path: &Path) -> Result<bool, TreeFault>
     ensures holds { IsTrue T.tells → IfOk result
         (λ b. MatchBool b (HasContents ((T.story tree.old).now.holds path.now))

@@ -2,7 +2,7 @@ use Rattle.std.proofs.Common.{◌≡◌, ◌++◌, ◌∷◌, None, Some, arith,
 use Rattle.std.proofs.lemmas.Bool.Decides.{Decides-eqb}
 use Rattle.std.proofs.lemmas.Slice.Eq.{strip_prefix_is, strip_suffix_is}
 use Rattle.vdb_text.proofs.Lines.{between_ends, ending, first_of_tail, glued, line_if_split, middle_is, start, whole_rest}
-use Rattle.vdb_text.proofs.contents.line_parts.Goals as goal
+use Rattle.vdb_text.proofs.contents.file_parts.Goals as goal
 
 pub returns-in_default-strip_suffix : goal.returns-in_default-strip_suffix
 returns-in_default-strip_suffix c p d long line =

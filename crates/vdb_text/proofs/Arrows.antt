@@ -1,0 +1,119 @@
+-- A line of CONTENTS for a link has one path and one target, since no path has an arrow.
+use Rattle.std.proofs.Common.{◌≡◌, ◌∙◌, ◌&&◌, ◌||◌, ◌<◌, ◌≤◌, ◌+◌, ℕ, Bool, true, false, MatchBool, MatchOption, Option, Some, None, List, [], ◌∷◌, ◌++◌, length, drop, get_or, refl, ap, sym, arith, append_assoc, subst, inl, inr}
+use Rattle.std.proofs.lemmas.Bool.{cases_lt}
+use Rattle.std.proofs.lemmas.List.{append_cancel_left, append_cancel_right, drop_at, length-append}
+use Rattle.std.specs.Option.{is_some}
+use Rattle.std.specs.Str.{is_utf8}
+use Rattle.std.proofs.lemmas.Bool.{and_parts}
+use Rattle.file_tree.specs.Paths.{bad_char_at, bad_part_at, begins_badly, is_path}
+use Rattle.file_tree.proofs.Grammar.{form_of_path}
+use Rattle.link_target.specs.Targets.{is_target}
+use Rattle.merge_record.specs.Spelling.{IsPathText}
+use Rattle.vdb_text.specs.Contents.{sym_line}
+use Rattle.vdb_text.specs.Cuts.{IsLinkLine, LacksArrow}
+
+abbrev pub start : List ℕ
+start = 115 ∷ 121 ∷ 109 ∷ 32 ∷ 47 ∷ []
+
+abbrev pub ending : List ℕ
+ending = 32 ∷ 48 ∷ 10 ∷ []
+
+lacks_tail : (x : ℕ) (p : List ℕ) → LacksArrow (x ∷ p) → LacksArrow p
+lacks_tail x p none a r e = none (x ∷ a) r (ap (λ (l : List ℕ). x ∷ l) e)
+
+-- no arrow begins in a text and ends with another one's first bytes
+none_across : (x : ℕ) (q t u : List ℕ) → LacksArrow (x ∷ q) → 32 ∷ 45 ∷ 62 ∷ t ≡ x ∷ (q ++ 32 ∷ 45 ∷ 62 ∷ u) → ⊥
+none_across x [] t u none e = let f : 45 ≡ 32 = ap (λ (l : List ℕ). get_or l 1 0) e in absurd (omega (arith, f))
+none_across x (y ∷ []) t u none e = let f : 62 ≡ 32 = ap (λ (l : List ℕ). get_or l 2 0) e in absurd (omega (arith, f))
+none_across x (y ∷ z ∷ q) t u none e =
+    let a : 32 ≡ x = ap (λ (l : List ℕ). get_or l 0 0) e in
+    let b : 45 ≡ y = ap (λ (l : List ℕ). get_or l 1 0) e in
+    let c : 62 ≡ z = ap (λ (l : List ℕ). get_or l 2 0) e in
+    none [] q (ap (λ (n : ℕ). n ∷ y ∷ z ∷ q) (sym a) ∙ (ap (λ (n : ℕ). 32 ∷ n ∷ z ∷ q) (sym b) ∙ ap (λ (n : ℕ). 32 ∷ 45 ∷ n ∷ q) (sym c)))
+
+-- what stands before the first arrow
+pub cut_arrow : (p q t u : List ℕ) → LacksArrow p → LacksArrow q → p ++ 32 ∷ 45 ∷ 62 ∷ t ≡ q ++ 32 ∷ 45 ∷ 62 ∷ u → (p ≡ q) × (t ≡ u)
+cut_arrow [] [] t u h k e = (refl, ap (drop 3) e)
+cut_arrow [] (x ∷ q) t u h k e = absurd (none_across x q t u k e)
+cut_arrow (x ∷ p) [] t u h k e = absurd (none_across x p u t h (sym e))
+cut_arrow (x ∷ p) (y ∷ q) t u h k e =
+    let rest = cut_arrow p q t u (lacks_tail x p h) (lacks_tail y q k) (ap (drop 1) e) in
+    let first : x ≡ y = ap (λ (l : List ℕ). get_or l 0 0) e in
+    (ap (λ (z : ℕ). z ∷ p) first ∙ ap (λ (l : List ℕ). y ∷ l) rest.0, rest.1)
+
+or_parts : (a b : Bool) → (a || b) ≡ false → (a ≡ false) × (b ≡ false)
+or_parts true b h = absurd (cc h)
+or_parts false b h = (refl, h)
+
+-- at no place of a path stand bytes that none has
+pub none_bad : (p : List ℕ) → IsPathText p → (k : ℕ) → k < length p → begins_badly (drop k p) ≡ false
+none_bad p is k lt =
+    let form = form_of_path p (and_parts (is_utf8 p) (is_path p) is).1 in
+    (or_parts (bad_part_at p k) (bad_char_at p k) (form.good k (omega (arith, lt)))).1
+
+pub path_lacks_arrow : (p : List ℕ) → IsPathText p → LacksArrow p
+path_lacks_arrow p is a r e =
+    let long : length a < length p = omega (arith, ap length e, length-append a (32 ∷ 45 ∷ 62 ∷ r)) in
+    let none : begins_badly (drop (length a) p) ≡ false = none_bad p is (length a) long in
+    let there : drop (length a) p ≡ 32 ∷ 45 ∷ 62 ∷ r = ap (drop (length a)) e ∙ drop_at a (32 ∷ 45 ∷ 62 ∷ r) (length a) refl in
+    let bad : begins_badly (32 ∷ 45 ∷ 62 ∷ r) ≡ true = refl in
+    cc (ap begins_badly there, bad, none)
+
+-- what stands between the beginning and the end of a line
+pub between_ends : (text rest p t : List ℕ) → text ≡ start ++ rest → text ≡ sym_line p t → rest ≡ (p ++ 32 ∷ 45 ∷ 62 ∷ 32 ∷ t) ++ ending
+between_ends text rest p t a b =
+    append_cancel_left start rest (p ++ 32 ∷ 45 ∷ 62 ∷ 32 ∷ (t ++ ending)) (sym a ∙ b) ∙ sym (append_assoc p (32 ∷ 45 ∷ 62 ∷ 32 ∷ t) ending)
+
+pub middle_is : (text rest middle p t : List ℕ) → text ≡ start ++ rest → rest ≡ middle ++ ending → text ≡ sym_line p t → middle ≡ p ++ 32 ∷ 45 ∷ 62 ∷ 32 ∷ t
+middle_is text rest middle p t a b c = append_cancel_right middle (p ++ 32 ∷ 45 ∷ 62 ∷ 32 ∷ t) ending (sym b ∙ between_ends text rest p t a c)
+
+-- a line, by its parts
+pub line_of_parts : (text rest middle p behind t : List ℕ) → text ≡ start ++ rest → rest ≡ middle ++ ending → middle ≡ p ++ 32 ∷ 45 ∷ 62 ∷ behind → behind ≡ 32 ∷ t → text ≡ sym_line p t
+line_of_parts text rest middle p behind t a b c d =
+    a ∙ ap (λ (l : List ℕ). start ++ l)
+    (b ∙ (ap (λ (l : List ℕ). l ++ ending) (c ∙ ap (λ (l : List ℕ). p ++ 32 ∷ 45 ∷ 62 ∷ l) d) ∙ append_assoc p (32 ∷ 45 ∷ 62 ∷ 32 ∷ t) ending))
+
+-- a line has one path and one target
+pub same_link : (p q t u : List ℕ) → LacksArrow p → LacksArrow q → sym_line p t ≡ sym_line q u → (p ≡ q) × (t ≡ u)
+same_link p q t u h k same =
+    let rest = append_cancel_left start (p ++ 32 ∷ 45 ∷ 62 ∷ 32 ∷ (t ++ ending)) (q ++ 32 ∷ 45 ∷ 62 ∷ 32 ∷ (u ++ ending)) same in
+    let both = cut_arrow p q (32 ∷ (t ++ ending)) (32 ∷ (u ++ ending)) h k rest in
+    (both.0, append_cancel_right t u ending (ap (drop 1) both.1))
+
+pub not_if_no_target : (text p t : List ℕ) → LacksArrow p → text ≡ sym_line p t → is_target t ≡ false → IsLinkLine text → ⊥
+not_if_no_target text p t lacks line none is =
+    let same = same_link p is.0 t is.1 lacks (path_lacks_arrow is.0 is.2.0) (sym line ∙ is.3) in
+    cc (ap is_target same.1, none, is.2.1)
+
+pub link_line_if_found : (text p t : List ℕ) (found : Option (List ℕ)) (b : Bool) → LacksArrow p → text ≡ sym_line p t → is_target t ≡ true
+    → MatchOption found (is_utf8 p && is_path p ≡ false) (λ x. (x ≡ p) × (is_utf8 p && is_path p ≡ true)) → b ≡ is_some found
+    → MatchBool b (IsLinkLine text) (IsLinkLine text → ⊥)
+link_line_if_found text p t None b lacks line target found some =
+    subst (λ (x : Bool). MatchBool x (IsLinkLine text) (IsLinkLine text → ⊥)) (sym some)
+    (λ (is : IsLinkLine text).
+    let same = same_link p is.0 t is.1 lacks (path_lacks_arrow is.0 is.2.0) (sym line ∙ is.3) in
+    cc (ap (λ (x : List ℕ). is_utf8 x && is_path x) same.0, found, is.2.0))
+link_line_if_found text p t (Some x) b lacks line target found some =
+    subst (λ (y : Bool). MatchBool y (IsLinkLine text) (IsLinkLine text → ⊥)) (sym some) (p, t, (found.1, target), line)
+
+-- no arrow begins before a place
+abbrev pub NoneBefore : List ℕ → ℕ → Type 0
+NoneBefore text at = (a r : List ℕ) → length a < at → text ≡ a ++ 32 ∷ 45 ∷ 62 ∷ r → ⊥
+
+pub none_at_first : (text : List ℕ) → NoneBefore text 0
+none_at_first text a r lt e = omega (arith, lt)
+
+pub none_more : (text back : List ℕ) (at : ℕ) → back ≡ drop at text → at ≤ length text → NoneBefore text at → ((r : List ℕ) → back ≡ 32 ∷ 45 ∷ 62 ∷ r → ⊥) → NoneBefore text (at + 1)
+none_more text back at is within none here a r lt e = elim (cases_lt (length a) at) [
+  | inl before ↦ none a r before e
+  | inr ge ↦ (let same : length a ≡ at = omega (arith, lt, ge) in here r (is ∙ ap (drop at) e ∙ drop_at a (32 ∷ 45 ∷ 62 ∷ r) at same))
+]
+
+-- a text lacks an arrow where none begins before its end
+pub lacks_whole : (text : List ℕ) → NoneBefore text (length text) → LacksArrow text
+lacks_whole text none a r e = none a r (omega (arith, ap length e, length-append a (32 ∷ 45 ∷ 62 ∷ r))) e
+
+pub lacks_front : (text front back : List ℕ) (at : ℕ) → text ≡ front ++ back → length front ≡ at → NoneBefore text at → LacksArrow front
+lacks_front text front back at is long none a r e =
+    none a (r ++ back) (omega (arith, ap length e, long, length-append a (32 ∷ 45 ∷ 62 ∷ r)))
+    (is ∙ ap (λ (l : List ℕ). l ++ back) e ∙ append_assoc a (32 ∷ 45 ∷ 62 ∷ r) back)
