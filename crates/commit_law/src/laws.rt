@@ -1,4 +1,5 @@
 ghost use Rattle.commit_law.specs.Commits.{CommitsLeaveSoundTrees};
+ghost use Rattle.commit_law.specs.Crashes.{CrashesRecoverSoundly};
 
 /// A law: the committed groups of an accepted plan leave a kept tree whose packages are consistent,
 /// wherever the run of groups stops.
@@ -7,4 +8,15 @@ pub fn commits_leave_sound_trees()
 {
     database_law::groups_keep_the_database();
     plan_law::accepted_plans_are_sound();
+}
+
+/// A law: while a machine merges the groups of an accepted plan, in any order of its events, a crash
+/// recovers to a kept tree whose packages are consistent, with each settled group in it.
+pub fn crashes_recover_soundly()
+    ensures { CrashesRecoverSoundly }
+{
+    merge_core::images_stand();
+    merge_core::committed_is_run();
+    merge_record::open_groups_rise();
+    commits_leave_sound_trees();
 }

@@ -1,0 +1,115 @@
+-- What a crash leaves while a plan is merged recovers to a sound tree.
+use Rattle.std.proofs.Common.{◌≡◌, ◌<◌, ℕ, Bool, true, false, cond, not, List, [], ◌∷◌, filter, length, map, inl, inr, refl, sym, ap, subst, arith, ◌∙◌}
+use Rattle.basics.specs.Members.{AreDistinct, Has}
+use Rattle.basics.proofs.Membership.{has-map, has-map_back}
+use Rattle.file_tree.specs.Disk.{Disk, IsImage, Map}
+use Rattle.file_tree.specs.Moments.{Leaves}
+use Rattle.merge_record.specs.Open.{IsRising, open_groups}
+use Rattle.merge_record.specs.Recovered.{IsRecovered}
+use Rattle.journal.specs.Group.{Group, applied, groups}
+use Rattle.journal.proofs.Forms.{groups_has}
+use Rattle.merge_core.specs.Order.{IsFirm, IsListed}
+use Rattle.merge_core.specs.Phase.{is_settled, was_opened}
+use Rattle.merge_core.specs.Roll.{Roll, Stands, committed, group_at, others, phase_at}
+use Rattle.merge_core.specs.Runs.{IsFollowing, IsRunFrom}
+use Rattle.merge_core.proofs.Images.{filter_has}
+use Rattle.database_law.specs.Step.{Change, groups_of}
+use Rattle.plan_law.specs.Plans as plans
+use Rattle.plan_law.proofs.Members.{distinct_joined, filtered}
+use Rattle.commit_law.specs.Commits.{CommitsLeaveSoundTrees}
+use Rattle.commit_law.specs.Crashes.{CrashesRecoverSoundly}
+
+abbrev number : Group → ℕ
+number x = x.content.group
+
+-- different elements with a number each have different numbers
+numbers_differ : (xs : List Group) → ((x y : Group) → Has xs x → Has xs y → number x ≡ number y → x ≡ y) → AreDistinct xs → AreDistinct (map number xs)
+numbers_differ [] one d = tt
+numbers_differ (x ∷ xs) one d = (
+  (λ h. let k = has-map_back number xs (number x) h in d.0 (subst (λ (z : Group). Has xs z) (one k.0 x (inr k.1) (inl refl) k.2) k.1)),
+  numbers_differ xs (λ a b ha hb. one a b (inr ha) (inr hb)) d.1,
+)
+
+numbers_of : (f : ℕ → Group) → ((n : ℕ) → number (f n) ≡ n) → (ns : List ℕ) → map number (groups f ns) ≡ ns
+numbers_of f own [] = refl
+numbers_of f own (n ∷ ns) = ap (λ (k : ℕ). k ∷ map number (groups f ns)) (own n) ∙ ap (λ (ks : List ℕ). n ∷ ks) (numbers_of f own ns)
+
+rising_differ : (ns : List ℕ) → IsRising ns → AreDistinct ns
+rising_differ [] rising = tt
+rising_differ (n ∷ ns) rising = ((λ h. let less = rising.0 n h in absurd (omega (arith, less))), rising_differ ns rising.1)
+
+kept_step : (b : Bool) (n : ℕ) (ns : List ℕ) → ¬ Has ns n → AreDistinct ns → AreDistinct (cond b (n ∷ ns) ns)
+kept_step true n ns none d = (none, d)
+kept_step false n ns none d = d
+
+kept_differ : (test : ℕ → Bool) (ns : List ℕ) → AreDistinct ns → AreDistinct (filter test ns)
+kept_differ test [] d = tt
+kept_differ test (n ∷ ns) d = kept_step (test n) n (filter test ns) (λ h. d.0 (filtered test ns n h).0) (kept_differ test ns d.1)
+
+module _ (r : Roll) (listed : IsListed r) (c : Map) (rising : IsRising (open_groups c)) where
+  one_each : (x y : Group) → Has r.order x → Has r.order y → number x ≡ number y → x ≡ y
+  one_each x y hx hy e = (listed.only x hx).1 ∙ ap (group_at r) e ∙ sym (listed.only y hy).1
+
+  apart : (x y : Group) → Has r.order x → Has (groups (group_at r) (others r c)) y → ¬ (number x ≡ number y)
+  apart x y hx hy e =
+      let k = groups_has (group_at r) (others r c) y hy in
+      let open_one = filter_has (λ g. not (is_settled (phase_at r g))) (open_groups c) k.0 k.1 in
+      let settled = (listed.only x hx).0 in
+      let same : number x ≡ k.0 = e ∙ ap number k.2 in
+      let turned : not (is_settled (phase_at r k.0)) ≡ false = ap not (ap (λ (g : ℕ). is_settled (phase_at r g)) (sym same) ∙ settled) in
+      absurd (cc (turned, open_one.1))
+
+  -- each committed group has a number of its own
+  pub committed_differ : AreDistinct (map number (committed r c))
+  committed_differ = distinct_joined number r.order (groups (group_at r) (others r c))
+      (numbers_differ r.order one_each listed.distinct)
+      (subst (λ (ns : List ℕ). AreDistinct ns) (sym (numbers_of (group_at r) (λ n. refl) (others r c)))
+      (kept_differ (λ g. not (is_settled (phase_at r g))) (open_groups c) (rising_differ (open_groups c) rising)))
+      apart
+
+module _ (plan : List plans.Group) where
+  goes_on : (xs : List Group) (there : List ℕ) → IsRunFrom (λ g. (plans.group_at plan g).after) there xs → AreDistinct (map number xs)
+      → ((x : Group) → Has xs x → ¬ Has there (number x)) → ((x : Group) → Has xs x → number x < length plan) → plans.GoesOn plan there (map number xs)
+  goes_on [] there run d new within = tt
+  goes_on (x ∷ xs) there run d new within = (
+    within x (inl refl),
+    new x (inl refl),
+    run.0,
+    goes_on xs (number x ∷ there) run.1 d.1
+        (λ y hy h. elim h [
+          | inl e ↦ d.0 (subst (λ (n : ℕ). Has (map number xs) n) (sym e) (has-map number xs y hy))
+          | inr old ↦ new y (inr hy) old
+        ])
+        (λ y hy. within y (inr hy)),
+  )
+
+  -- the changes of the committed groups do just these
+  does_these : (change : ℕ → Change) (xs : List Group) → ((x : Group) → Has xs x → (change (number x)).does ≡ x) → groups_of (map change (map number xs)) ≡ xs
+  does_these change [] same = refl
+  does_these change (x ∷ xs) same =
+      ap (λ (y : Group). y ∷ groups_of (map change (map number xs))) (same x (inl refl)) ∙ ap (λ (ys : List Group). x ∷ ys) (does_these change xs (λ y hy. same y (inr hy)))
+
+pub crashes_recover_soundly :
+    ((opening : Map) (r : Roll) (d : Disk) → IsFirm opening r d → IsListed r → Leaves (Stands opening r) d)
+    → ((opening : Map) (after : ℕ → List ℕ) (r : Roll) (d : Disk) (c : Map) → IsFirm opening r d → IsListed r → IsFollowing after r → IsImage d c → IsRunFrom after [] (committed r c))
+    → ((c : Map) → IsRising (open_groups c))
+    → CommitsLeaveSoundTrees
+    → CrashesRecoverSoundly
+crashes_recover_soundly stand runs rise commits plan change opening ps r d c planned firm listed merges steps image =
+    let stands = stand opening r d firm listed c image in
+    let within : (x : Group) → Has (committed r c) x → number x < length plan = λ x h. merges.there (number x) (stands.opened x h).0 in
+    let run : List ℕ = map number (committed r c) in
+    let is_run : plans.IsRun plan run = goes_on plan (committed r c) [] (runs opening (λ g. (plans.group_at plan g).after) r d c firm listed merges.follows image) (committed_differ r listed c (rise c)) (λ x h none. none) within in
+    let same : (x : Group) → Has (committed r c) x → (change (number x)).does ≡ x = λ x h. merges.does (number x) (stands.opened x h).0 ∙ sym (stands.opened x h).1 in
+    let opened : (g : ℕ) → Has run g → was_opened (phase_at r g) ≡ true = λ g h. (let k = has-map_back number (committed r c) g h in subst (λ (n : ℕ). was_opened (phase_at r n) ≡ true) k.2 (stands.opened k.0 k.1).0) in
+    let went = steps run is_run opened in
+    let whole : groups_of (map change run) ≡ committed r c = does_these plan change (committed r c) same in
+    record {
+      run = run;
+      is_run = is_run;
+      settled = λ g e. has-map number (committed r c) (group_at r g) (stands.settled g e);
+      opened = opened;
+      recovers = subst (λ (gs : List Group). IsRecovered c (applied opening gs)) (sym whole) stands.recovers;
+      database = went.0;
+      sound = commits plan change opening ps went.0 run planned.earlier planned.accepted planned.changes planned.database planned.kept is_run went.1;
+    }
