@@ -1,0 +1,76 @@
+-- Where dependencies hold among some packages and not among others, some leaf tells why.
+use Rattle.std.proofs.Common.{◌≡◌, ◌⊎◌, ◌||◌, ◌&&◌, ◌+◌, ◌++◌, ℕ, Bool, true, false, cond, not, nat_lt, List, [], None, Some, inl, inr, refl, subst, arith}
+use Rattle.std.proofs.lemmas.Bool.{and_cases, and_parts}
+use Rattle.basics.specs.Members.{Has}
+use Rattle.basics.proofs.Membership.{has-append_left, has-append_right}
+use Rattle.dep_atom.specs.Values.{AtomValue}
+use Rattle.dep_group.specs.Trees.{Tree, Trees, all_hold, all_leaves, group, holds, is_member, is_met, leaf, leaves, no_trees, tree, true_members}
+use Rattle.dep_group.specs.declared.token.Opener.{Opener}
+use Rattle.dep_group.specs.declared.token.Opener.TheVariants.{AnyOf, AtMostOne, ExactlyOne, When}
+use Rattle.dep_tree.specs.Truth.{kind}
+use Rattle.choice_law.specs.Laws.{CountNothing, CountsNothing}
+
+module _ (on : List ℕ → Bool) (good bad : AtomValue → Bool) where
+  -- a leaf of these holds by the first and not by the second
+  abbrev pub Tells : List AtomValue → Type 0
+  Tells found = (a : AtomValue) × Has found a × (good a ≡ true) × (bad a ≡ false)
+
+  first_tells : (xs ys : List AtomValue) → Tells xs → Tells (xs ++ ys)
+  first_tells xs ys t = (t.0, has-append_left xs ys t.0 t.1, t.2, t.3)
+
+  later_tells : (xs ys : List AtomValue) → Tells ys → Tells (xs ++ ys)
+  later_tells xs ys t = (t.0, has-append_right xs ys t.0 t.1, t.2, t.3)
+
+  none_more : (b : Bool) (n : ℕ) → nat_lt 0 (cond b 1 0 + n) ≡ false → (b ≡ false) × (nat_lt 0 n ≡ false)
+  none_more true n e = absurd (let some : nat_lt 0 (1 + n) ≡ true = grind arith in cc (e, some))
+  none_more false n e = (refl, (let same : 0 + n ≡ n = omega arith in subst (λ (k : ℕ). nat_lt 0 k ≡ false) same e))
+
+  one_or_more : (b : Bool) (n : ℕ) → nat_lt 0 (cond b 1 0 + n) ≡ true → (b ≡ true) ⊎ (nat_lt 0 n ≡ true)
+  one_or_more true n e = inl refl
+  one_or_more false n e = inr (let same : 0 + n ≡ n = omega arith in subst (λ (k : ℕ). nat_lt 0 k ≡ true) same e)
+
+  not_met : (b x : Bool) → (not b || x) ≡ false → (b ≡ true) × (x ≡ false)
+  not_met true x e = (refl, e)
+  not_met false x e = absurd (cc e)
+
+  met_holds : (b x : Bool) → b ≡ true → (not b || x) ≡ true → x ≡ true
+  met_holds true x m e = e
+  met_holds false x m e = absurd (cc m)
+
+  counted : (b : Bool) (found : List AtomValue) → b ≡ true → Tells found → Tells (cond b found [])
+  counted true found e t = t
+  counted false found e t = absurd (cc e)
+
+  mutual
+    pub one_tells : (t : Tree (Opener (List ℕ)) AtomValue) → CountsNothing t → holds kind good on t ≡ true → holds kind bad on t ≡ false → Tells (leaves kind on t)
+    one_tells (leaf a) form g b = (a, inl refl, g, b)
+    one_tells (group None ts) form g b = all_tell ts form g b
+    one_tells (group (Some AnyOf) ts) form g b = some_tell ts form g b
+    one_tells (group (Some ExactlyOne) ts) form g b = absurd form
+    one_tells (group (Some AtMostOne) ts) form g b = absurd form
+    one_tells (group (Some (When flag wanted)) ts) form g b =
+        let fails = not_met (is_met on flag wanted) (all_hold kind bad on ts) b in
+        counted (is_met on flag wanted) (all_leaves kind on ts) fails.0 (all_tell ts form (met_holds (is_met on flag wanted) (all_hold kind good on ts) fails.0 g) fails.1)
+
+    pub all_tell : (ts : Trees (Opener (List ℕ)) AtomValue) → CountNothing ts → all_hold kind good on ts ≡ true → all_hold kind bad on ts ≡ false → Tells (all_leaves kind on ts)
+    all_tell no_trees form g b = absurd (cc b)
+    all_tell (tree t ts) form g b =
+        let both = and_parts (holds kind good on t) (all_hold kind good on ts) g in
+        elim (and_cases (holds kind bad on t) (all_hold kind bad on ts) b) [
+          | inl here ↦ first_tells (leaves kind on t) (all_leaves kind on ts) (one_tells t form.0 both.0 here)
+          | inr later ↦ later_tells (leaves kind on t) (all_leaves kind on ts) (all_tell ts form.1 both.1 later)
+        ]
+
+    pub some_tell : (ts : Trees (Opener (List ℕ)) AtomValue) → CountNothing ts → nat_lt 0 (true_members kind good on ts) ≡ true → nat_lt 0 (true_members kind bad on ts) ≡ false → Tells (all_leaves kind on ts)
+    some_tell no_trees form g b = absurd (cc g)
+    some_tell (tree t ts) form g b =
+        let none = none_more (is_member kind on t && holds kind bad on t) (true_members kind bad on ts) b in
+        elim (one_or_more (is_member kind on t && holds kind good on t) (true_members kind good on ts) g) [
+          | inl here ↦ (
+              let both = and_parts (is_member kind on t) (holds kind good on t) here in
+              first_tells (leaves kind on t) (all_leaves kind on ts) (elim (and_cases (is_member kind on t) (holds kind bad on t) none.0) [
+                | inl out ↦ absurd (let inside = both.0 in cc (out, inside))
+                | inr fails ↦ one_tells t form.0 both.1 fails
+              ]))
+          | inr later ↦ later_tells (leaves kind on t) (all_leaves kind on ts) (some_tell ts form.1 later none.1)
+        ]

@@ -1,0 +1,4 @@
+pub mod Lines
+pub mod Leaves
+pub mod Options
+pub mod Whole

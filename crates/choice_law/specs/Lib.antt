@@ -1,0 +1,4 @@
+pub mod Universe
+pub mod Solutions
+pub mod Tree
+pub mod Laws

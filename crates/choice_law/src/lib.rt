@@ -1,0 +1,14 @@
+//! The tree of choices of what to install, and what its good leaves have to do with solutions: laws,
+//! and no code.
+//!
+//! **A contract sees** a universe as what may stand on each line, a choice as a list of decisions,
+//! and packages as `pkg_state` has them.
+//!
+//! **Proved**: a good leaf is a solution, and where there is a solution the tree has a good leaf,
+//! whichever open obligation is taken up first and in whatever order its options are tried. So a
+//! tree without a good leaf shows that there is no solution.
+#![tactic(auto)]
+
+mod laws;
+
+pub use laws::{good_leaves_are_solutions, solutions_have_leaves};
