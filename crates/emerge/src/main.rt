@@ -2,13 +2,21 @@
 //!
 //! The words are those of the command line of the whole product. The tree is the folder of the host
 //! that `--tree` names, and the root of the host where it names none; the images are folders below
-//! that of `--images`, and `--build-with CMD` has a program prepare each of them first. Words that are
-//! no command are answered over an empty tree in memory.
+//! that of `--images`, and `--build-with CMD` has a program prepare each of them first. There are as
+//! many builders as `--jobs` says, all over the same images. Words that are no command are answered over
+//! an empty tree in memory.
 #![tactic(auto)]
 
+ghost use Rattle.std.specs.Prelude.{◌<◌, length};
+ghost use Rattle.build_pool.specs.Pool.{AreOnce};
+
+mod builders;
+mod host;
+
+use crate::builders::numbered_builders;
+use crate::host::{Host, host_of};
 use build_pool::{BuildPool, Builder};
 use emerge_run::{Ended, Status, emerge};
-use emerge_words::{Request, read};
 use host_side::{CommandBuilder, FolderBuilder, HostSink, HostTree, OpenFault};
 use samples::{ImageBuilder, sample_image};
 use std::alloc::{AllocError, Global};
@@ -40,8 +48,8 @@ fn main(rt: HostRuntime) -> ExitCode {
 /// Runs the words of the command line, and answers the status's number.
 fn run(rt: HostRuntime, alloc: Global) -> Result<u8, AllocError> {
     let words = words(&rt, alloc)?;
-    match read(alloc, &words) {
-        Ok(request) => run_on_host(rt, alloc, &words, &request),
+    match host_of(alloc, &words) {
+        Ok(host) => run_on_host(rt, alloc, &words, &host),
         Err(_) => run_in_memory(&rt, alloc, &words),
     }
 }
@@ -51,36 +59,41 @@ fn run_on_host(
     rt: HostRuntime,
     alloc: Global,
     words: &[String],
-    request: &Request,
-) -> Result<u8, AllocError> {
-    let name = request.tree.as_str();
-    let images = request.images.as_str();
+    host: &Host,
+) -> Result<u8, AllocError>
+    requires builders { 0 < host.now.builders }
+{
+    let name = host.tree.as_str();
+    let images = host.images.as_str();
     let tree = match HostTree::open(rt, name) {
         Ok(tree) => tree,
         Err(fault) => return Ok(refuse(&rt, name, fault)),
     };
-    match &request.build_with {
+    match &host.build_with {
         Some(program) => {
-            let builder = CommandBuilder::new(rt, program.as_str(), images, 1)?;
-            run_with(rt, alloc, words, tree, builder)
+            let make = |id: u32| CommandBuilder::new(rt, program.as_str(), images, id);
+            let builders = numbered_builders(alloc, host.builders, make)?;
+            run_with(rt, alloc, words, tree, builders)
         }
         None => {
-            let builder = FolderBuilder::new(rt, images, 1)?;
-            run_with(rt, alloc, words, tree, builder)
+            let make = |id: u32| FolderBuilder::new(rt, images, id);
+            let builders = numbered_builders(alloc, host.builders, make)?;
+            run_with(rt, alloc, words, tree, builders)
         }
     }
 }
 
-/// Runs a command over a tree of the host with one builder.
+/// Runs a command over a tree of the host with these builders.
 fn run_with<B: Builder + Send>(
     rt: HostRuntime,
     alloc: Global,
     words: &[String],
     tree: HostTree,
-    builder: B,
-) -> Result<u8, AllocError> {
-    let mut builders = Vec::new(alloc);
-    builders.push(builder)?;
+    builders: Vec<B>,
+) -> Result<u8, AllocError>
+    requires some { 0 < length builders.items }
+    requires once { AreOnce B.number builders.items }
+{
     let pool = BuildPool::new(alloc, builders)?;
     let out = HostSink::stdout(rt);
     let Ended { status, .. } = emerge(alloc, words, tree, out, pool);
