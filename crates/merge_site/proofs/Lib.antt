@@ -4,5 +4,6 @@ pub mod Lines
 pub mod Opened
 pub mod Placed
 pub mod Reading
+pub mod Ready
 pub mod Staged
 pub mod Stood

@@ -33,6 +33,7 @@ mod records;
 mod site;
 mod staging;
 mod steps;
+mod waiting;
 
 pub use calls::{
     close_gate, open_gate, place_path, put_record, put_stage, put_token, quiet_events, remove_path,
