@@ -2,4 +2,3 @@ pub mod Grammar
 pub mod View
 pub mod Texts
 pub mod Faults
-pub mod Printing
