@@ -7,6 +7,7 @@ ghost use Rattle.dep_group.specs.Tokens.{IsInForm};
 ghost use Rattle.required_use.specs.Faults.{FirstFault, HasFault, IsMemory};
 ghost use Rattle.required_use.specs.Texts.{Expressions, IsExpression, Writes, text_of};
 ghost use Rattle.required_use.specs.Grammar.{grammar, is_on, kind, never};
+ghost use Rattle.required_use.specs.Truth.{first_broken};
 ghost use Rattle.required_use.specs.View.{trees, trees_view, view};
 ghost use Rattle.required_use.specs.declared.fault.RequiredFault.{RequiredFault};
 
@@ -77,9 +78,7 @@ impl RequiredUse {
 
     /// The index of the first of the outermost expressions that does not hold.
     pub fn first_broken(&self, enabled: &Flags) -> Option<usize>
-        ensures first { result ≡ position
-            (λ r. not (holds kind (is_on enabled.now) (has enabled.now)
-            (view r))) self.now.nodes.items }
+        ensures first { result ≡ first_broken enabled.now (trees self.now) }
         ensures none { IsNone result ↔ IsTrue
             (all_hold kind (is_on enabled.now) (has enabled.now) (trees self.now)) }
     {
