@@ -9,7 +9,7 @@ use Rattle.dep_group.specs.declared.token.Token.{Token}
 use Rattle.dep_group.specs.declared.token.Token.TheVariants.{Leaf, Begins, Opens, Closes, Glued, Unknown}
 use Rattle.dep_group.specs.Reading.{opening, tokens, all_tokens}
 use Rattle.dep_group.specs.Shapes.{shape, condition}
-use Rattle.dep_group.specs.Tokens.{opener_text, opener_shape, Grammar, IsOpener, IsOpening, IsMadeOf, AreMadeOf, token_text, IsToken, AreTokens, tree_words, IsInForm}
+use Rattle.dep_group.specs.Tokens.{opener_text, opener_shape, Grammar, IsFlag, IsOpener, IsOpening, IsMadeOf, AreMadeOf, token_text, IsToken, AreTokens, tree_words, IsInForm}
 use Rattle.dep_group.specs.Trees.{Tree, Trees, leaf, group, no_trees, tree, all_depth, all_free, is_any_of}
 use Rattle.dep_group.specs.Words.{is_word}
 
@@ -17,8 +17,8 @@ use Rattle.dep_group.specs.Words.{is_word}
 pub record IsWritten {L : Type 0} (g : Grammar L) : Type 0 where
   pub leaf_shape : (a : L) → g.IsLeaf a → shape g.brackets (g.spell a) ≡ shapes.Item
   pub leaf_word : (a : L) → g.IsLeaf a → is_word (g.spell a) ≡ true
-  pub condition_shape : (flag : List ℕ) (on : Bool) → g.IsFlag flag → shape g.brackets (condition flag on) ≡ shapes.When on
-  pub condition_word : (flag : List ℕ) (on : Bool) → g.IsFlag flag → is_word (condition flag on) ≡ true
+  pub condition_shape : (flag : List ℕ) (on : Bool) → IsFlag flag → shape g.brackets (condition flag on) ≡ shapes.When on
+  pub condition_word : (flag : List ℕ) (on : Bool) → IsFlag flag → is_word (condition flag on) ≡ true
 
 -- the token is one that trees of the grammar have
 abbrev IsMade : {L : Type 0} → Grammar L → Token (Opener (List ℕ)) L → Type 0

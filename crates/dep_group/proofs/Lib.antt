@@ -9,3 +9,4 @@ pub mod StopLemmas
 pub mod OnceLemmas
 pub mod NodeLemmas
 pub mod MapLemmas
+pub mod TextLemmas

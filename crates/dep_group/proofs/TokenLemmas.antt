@@ -17,7 +17,7 @@ use Rattle.dep_group.specs.declared.word.Word.{Word}
 use Rattle.dep_group.specs.Shapes.{shape, condition, question_mark, open_parenthesis, close_parenthesis}
 use Rattle.dep_group.specs.Trees.{Tree, Trees, leaf, group, no_trees, tree, trees_of, is_any_of}
 use Rattle.dep_group.specs.Reading.{opening, tokens, all_tokens, read, list_of}
-use Rattle.dep_group.specs.Tokens.{opener_text, opener_shape, Grammar, IsOpener, token_text, Spells, IsToken, IsOnlyToken, EachWord, AreTokens, AreOnlyTokens, tree_words, IsInForm}
+use Rattle.dep_group.specs.Tokens.{opener_text, opener_shape, Grammar, IsFlag, IsOpener, token_text, Spells, IsToken, IsOnlyToken, EachWord, AreTokens, AreOnlyTokens, tree_words, IsInForm}
 use Rattle.dep_group.proofs.ReadingLemmas.{read-ok, read-sound, read-printed}
 
 -- two shapes with different numbers are different
@@ -360,10 +360,10 @@ unknown-opener g w o e no_opener = ((λ k. absurd (omega (arith, apart (shape g.
     none Unknown s = s
 
 -- a condition on what is no flag
-pub unknown-when : {L : Type 0} (g : Grammar L) (w flag : List ℕ) (on : Bool) → shape g.brackets w ≡ shapes.When on → w ≡ condition flag on → (g.IsFlag flag → ⊥) → IsToken g w Unknown
+pub unknown-when : {L : Type 0} (g : Grammar L) (w flag : List ℕ) (on : Bool) → shape g.brackets w ≡ shapes.When on → w ≡ condition flag on → (IsFlag flag → ⊥) → IsToken g w Unknown
 unknown-when g w flag on e text no_flag = unknown-opener g w (When flag on) e none
   where
-    same_flag : (p : Opener (List ℕ)) → When flag on ≡ p → IsOpener g p → g.IsFlag flag
+    same_flag : (p : Opener (List ℕ)) → When flag on ≡ p → IsOpener g p → IsFlag flag
     same_flag p h k = let P : Opener (List ℕ) → Type 0 = λ o. IsOpener g o in subst P (sym h) k
 
     none : (p : Opener (List ℕ)) → w ≡ opener_text p → shape g.brackets w ≡ opener_shape p → IsOpener g p → ⊥

@@ -7,3 +7,5 @@ pub mod Tokens
 pub mod Nodes
 pub mod Faults
 pub mod Maps
+pub mod Texts
+pub mod Printing

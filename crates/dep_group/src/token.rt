@@ -28,18 +28,19 @@ pub enum Token<K, L> {
     Unknown,
 }
 
-/// Why the words of a text are no groups. A place is the index of a word, counted from 0.
+/// Why words are no groups. A place is that of a word: its index, counted from 0, or of a text that
+/// of the word's first byte.
 #[derive(Debug, Drop, Error)]
 pub enum GroupFault {
-    #[error("word {at} is no leaf")]
+    #[error("no leaf at {at}")]
     Leaf { at: usize },
-    #[error("the group that word {at} opens is not closed")]
+    #[error("the group at {at} is not closed")]
     Open { at: usize },
-    #[error("word {at} closes no group")]
+    #[error("no group for the parenthesis at {at} to close")]
     Close { at: usize },
-    #[error("word {at} has a parenthesis glued to it")]
+    #[error("a parenthesis without a space in the word at {at}")]
     NoSpace { at: usize },
-    #[error("word {at} may not stand inside an any-of group")]
+    #[error("the leaf at {at} may not stand in an any-of group")]
     Barred { at: usize },
     #[error("more than 64 groups are open")]
     Depth,

@@ -31,7 +31,8 @@ use Rattle.dep_group.specs.Words.{is_blank, is_word}
 use Rattle.dep_group.proofs.Bools.{and_left, and_right, of_not}
 use Rattle.dep_group.proofs.FormLemmas.{IsWritten}
 use Rattle.dep_group.proofs.OnceLemmas.{OneMark}
-use Rattle.dep_tree.specs.Grammar.{IsFlag, blocks, grammar, is_block}
+use Rattle.dep_group.specs.Tokens.{IsFlag}
+use Rattle.dep_tree.specs.Grammar.{blocks, grammar, is_block}
 
 abbrev Are : (ℕ → Bool) → List ℕ → Type 0
 Are p bytes = AllByRecursion (λ b. p b ≡ true) bytes

@@ -1,31 +1,29 @@
 -- The first fault of a text that is no dependency tree.
 use Rattle.std.specs.Prelude.{◌≡◌, ℕ, List}
-use Rattle.dep_group.specs.Faults.{FirstWordFault}
-use Rattle.dep_group.specs.Words.{Spot, place, words, words_of}
 use Rattle.dep_group.specs.declared.token.GroupFault.{GroupFault}
 use Rattle.dep_group.specs.declared.token.GroupFault.TheVariants as groups
+use Rattle.dep_group.specs.Texts as texts
 use Rattle.dep_tree.specs.Grammar.{grammar, is_block}
 use Rattle.dep_tree.specs.declared.fault.TreeTextFault.{TreeTextFault}
 use Rattle.dep_tree.specs.declared.fault.TreeTextFault.TheVariants as faults
 
--- the fault of a word, at the place of its first byte
-abbrev pub placed : List Spot → GroupFault → TreeTextFault
-placed ws (groups.Leaf at) = faults.Atom (place ws at)
-placed ws (groups.Barred at) = faults.BlockInAnyOf (place ws at)
-placed ws (groups.Open at) = faults.Open (place ws at)
-placed ws (groups.Close at) = faults.Close (place ws at)
-placed ws (groups.NoSpace at) = faults.NoSpace (place ws at)
-placed ws groups.Depth = faults.Depth
-placed ws groups.Memory = faults.Memory
+-- the fault of groups, where the leaves are atoms and no block may stand in an any-of group
+abbrev pub named : GroupFault → TreeTextFault
+named (groups.Leaf at) = faults.Atom at
+named (groups.Barred at) = faults.BlockInAnyOf at
+named (groups.Open at) = faults.Open at
+named (groups.Close at) = faults.Close at
+named (groups.NoSpace at) = faults.NoSpace at
+named groups.Depth = faults.Depth
+named groups.Memory = faults.Memory
 
 abbrev pub IsMemory : TreeTextFault → Type 0
 IsMemory fault = fault ≡ faults.Memory
 
--- the first fault of the text is that of its words, at its place
-pub record FirstFault (text : List ℕ) (fault : TreeTextFault) : Type 0 where
-  pub of_words : GroupFault
-  pub first : FirstWordFault grammar is_block (words_of text) of_words
-  pub here : fault ≡ placed (words 0 text) of_words
+-- the first fault of the text, as one of groups of atoms
+abbrev pub FirstFault : List ℕ → TreeTextFault → Type 0
+FirstFault text fault =
+    (first : GroupFault) × texts.FirstFault grammar is_block text first × (fault ≡ named first)
 
 -- the text has this fault, which isn't want of memory
 abbrev pub HasFault : List ℕ → TreeTextFault → Type 0

@@ -1,26 +1,18 @@
 -- The grammar of dependencies (PMS 8.2): package atoms in groups.
 use Rattle.std.specs.Prelude.{◌≡◌, ℕ, ◌≤◌, Bool, true, false, List}
-use Rattle.pms_names.specs.Names.{IsName}
-use Rattle.pms_names.specs.declared.kind.Kind.TheVariants as kinds
-use Rattle.dep_atom.specs.declared.atom.Atom.{Atom}
 use Rattle.dep_atom.specs.declared.atom.Block.{Block}
 use Rattle.dep_atom.specs.declared.atom.Block.TheVariants.{No, Weak, Strong}
 use Rattle.dep_atom.specs.Atoms.{IsAtomValue}
 use Rattle.dep_atom.specs.Text.{value_text}
-use Rattle.dep_atom.specs.Values.{AtomValue, atom_value}
+use Rattle.dep_atom.specs.Values.{AtomValue}
 use Rattle.dep_group.specs.declared.token.Opener.{Opener}
 use Rattle.dep_group.specs.Tokens.{Grammar, AreMadeOf}
 use Rattle.dep_group.specs.Trees.{Trees, all_depth, all_free, is_any_of}
-use Rattle.dep_tree.specs.declared.tree.DepOpener.{DepOpener}
-use Rattle.dep_tree.specs.View.{kind_of}
-
-abbrev pub IsFlag : List ℕ → Type 0
-IsFlag flag = IsName kinds.Flag flag
 
 -- leaves are atoms, which may have brackets, and no group counts its members
 abbrev pub grammar : Grammar AtomValue
 grammar =
-    record { spell = value_text; IsLeaf = IsAtomValue; IsFlag = IsFlag; counts = false; brackets = true }
+    record { spell = value_text; IsLeaf = IsAtomValue; counts = false; brackets = true }
 
 abbrev pub blocks : Block → Bool
 blocks No = false
@@ -30,12 +22,6 @@ blocks Strong = true
 -- the atom is a block (PMS 8.3.2); none may stand inside an any-of group
 abbrev pub is_block : AtomValue → Bool
 is_block a = blocks a.block
-
-abbrev pub blocks_as_atom : Atom → Bool
-blocks_as_atom atom = is_block (atom_value atom)
-
-abbrev pub begins_any_of : DepOpener → Bool
-begins_any_of opener = is_any_of (kind_of opener)
 
 -- atoms in all-of, any-of and conditional groups, at most 64 in one another, where no block is
 -- inside an any-of group

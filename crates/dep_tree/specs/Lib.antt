@@ -3,4 +3,3 @@ pub mod Grammar
 pub mod Truth
 pub mod Texts
 pub mod Faults
-pub mod Printing

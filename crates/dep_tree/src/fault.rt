@@ -1,7 +1,3 @@
-ghost use Rattle.std.specs.Prelude.{◌≡◌};
-ghost use Rattle.dep_tree.specs.declared.fault.TreeTextFault.TheVariants.{Memory};
-
-use std::alloc::{AllocError, AllocFailed};
 use thiserror::Error;
 
 /// Why a text is no dependency tree. A place is that of a word's first byte.
@@ -24,20 +20,4 @@ pub enum TreeTextFault {
     Depth,
     #[error("out of memory")]
     Memory,
-}
-
-impl From<AllocError> for TreeTextFault {
-    ghost from_gives = { λ _ e. e ≡ Memory };
-
-    fn from(_e: AllocError) -> TreeTextFault {
-        TreeTextFault::Memory
-    }
-}
-
-impl<T: Drop> From<AllocFailed<T>> for TreeTextFault {
-    ghost from_gives = { λ _ e. e ≡ Memory };
-
-    fn from(_e: AllocFailed<T>) -> TreeTextFault {
-        TreeTextFault::Memory
-    }
 }

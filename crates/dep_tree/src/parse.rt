@@ -1,19 +1,23 @@
-ghost use Rattle.std.specs.Prelude.{◌≡◌, true, IfErr, IfOk, MatchOption, MatchResult, map};
-ghost use Rattle.dep_group.specs.Words.{texts};
-ghost use Rattle.dep_group.specs.Views.{spot};
-ghost use Rattle.dep_group.specs.Tokens.{AreOnlyTokens, IsOnlyToken};
-ghost use Rattle.dep_group.specs.Shapes.{shape};
-ghost use Rattle.dep_tree.specs.Grammar.{IsFlag, grammar};
-ghost use Rattle.dep_tree.specs.Faults.{FirstFault, IsMemory, placed};
+ghost use Rattle.std.specs.Prelude.{◌≡◌, IfErr, IfOk, MatchResult};
+ghost use Rattle.dep_group.specs.Maps.{opener_map};
+ghost use Rattle.dep_group.specs.Trees.{group};
+ghost use Rattle.dep_tree.specs.Faults.{FirstFault, IsMemory, named};
 ghost use Rattle.dep_tree.specs.Texts.{Dependencies, Writes};
-ghost use Rattle.dep_tree.specs.View.{token_view, trees_view};
+ghost use Rattle.dep_tree.specs.View.{kind_of, trees_view, view};
 
 use crate::fault::TreeTextFault;
-use crate::tree::{DepOpener, Node};
+use crate::tree::{Node, is_block};
 use dep_atom::{Atom, AtomFault};
-use dep_group::{GroupFault, Shape, Token, Word, flag_of, place, read_nodes, shape_of, words};
-use pms_names::{Flag, NameFault};
+use dep_group::{GroupFault, Node as GroupNode, Opener, read_text};
+use pms_names::Flag;
 use std::alloc::{AllocError, Global};
+
+/// What stands before the parenthesis of a group. One with nothing before it wants all its members.
+#[derive(Debug, Drop)]
+pub(crate) enum DepOpener {
+    AnyOf,
+    When { flag: Flag, on: bool },
+}
 
 /// The dependencies that the text is.
 pub fn read(alloc: Global, text: &str) -> Result<Vec<Node>, TreeTextFault>
@@ -22,98 +26,82 @@ pub fn read(alloc: Global, text: &str) -> Result<Vec<Node>, TreeTextFault>
         MatchResult result (λ nodes. trees_view nodes.items ≡ x) IsMemory }
     ensures fault { IfErr result (FirstFault text.now) }
 {
-    let words = match words(alloc, text) {
-        Ok(words) => words,
-        Err(_) => return Err(TreeTextFault::Memory),
-    };
-    let tokens = match tokens(alloc, &words) {
-        Ok(tokens) => tokens,
-        Err(_) => return Err(TreeTextFault::Memory),
-    };
-    match read_nodes(alloc, tokens) {
+    match read_text::<DepOpener, Atom, Node>(alloc, text) {
         Ok(nodes) => Ok(nodes),
-        Err(fault) => Err(placed(&words, fault)),
+        Err(fault) => Err(named(fault)),
     }
 }
 
-fn placed(words: &[Word], fault: GroupFault) -> TreeTextFault
-    ensures { result ≡ placed (map spot words.now) fault }
+fn named(fault: GroupFault) -> TreeTextFault
+    ensures { result ≡ named fault }
 {
     match fault {
-        GroupFault::Leaf { at } => TreeTextFault::Atom {
-            at: place(words, at),
-        },
-        GroupFault::Barred { at } => TreeTextFault::BlockInAnyOf {
-            at: place(words, at),
-        },
-        GroupFault::Open { at } => TreeTextFault::Open {
-            at: place(words, at),
-        },
-        GroupFault::Close { at } => TreeTextFault::Close {
-            at: place(words, at),
-        },
-        GroupFault::NoSpace { at } => TreeTextFault::NoSpace {
-            at: place(words, at),
-        },
+        GroupFault::Leaf { at } => TreeTextFault::Atom { at },
+        GroupFault::Barred { at } => TreeTextFault::BlockInAnyOf { at },
+        GroupFault::Open { at } => TreeTextFault::Open { at },
+        GroupFault::Close { at } => TreeTextFault::Close { at },
+        GroupFault::NoSpace { at } => TreeTextFault::NoSpace { at },
         GroupFault::Depth => TreeTextFault::Depth,
         GroupFault::Memory => TreeTextFault::Memory,
     }
 }
 
-fn tokens(alloc: Global, words: &[Word]) -> Result<Vec<Token<DepOpener, Atom>>, AllocError>
-    ensures { IfOk result (λ v.
-        AreOnlyTokens grammar (texts (map spot words.now)) (map token_view v.items)) }
-{
-    let mut tokens = Vec::new(alloc);
-    for word in words {
-        tokens.push(token(alloc, word.text)?)?;
-    }
-    Ok(tokens)
-}
+impl GroupNode<DepOpener, Atom> for Node {
+    ghost use Rattle.dep_atom.specs.Values.{AtomValue, atom_value};
+    ghost use Rattle.dep_tree.specs.View.{kind_of, view};
+    ghost use Rattle.dep_tree.specs.Grammar.{grammar, is_block};
 
-fn token(alloc: Global, word: &str) -> Result<Token<DepOpener, Atom>, AllocError>
-    ensures { IfOk result (λ t. IsOnlyToken grammar word.now (token_view t)) }
-{
-    match shape_of(word, true) {
-        Shape::Opens => Ok(Token::Opens),
-        Shape::Closes => Ok(Token::Closes),
-        Shape::Glued => Ok(Token::Glued),
-        Shape::AnyOf => Ok(Token::Begins(DepOpener::AnyOf)),
-        Shape::ExactlyOne | Shape::AtMostOne => Ok(Token::Unknown),
-        Shape::When { on } => condition(alloc, word, on),
-        Shape::Item => atom(alloc, word),
-    }
-}
+    ghost Value = { AtomValue };
 
-fn condition(alloc: Global, word: &str, on: bool) -> Result<Token<DepOpener, Atom>, AllocError>
-    requires { shape true word.now ≡ Shape.When on }
-    ensures { IfOk result (λ t. IsOnlyToken grammar word.now (token_view t)) }
-{
-    match flag(alloc, flag_of(word, on))? {
-        Some(flag) => Ok(Token::Begins(DepOpener::When { flag, on })),
-        None => Ok(Token::Unknown),
-    }
-}
+    ghost grammar = { grammar };
 
-fn atom(alloc: Global, word: &str) -> Result<Token<DepOpener, Atom>, AllocError>
-    requires { shape true word.now ≡ Shape.Item }
-    ensures { IfOk result (λ t. IsOnlyToken grammar word.now (token_view t)) }
-{
-    match Atom::parse(alloc, word) {
-        Ok(atom) => Ok(Token::Leaf(atom)),
-        Err(AtomFault::Memory) => Err(AllocError),
-        Err(_) => Ok(Token::Unknown),
-    }
-}
+    ghost barred = { is_block };
 
-/// The flag that the text is, if it is one.
-fn flag(alloc: Global, text: &str) -> Result<Option<Flag>, AllocError>
-    ensures { IfOk result (λ found.
-        MatchOption found (IsFlag text.now → ⊥) (λ flag. (flag ≡ text.now) × IsFlag text.now)) }
-{
-    match Flag::parse(alloc, text) {
-        Ok(flag) => Ok(Some(flag)),
-        Err(NameFault::Memory) => Err(AllocError),
-        Err(_) => Ok(None),
+    ghost kind = { kind_of };
+
+    ghost said = { atom_value };
+
+    ghost view = { view };
+
+    fn of_leaf(leaf: Atom) -> Node {
+        Node::Leaf(leaf)
+    }
+
+    fn of_group(opener: Option<DepOpener>, nodes: Vec<Node>) -> Node
+        ensures { view result ≡ group (opener_map kind_of opener) (trees_view nodes.items) }
+    {
+        match opener {
+            None => Node::All(nodes),
+            Some(DepOpener::AnyOf) => Node::AnyOf(nodes),
+            Some(DepOpener::When { flag, on }) => Node::When { flag, on, nodes },
+        }
+    }
+
+    fn is_any_of(opener: &DepOpener) -> bool {
+        matches!(opener, DepOpener::AnyOf)
+    }
+
+    fn is_barred(leaf: &Atom) -> bool {
+        is_block(leaf)
+    }
+
+    fn keeps_brackets() -> bool {
+        true
+    }
+
+    fn opener(opener: Opener<Flag>) -> Option<DepOpener> {
+        match opener {
+            Opener::AnyOf => Some(DepOpener::AnyOf),
+            Opener::When { flag, on } => Some(DepOpener::When { flag, on }),
+            Opener::ExactlyOne | Opener::AtMostOne => None,
+        }
+    }
+
+    fn leaf(alloc: Global, word: &str) -> Result<Option<Atom>, AllocError> {
+        match Atom::parse(alloc, word) {
+            Ok(atom) => Ok(Some(atom)),
+            Err(AtomFault::Memory) => Err(AllocError),
+            Err(_) => Ok(None),
+        }
     }
 }

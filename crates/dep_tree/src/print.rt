@@ -1,17 +1,16 @@
 ghost use Rattle.std.specs.Prelude.{◌≡◌, ◌++◌, IfOk, OnOk, string_bytes};
 ghost use Rattle.dep_atom.specs.Text.{value_text};
 ghost use Rattle.dep_atom.specs.Values.{atom_value};
+ghost use Rattle.dep_group.specs.Printing.{Adds, group_tokens};
 ghost use Rattle.dep_group.specs.Reading.{all_tokens, tokens};
-ghost use Rattle.dep_group.specs.Shapes.{condition};
 ghost use Rattle.dep_group.specs.Words.{and_space};
-ghost use Rattle.dep_tree.specs.Printing.{Adds, group_tokens};
+ghost use Rattle.dep_tree.specs.Grammar.{grammar};
 ghost use Rattle.dep_tree.specs.Texts.{text_of};
 ghost use Rattle.dep_tree.specs.View.{trees_view, view};
 
 use crate::tree::Node;
 use dep_atom::Atom;
-use dep_group::push_word;
-use pms_names::Flag;
+use dep_group::{push_condition, push_word};
 use std::alloc::{AllocError, Global};
 
 /// The text of the dependencies, with one space between each two words.
@@ -25,7 +24,7 @@ pub fn print(alloc: Global, nodes: &[Node]) -> Result<String, AllocError>
 
 #[cycle(print)]
 fn push_all(alloc: Global, nodes: &[Node], out: &mut String) -> Result<(), AllocError>
-    ensures { OnOk result (Adds (string_bytes out.old) (string_bytes out.new)
+    ensures { OnOk result (Adds grammar (string_bytes out.old) (string_bytes out.new)
         (all_tokens (trees_view nodes.now))) }
 {
     for node in nodes {
@@ -36,7 +35,7 @@ fn push_all(alloc: Global, nodes: &[Node], out: &mut String) -> Result<(), Alloc
 
 #[cycle(print)]
 fn push_group(alloc: Global, nodes: &[Node], out: &mut String) -> Result<(), AllocError>
-    ensures { OnOk result (Adds (string_bytes out.old) (string_bytes out.new)
+    ensures { OnOk result (Adds grammar (string_bytes out.old) (string_bytes out.new)
         (group_tokens (trees_view nodes.now))) }
 {
     push_word(out, "", "(", "")?;
@@ -47,7 +46,7 @@ fn push_group(alloc: Global, nodes: &[Node], out: &mut String) -> Result<(), All
 
 #[cycle(print)]
 fn push(alloc: Global, node: &Node, out: &mut String) -> Result<(), AllocError>
-    ensures { OnOk result (Adds (string_bytes out.old) (string_bytes out.new)
+    ensures { OnOk result (Adds grammar (string_bytes out.old) (string_bytes out.new)
         (tokens (view node.now))) }
 {
     match node {
@@ -65,7 +64,7 @@ fn push(alloc: Global, node: &Node, out: &mut String) -> Result<(), AllocError>
             Ok(())
         }
         Node::When { flag, on, nodes } => {
-            push_condition(flag, *on, out)?;
+            push_condition(out, flag, *on)?;
             push_group(alloc, nodes, out)?;
             Ok(())
         }
@@ -78,17 +77,5 @@ fn push_atom(alloc: Global, atom: &Atom, out: &mut String) -> Result<(), AllocEr
 {
     let text = atom.print(alloc)?;
     push_word(out, "", text.as_str(), "")?;
-    Ok(())
-}
-
-fn push_condition(flag: &Flag, on: bool, out: &mut String) -> Result<(), AllocError>
-    ensures { OnOk result (string_bytes out.new ≡
-        and_space (string_bytes out.old) ++ condition flag.now on) }
-{
-    if on {
-        push_word(out, "", flag.text(), "?")?;
-    } else {
-        push_word(out, "!", flag.text(), "?")?;
-    }
     Ok(())
 }

@@ -1,22 +1,21 @@
 ghost use Rattle.std.specs.Prelude.{◌≡◌, ◌++◌, ◌↔◌, IfErr, IfOk, List, MatchResult, OnOk, map};
 ghost use Rattle.std.specs.Prelude.{nat_lt, string_bytes, ℕ};
 ghost use Rattle.dep_atom.specs.Values.{atom_value};
-ghost use Rattle.dep_group.specs.Trees.{all_hold, all_leaves, group, holds, is_member, is_met};
-ghost use Rattle.dep_group.specs.Trees.{leaves, true_members, trees_of};
+ghost use Rattle.dep_group.specs.Trees.{all_hold, all_leaves, holds, is_member, is_met};
+ghost use Rattle.dep_group.specs.Trees.{leaves, true_members};
 ghost use Rattle.dep_group.specs.Tokens.{IsInForm};
 ghost use Rattle.pms_names.specs.Flags.{has};
 ghost use Rattle.dep_tree.specs.Faults.{FirstFault, HasFault, IsMemory};
 ghost use Rattle.dep_tree.specs.Texts.{AreDependencies, Dependencies, Writes, text_of};
 ghost use Rattle.dep_tree.specs.Grammar.{AreAtomsInGroups, grammar, is_block};
 ghost use Rattle.dep_tree.specs.Truth.{is_fact, kind};
-ghost use Rattle.dep_tree.specs.View.{atoms_view, trees, trees_view, view};
+ghost use Rattle.dep_tree.specs.View.{trees, trees_view, view};
 ghost use Rattle.dep_tree.specs.declared.fault.TreeTextFault.{TreeTextFault};
 
 use crate::fault::TreeTextFault;
 use crate::present::Present;
 use crate::{copy, parse, print};
 use dep_atom::{Atom, Block};
-use dep_group::Node as GroupNode;
 use pms_names::{Flag, Flags};
 use std::alloc::{AllocError, Global};
 
@@ -32,13 +31,6 @@ pub enum Node {
         on: bool,
         nodes: Vec<Node>,
     },
-}
-
-/// What stands before the parenthesis of a group. One with nothing before it wants all its members.
-#[derive(Debug, Drop)]
-pub(crate) enum DepOpener {
-    AnyOf,
-    When { flag: Flag, on: bool },
 }
 
 /// What a package depends on: all of these.
@@ -165,7 +157,7 @@ fn is_fact<P: Present>(atom: &Atom, present: &P, asker: &Flags) -> bool
     is_block(atom) || present.some_match(atom, asker)
 }
 
-fn is_block(atom: &Atom) -> bool
+pub(crate) fn is_block(atom: &Atom) -> bool
     ensures { result ≡ is_block (atom_value atom.now) }
 {
     match atom.block {
@@ -231,37 +223,4 @@ fn push_all_leaves<'a>(
         push_leaves(node, asker, out)?;
     }
     Ok(())
-}
-
-impl GroupNode<DepOpener, Atom> for Node {
-    ghost use Rattle.dep_tree.specs.View.{atoms_view};
-    ghost use Rattle.dep_tree.specs.Grammar.{begins_any_of, blocks_as_atom};
-
-    ghost view = { atoms_view };
-
-    ghost any_of = { begins_any_of };
-
-    ghost barred = { blocks_as_atom };
-
-    fn of_leaf(leaf: Atom) -> Node {
-        Node::Leaf(leaf)
-    }
-
-    fn of_group(opener: Option<DepOpener>, nodes: Vec<Node>) -> Node
-        ensures { atoms_view result ≡ group opener (trees_of (map atoms_view nodes.items)) }
-    {
-        match opener {
-            None => Node::All(nodes),
-            Some(DepOpener::AnyOf) => Node::AnyOf(nodes),
-            Some(DepOpener::When { flag, on }) => Node::When { flag, on, nodes },
-        }
-    }
-
-    fn is_any_of(opener: &DepOpener) -> bool {
-        matches!(opener, DepOpener::AnyOf)
-    }
-
-    fn is_barred(leaf: &Atom) -> bool {
-        is_block(leaf)
-    }
 }

@@ -1,12 +1,10 @@
 -- The grammar of REQUIRED_USE (PMS 7.3.4).
 use Rattle.std.specs.Prelude.{ℕ, Bool, true, false, List, ◌∷◌}
 use Rattle.dep_group.specs.declared.token.Opener.{Opener}
-use Rattle.dep_group.specs.Tokens.{Grammar}
+use Rattle.dep_group.specs.Tokens.{Grammar, IsFlag}
 use Rattle.dep_group.specs.Trees.{is_met}
 use Rattle.dep_group.specs.Shapes.{exclamation_mark}
-use Rattle.pms_names.specs.Names.{IsName}
 use Rattle.pms_names.specs.Flags.{has}
-use Rattle.pms_names.specs.declared.kind.Kind.TheVariants as kinds
 use Rattle.required_use.specs.declared.required.Item.{Item}
 
 -- a flag that is wanted off has an exclamation mark before it
@@ -14,12 +12,15 @@ abbrev pub item_text : List ℕ → Bool → List ℕ
 item_text flag true = flag
 item_text flag false = exclamation_mark ∷ flag
 
-abbrev pub IsFlag : List ℕ → Type 0
-IsFlag flag = IsName kinds.Flag flag
-
 -- items are flags and denied flags, groups may count their members, and nothing has brackets
 abbrev pub grammar : Grammar Item
-grammar = record { spell = λ a. item_text a.flag a.on; IsLeaf = λ a. IsFlag a.flag; IsFlag = IsFlag; counts = true; brackets = false }
+grammar =
+    record {
+      spell = λ a. item_text a.flag a.on;
+      IsLeaf = λ a. IsFlag a.flag;
+      counts = true;
+      brackets = false;
+    }
 
 -- no item is kept out of any-of groups
 abbrev pub never : Item → Bool

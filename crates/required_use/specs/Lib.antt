@@ -1,5 +1,5 @@
 pub mod Grammar
 pub mod View
 pub mod Texts
+pub mod Truth
 pub mod Faults
-pub mod Printing

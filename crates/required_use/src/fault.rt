@@ -1,7 +1,3 @@
-ghost use Rattle.std.specs.Prelude.{◌≡◌};
-ghost use Rattle.required_use.specs.declared.fault.RequiredFault.TheVariants.{Memory};
-
-use std::alloc::{AllocError, AllocFailed};
 use thiserror::Error;
 
 /// Why a text is no REQUIRED_USE. A place is that of a word's first byte.
@@ -21,20 +17,4 @@ pub enum RequiredFault {
     Depth,
     #[error("out of memory")]
     Memory,
-}
-
-impl From<AllocError> for RequiredFault {
-    ghost from_gives = { λ _ e. e ≡ Memory };
-
-    fn from(_e: AllocError) -> RequiredFault {
-        RequiredFault::Memory
-    }
-}
-
-impl<T: Drop> From<AllocFailed<T>> for RequiredFault {
-    ghost from_gives = { λ _ e. e ≡ Memory };
-
-    fn from(_e: AllocFailed<T>) -> RequiredFault {
-        RequiredFault::Memory
-    }
 }

@@ -1,20 +1,16 @@
-ghost use Rattle.std.specs.Prelude.{◌≡◌, false, IfErr, IfOk, MatchOption, MatchResult, map};
-ghost use Rattle.dep_group.specs.Words.{texts, words};
-ghost use Rattle.dep_group.specs.Views.{spot};
-ghost use Rattle.dep_group.specs.Tokens.{AreTokens, IsToken};
-ghost use Rattle.required_use.specs.declared.required.Item.{Item};
-ghost use Rattle.dep_group.specs.Shapes.{shape};
-ghost use Rattle.required_use.specs.Grammar.{IsFlag, grammar};
-ghost use Rattle.required_use.specs.Faults.{FirstFault, IsDenial, IsMemory, placed};
+ghost use Rattle.std.specs.Prelude.{◌≡◌, IfErr, IfOk, MatchOption, MatchResult};
+ghost use Rattle.dep_group.specs.Maps.{opener_map};
+ghost use Rattle.dep_group.specs.Trees.{group};
+ghost use Rattle.dep_group.specs.Tokens.{IsLeafWord, IsOnlyLeaf};
+ghost use Rattle.required_use.specs.Faults.{FirstFault, IsDenial, IsMemory, named};
+ghost use Rattle.required_use.specs.Grammar.{grammar, kind};
 ghost use Rattle.required_use.specs.Texts.{Expressions, Writes};
-ghost use Rattle.required_use.specs.View.{trees_view};
+ghost use Rattle.required_use.specs.View.{trees_view, view};
 
 use crate::fault::RequiredFault;
 use crate::required::{Item, Required};
-use dep_group::{
-    GroupFault, Opener, Shape, Token, Word, flag_of, place, read_nodes, shape_of, words,
-};
-use pms_names::{Flag, NameFault};
+use dep_group::{GroupFault, Node, Opener, flag, read_text};
+use pms_names::Flag;
 use std::alloc::{AllocError, Global};
 
 /// The expressions that the text is.
@@ -24,87 +20,92 @@ pub fn read(alloc: Global, text: &str) -> Result<Vec<Required>, RequiredFault>
         MatchResult result (λ nodes. trees_view nodes.items ≡ x) IsMemory }
     ensures fault { IfErr result (FirstFault text.now) }
 {
-    let words = match words(alloc, text) {
-        Ok(words) => words,
-        Err(_) => return Err(RequiredFault::Memory),
-    };
-    let tokens = match tokens(alloc, &words) {
-        Ok(tokens) => tokens,
-        Err(_) => return Err(RequiredFault::Memory),
-    };
-    match read_nodes(alloc, tokens) {
+    match read_text::<Opener<Flag>, Item, Required>(alloc, text) {
         Ok(nodes) => Ok(nodes),
-        Err(fault) => Err(placed(&words, fault)),
+        Err(fault) => Err(named(fault)),
     }
 }
 
-fn placed(words: &[Word], fault: GroupFault) -> RequiredFault
-    ensures { result ≡ placed (map spot words.now) fault }
+fn named(fault: GroupFault) -> RequiredFault
+    ensures { result ≡ named fault }
 {
     match fault {
-        GroupFault::Leaf { at } => RequiredFault::Item {
-            at: place(words, at),
-        },
-        GroupFault::Barred { at } => RequiredFault::Item {
-            at: place(words, at),
-        },
-        GroupFault::Open { at } => RequiredFault::Open {
-            at: place(words, at),
-        },
-        GroupFault::Close { at } => RequiredFault::Close {
-            at: place(words, at),
-        },
-        GroupFault::NoSpace { at } => RequiredFault::NoSpace {
-            at: place(words, at),
-        },
+        GroupFault::Leaf { at } => RequiredFault::Item { at },
+        GroupFault::Barred { at } => RequiredFault::Item { at },
+        GroupFault::Open { at } => RequiredFault::Open { at },
+        GroupFault::Close { at } => RequiredFault::Close { at },
+        GroupFault::NoSpace { at } => RequiredFault::NoSpace { at },
         GroupFault::Depth => RequiredFault::Depth,
         GroupFault::Memory => RequiredFault::Memory,
     }
 }
 
-fn tokens(alloc: Global, words: &[Word]) -> Result<Vec<Token<Opener<Flag>, Item>>, AllocError>
-    ensures { IfOk result (λ v. AreTokens grammar (texts (map spot words.now)) v.items) }
-{
-    let mut tokens = Vec::new(alloc);
-    for word in words {
-        tokens.push(token(alloc, word.text)?)?;
+impl Node<Opener<Flag>, Item> for Required {
+    ghost use Rattle.std.specs.Prelude.{ℕ, List};
+    ghost use Rattle.dep_group.specs.declared.token.Opener.{Opener};
+    ghost use Rattle.required_use.specs.declared.required.Item.{Item};
+    ghost use Rattle.required_use.specs.View.{view};
+    ghost use Rattle.required_use.specs.Grammar.{grammar, kind, never};
+
+    ghost Value = { Item };
+
+    ghost grammar = { grammar };
+
+    ghost barred = { never };
+
+    ghost kind = { kind };
+
+    ghost said = { λ item. item };
+
+    ghost view = { view };
+
+    fn of_leaf(leaf: Item) -> Required {
+        let Item { flag, on } = leaf;
+        Required::Item { flag, on }
     }
-    Ok(tokens)
+
+    fn of_group(opener: Option<Opener<Flag>>, nodes: Vec<Required>) -> Required
+        ensures { view result ≡ group (opener_map kind opener) (trees_view nodes.items) }
+    {
+        match opener {
+            None => Required::All(nodes),
+            Some(Opener::AnyOf) => Required::AnyOf(nodes),
+            Some(Opener::ExactlyOne) => Required::ExactlyOne(nodes),
+            Some(Opener::AtMostOne) => Required::AtMostOne(nodes),
+            Some(Opener::When { flag, on }) => Required::When { flag, on, nodes },
+        }
+    }
+
+    fn is_any_of(opener: &Opener<Flag>) -> bool {
+        matches!(opener, Opener::AnyOf)
+    }
+
+    fn is_barred(_leaf: &Item) -> bool {
+        false
+    }
+
+    fn keeps_brackets() -> bool {
+        false
+    }
+
+    fn opener(opener: Opener<Flag>) -> Option<Opener<Flag>> {
+        Some(opener)
+    }
+
+    fn leaf(alloc: Global, word: &str) -> Result<Option<Item>, AllocError> {
+        item(alloc, word)
+    }
 }
 
-fn token(alloc: Global, word: &str) -> Result<Token<Opener<Flag>, Item>, AllocError>
-    ensures { IfOk result (IsToken grammar word.now) }
-{
-    match shape_of(word, false) {
-        Shape::Opens => Ok(Token::Opens),
-        Shape::Closes => Ok(Token::Closes),
-        Shape::Glued => Ok(Token::Glued),
-        Shape::AnyOf => Ok(Token::Begins(Opener::AnyOf)),
-        Shape::ExactlyOne => Ok(Token::Begins(Opener::ExactlyOne)),
-        Shape::AtMostOne => Ok(Token::Begins(Opener::AtMostOne)),
-        Shape::When { on } => condition(alloc, word, on),
-        Shape::Item => item(alloc, word),
-    }
-}
-
-fn condition(alloc: Global, word: &str, on: bool) -> Result<Token<Opener<Flag>, Item>, AllocError>
-    requires { shape false word.now ≡ Shape.When on }
-    ensures { IfOk result (IsToken grammar word.now) }
-{
-    match flag(alloc, flag_of(word, on))? {
-        Some(flag) => Ok(Token::Begins(Opener::When { flag, on })),
-        None => Ok(Token::Unknown),
-    }
-}
-
-fn item(alloc: Global, word: &str) -> Result<Token<Opener<Flag>, Item>, AllocError>
-    requires { shape false word.now ≡ Shape.Item }
-    ensures { IfOk result (IsToken grammar word.now) }
+/// The flag that the word wants on, or off, if it is one.
+fn item(alloc: Global, word: &str) -> Result<Option<Item>, AllocError>
+    ensures { IfOk result (λ found. MatchOption found (¬ IsLeafWord grammar word.now)
+        (IsOnlyLeaf grammar word.now)) }
 {
     let (on, text) = denied(word);
     match flag(alloc, text)? {
-        Some(flag) => Ok(Token::Leaf(Item { flag, on })),
-        None => Ok(Token::Unknown),
+        Some(flag) => Ok(Some(Item { flag, on })),
+        None => Ok(None),
     }
 }
 
@@ -115,17 +116,5 @@ fn denied(word: &str) -> (bool, &str)
     match word.strip_prefix('!') {
         Some(rest) => (false, rest),
         None => (true, word),
-    }
-}
-
-/// The flag that the text is, if it is one.
-fn flag(alloc: Global, text: &str) -> Result<Option<Flag>, AllocError>
-    ensures { IfOk result (λ found.
-        MatchOption found (IsFlag text.now → ⊥) (λ flag. (flag ≡ text.now) × IsFlag text.now)) }
-{
-    match Flag::parse(alloc, text) {
-        Ok(flag) => Ok(Some(flag)),
-        Err(NameFault::Memory) => Err(AllocError),
-        Err(_) => Ok(None),
     }
 }

@@ -1,14 +1,13 @@
 ghost use Rattle.std.specs.Prelude.{◌≡◌, ◌++◌, IfOk, OnOk, string_bytes};
+ghost use Rattle.dep_group.specs.Printing.{Adds, group_tokens};
 ghost use Rattle.dep_group.specs.Reading.{all_tokens, tokens};
-ghost use Rattle.dep_group.specs.Shapes.{condition};
 ghost use Rattle.dep_group.specs.Words.{and_space};
-ghost use Rattle.required_use.specs.Grammar.{item_text};
-ghost use Rattle.required_use.specs.Printing.{Adds, group_tokens};
+ghost use Rattle.required_use.specs.Grammar.{grammar, item_text};
 ghost use Rattle.required_use.specs.Texts.{text_of};
 ghost use Rattle.required_use.specs.View.{trees_view, view};
 
 use crate::required::Required;
-use dep_group::push_word;
+use dep_group::{push_condition, push_word};
 use pms_names::Flag;
 use std::alloc::{AllocError, Global};
 
@@ -23,7 +22,7 @@ pub fn print(alloc: Global, nodes: &[Required]) -> Result<String, AllocError>
 
 #[cycle(print)]
 fn push_all(nodes: &[Required], out: &mut String) -> Result<(), AllocError>
-    ensures { OnOk result (Adds (string_bytes out.old) (string_bytes out.new)
+    ensures { OnOk result (Adds grammar (string_bytes out.old) (string_bytes out.new)
         (all_tokens (trees_view nodes.now))) }
 {
     for node in nodes {
@@ -34,7 +33,7 @@ fn push_all(nodes: &[Required], out: &mut String) -> Result<(), AllocError>
 
 #[cycle(print)]
 fn push_group(nodes: &[Required], out: &mut String) -> Result<(), AllocError>
-    ensures { OnOk result (Adds (string_bytes out.old) (string_bytes out.new)
+    ensures { OnOk result (Adds grammar (string_bytes out.old) (string_bytes out.new)
         (group_tokens (trees_view nodes.now))) }
 {
     push_word(out, "", "(", "")?;
@@ -45,7 +44,7 @@ fn push_group(nodes: &[Required], out: &mut String) -> Result<(), AllocError>
 
 #[cycle(print)]
 fn push(node: &Required, out: &mut String) -> Result<(), AllocError>
-    ensures { OnOk result (Adds (string_bytes out.old) (string_bytes out.new)
+    ensures { OnOk result (Adds grammar (string_bytes out.old) (string_bytes out.new)
         (tokens (view node.now))) }
 {
     match node {
@@ -73,7 +72,7 @@ fn push(node: &Required, out: &mut String) -> Result<(), AllocError>
             Ok(())
         }
         Required::When { flag, on, nodes } => {
-            push_condition(flag, *on, out)?;
+            push_condition(out, flag, *on)?;
             push_group(nodes, out)?;
             Ok(())
         }
@@ -88,18 +87,6 @@ fn push_item(flag: &Flag, on: bool, out: &mut String) -> Result<(), AllocError>
         push_word(out, "", flag.text(), "")?;
     } else {
         push_word(out, "!", flag.text(), "")?;
-    }
-    Ok(())
-}
-
-fn push_condition(flag: &Flag, on: bool, out: &mut String) -> Result<(), AllocError>
-    ensures { OnOk result (string_bytes out.new ≡
-        and_space (string_bytes out.old) ++ condition flag.now on) }
-{
-    if on {
-        push_word(out, "", flag.text(), "?")?;
-    } else {
-        push_word(out, "!", flag.text(), "?")?;
     }
     Ok(())
 }

@@ -1,19 +1,18 @@
 ghost use Rattle.std.specs.Prelude.{◌≡◌, ◌+◌, ◌≤◌, ◌↔◌, Bool, IfErr, IfOk, IsNone, IsTrue, List};
 ghost use Rattle.std.specs.Prelude.{MatchResult, map, not, string_bytes, ℕ};
 ghost use Rattle.std.specs.List.{position};
-ghost use Rattle.dep_group.specs.Trees.{Trees, all_hold, group, holds, is_member, is_met};
-ghost use Rattle.dep_group.specs.Trees.{true_members, trees_of};
+ghost use Rattle.dep_group.specs.Trees.{Trees, all_hold, holds, is_member, is_met, true_members};
 ghost use Rattle.pms_names.specs.Flags.{has};
 ghost use Rattle.dep_group.specs.Tokens.{IsInForm};
 ghost use Rattle.required_use.specs.Faults.{FirstFault, HasFault, IsMemory};
 ghost use Rattle.required_use.specs.Texts.{Expressions, IsExpression, Writes, text_of};
 ghost use Rattle.required_use.specs.Grammar.{grammar, is_on, kind, never};
+ghost use Rattle.required_use.specs.Truth.{first_broken};
 ghost use Rattle.required_use.specs.View.{trees, trees_view, view};
 ghost use Rattle.required_use.specs.declared.fault.RequiredFault.{RequiredFault};
 
 use crate::fault::RequiredFault;
 use crate::{parse, print};
-use dep_group::{Node, Opener};
 use pms_names::{Flag, Flags};
 use std::alloc::{AllocError, Global};
 
@@ -79,9 +78,7 @@ impl RequiredUse {
 
     /// The index of the first of the outermost expressions that does not hold.
     pub fn first_broken(&self, enabled: &Flags) -> Option<usize>
-        ensures first { result ≡ position
-            (λ r. not (holds kind (is_on enabled.now) (has enabled.now)
-            (view r))) self.now.nodes.items }
+        ensures first { result ≡ first_broken enabled.now (trees self.now) }
         ensures none { IsNone result ↔ IsTrue
             (all_hold kind (is_on enabled.now) (has enabled.now) (trees self.now)) }
     {
@@ -166,41 +163,4 @@ fn is_met(enabled: &Flags, flag: &Flag, on: bool) -> bool
     ensures { result ≡ is_met (has enabled.now) flag.now on }
 {
     enabled.has(flag) == on
-}
-
-impl Node<Opener<Flag>, Item> for Required {
-    ghost use Rattle.dep_group.specs.Trees.{is_any_of};
-    ghost use Rattle.required_use.specs.View.{view};
-    ghost use Rattle.required_use.specs.Grammar.{never};
-
-    ghost view = { view };
-
-    ghost any_of = { is_any_of };
-
-    ghost barred = { never };
-
-    fn of_leaf(leaf: Item) -> Required {
-        let Item { flag, on } = leaf;
-        Required::Item { flag, on }
-    }
-
-    fn of_group(opener: Option<Opener<Flag>>, nodes: Vec<Required>) -> Required
-        ensures { view result ≡ group opener (trees_view nodes.items) }
-    {
-        match opener {
-            None => Required::All(nodes),
-            Some(Opener::AnyOf) => Required::AnyOf(nodes),
-            Some(Opener::ExactlyOne) => Required::ExactlyOne(nodes),
-            Some(Opener::AtMostOne) => Required::AtMostOne(nodes),
-            Some(Opener::When { flag, on }) => Required::When { flag, on, nodes },
-        }
-    }
-
-    fn is_any_of(opener: &Opener<Flag>) -> bool {
-        matches!(opener, Opener::AnyOf)
-    }
-
-    fn is_barred(_leaf: &Item) -> bool {
-        false
-    }
 }
