@@ -3,25 +3,62 @@ use file_tree::{Kind, Path};
 use merge_record::{Placement, Record, digest_of, encode};
 use recovery::recover;
 use samples::{
-    Run, as_read, cached, file, listing, run_on, sample_image, sample_tree, tree_of, with_odd,
-    with_touched, without_touched,
+    Run, as_read, cached, file, image_of, listing, run_on, sample_image, sample_tree, tree_of,
+    with_odd, with_touched, without_touched,
 };
 use std::alloc::{AllocError, Global};
 use std::test::Fail;
 use tree_mem::MemTree;
 
-/// A run that merges `c/p-1` into a tree, whose device stops at a call of this number.
-fn stopped(alloc: Global, mut tree: MemTree, call: u64) -> Result<Run, AllocError> {
+/// An image of one empty file.
+const ONE: &str = "- usr/bin/p";
+
+/// An image of an executable file, a link and an empty file.
+const SEVERAL: &str = "x usr/bin/p abc\nl usr/lib/p.so p.so.1\n- etc/p";
+
+/// A run that merges `c/p-1` with this image into a tree, whose device stops at a call of this
+/// number.
+fn stopped_with(
+    alloc: Global,
+    image: &str,
+    mut tree: MemTree,
+    call: u64,
+) -> Result<Run, AllocError> {
     tree.stop_at(call);
-    run_on(alloc, "=c/p-1", tree, sample_image(alloc)?)
+    run_on(alloc, "=c/p-1", tree, image_of(alloc, image)?)
 }
 
-/// The number of the status with which a run over this tree ends, and the objects that it leaves.
-fn ending(alloc: Global, tree: MemTree) -> Result<String, AllocError> {
-    let run = run_on(alloc, "=c/p-1", tree, sample_image(alloc)?)?;
+fn stopped(alloc: Global, tree: MemTree, call: u64) -> Result<Run, AllocError> {
+    stopped_with(alloc, ONE, tree, call)
+}
+
+/// The number of the status with which a run with this image over this tree ends, and the objects
+/// that it leaves.
+fn ending_with(alloc: Global, image: &str, tree: MemTree) -> Result<String, AllocError> {
+    let run = run_on(alloc, "=c/p-1", tree, image_of(alloc, image)?)?;
     let code = run.code;
     let objects = listing(alloc, &run.tree)?;
     format!(in alloc; "{code} {objects}")
+}
+
+fn ending(alloc: Global, tree: MemTree) -> Result<String, AllocError> {
+    ending_with(alloc, ONE, tree)
+}
+
+/// Whether a run that is stopped at this call ends by itself; else a second run over what a crash
+/// may leave has to end as a whole one does.
+fn ends_at(alloc: Global, image: &str, call: u64, whole: &str) -> Result<bool, Fail> {
+    let run = stopped_with(alloc, image, sample_tree(alloc)?, call)?;
+    if run.code == 0 {
+        return Ok(true);
+    }
+    let kept = ending_with(alloc, image, as_read(&run.tree)?)?;
+    let lost = ending_with(alloc, image, without_touched(alloc, &run.tree)?)?;
+    if kept.as_str() == whole && lost.as_str() == whole {
+        Ok(false)
+    } else {
+        Err(Fail::from("a second run ends otherwise"))
+    }
 }
 
 #[test]
@@ -29,26 +66,17 @@ fn a_run_that_is_stopped_at_any_call_ends_well_when_it_is_run_again(
     rt: HostRuntime,
 ) -> Result<(), Fail> {
     let alloc = rt.alloc();
-    let whole = ending(alloc, sample_tree(alloc)?)?;
-    let mut ended = false;
-    for call in 1..60 {
-        let run = stopped(alloc, sample_tree(alloc)?, call)?;
-        ended = run.code == 0;
-        if ended {
-            break;
+    for image in [ONE, SEVERAL] {
+        let whole = ending_with(alloc, image, sample_tree(alloc)?)?;
+        let mut ended = false;
+        for call in 1..60 {
+            ended = ends_at(alloc, image, call, whole.as_str())?;
+            if ended {
+                break;
+            }
         }
-        assert_eq!(rt;
-            ending(alloc, as_read(&run.tree)?)?,
-            whole,
-            "at call {call}"
-        );
-        assert_eq!(rt;
-            ending(alloc, without_touched(alloc, &run.tree)?)?,
-            whole,
-            "at call {call}"
-        );
+        assert!(rt; ended, "{image}");
     }
-    assert!(rt; ended);
     Ok(())
 }
 

@@ -1,6 +1,7 @@
 use file_tree::{Entry, Kind};
 use samples::{
-    ImageBuilder, Run, cached, file, listing, run_on, run_with, sample_image, sample_tree, tree_of,
+    ImageBuilder, Run, cached, file, image_of, listing, run_on, run_with, sample_image,
+    sample_tree, tree_of,
 };
 use std::alloc::{AllocError, Global};
 use std::test::Fail;
@@ -79,77 +80,126 @@ fn words_and_what_they_come_to(rt: HostRuntime) -> Result<(), Fail> {
     Ok(())
 }
 
-/// What a run over the sample's cache entry and one more file comes to, with an image of one file.
-fn told_beside(
-    alloc: Global,
-    words: &str,
-    also: &str,
-    path: &str,
-    kind: Kind,
-) -> Result<String, AllocError> {
+/// What a run of these words over the sample's cache entry and one more file comes to, with this
+/// image.
+fn told_beside(alloc: Global, words: &str, also: &str, image: &str) -> Result<String, AllocError> {
     let cached = cached(alloc, "c/p-1", "0")?;
     let other = file(alloc, also, Kind::Plain, "\u{1}").map_err(|_| AllocError)?;
     let entries = vec![in alloc; cached, other]?;
     let tree = tree_of(alloc, entries).map_err(|_| AllocError)?;
-    let program = file(alloc, path, kind, "").map_err(|_| AllocError)?;
-    told_on(alloc, words, tree, vec![in alloc; program]?)
+    told_on(alloc, words, tree, image_of(alloc, image)?)
 }
 
 #[test]
 fn trees_that_are_not_built_yet(rt: HostRuntime) -> Result<(), Fail> {
     let alloc = rt.alloc();
-    let program = "usr/bin/p";
-    let repository = told_beside(
-        alloc,
-        "=c/q-1",
-        "var/db/repos/gentoo/metadata/md5-cache/c/q-1",
-        program,
-        Kind::Plain,
-    )?;
+    let image = "- usr/bin/p";
+    let other = "var/db/repos/gentoo/metadata/md5-cache/c/q-1";
+    let repository = told_beside(alloc, "=c/q-1", other, image)?;
     assert_eq!(rt; repository.as_str(), "20 emerge: NotBuilt: Repository\n");
-    let database = told_beside(
-        alloc,
-        "=c/p-1",
-        "var/db/pkg/c/q-1/SLOT",
-        program,
-        Kind::Plain,
-    )?;
+    let database = told_beside(alloc, "=c/p-1", "var/db/pkg/c/q-1/SLOT", image)?;
     assert_eq!(rt; database.as_str(), "20 emerge: NotBuilt: Database\n");
     Ok(())
 }
 
 #[test]
-fn images_that_are_not_built_yet(rt: HostRuntime) -> Result<(), Fail> {
+fn images_that_are_refused(rt: HostRuntime) -> Result<(), Fail> {
     let alloc = rt.alloc();
-    // what also stands in the tree, and the image's path
-    let table =
-        "etc/x var/db/pkg/x,etc/x var/lib/portage,etc/x var/db,usr/bin/p usr/bin/p,usr/bin/p/x usr/bin/p,usr usr/bin/p";
-    for row in table.split(',') {
-        let (also, path) = row.split_once(' ').ok_or("a row has two paths")?;
-        let came = told_beside(alloc, "=c/p-1", also, path, Kind::Plain)?;
-        assert_eq!(rt; came.as_str(), "20 emerge: NotBuilt: Image\n", "at {row}");
+    // what also stands in the tree, the image, and the last line
+    let table = [
+        (
+            "etc/x",
+            "- a\n- a/b",
+            "13 emerge: Collision: Ancestor a/b a\n",
+        ),
+        (
+            "etc/x",
+            "- a/b\n- a",
+            "13 emerge: Collision: Ancestor a a/b\n",
+        ),
+        ("usr", "- usr/bin/p", "13 emerge: Collision: Unowned usr\n"),
+        (
+            "usr/bin/p/x",
+            "- b\n- usr/bin/p",
+            "13 emerge: Collision: Unowned usr/bin/p\n",
+        ),
+        (
+            "etc/x",
+            "- b\n- var/db/pkg/x",
+            "14 emerge: BadImage: Reserved var/db/pkg/x\n",
+        ),
+        (
+            "etc/x",
+            "x var/lib/portage",
+            "14 emerge: BadImage: Reserved var/lib/portage\n",
+        ),
+        (
+            "etc/x",
+            "l var/db a",
+            "14 emerge: BadImage: Reserved var/db\n",
+        ),
+        ("etc/x", "- a\n- b\nl a b", "14 emerge: BadImage: Twice a\n"),
+        ("etc/x", "- a\n- a\nl b", "14 emerge: BadImage: Link b\n"),
+    ];
+    for (also, image, want) in table {
+        let came = told_beside(alloc, "=c/p-1", also, image)?;
+        assert_eq!(rt; came.as_str(), want, "{image}");
     }
     Ok(())
 }
 
 #[test]
-fn kinds_and_counts_that_are_not_built_yet(rt: HostRuntime) -> Result<(), Fail> {
+fn unowned_file_in_the_way(rt: HostRuntime) -> Result<(), Fail> {
     let alloc = rt.alloc();
-    let want = "20 emerge: NotBuilt: Image\n";
+    let image = "- usr/bin/q\nx etc/portage/make.profile/make.defaults";
+    let run = run_on(
+        alloc,
+        "=c/p-1",
+        sample_tree(alloc)?,
+        image_of(alloc, image)?,
+    )?;
     assert_eq!(rt;
-        told_beside(alloc, "=c/p-1", "etc/x", "usr/bin/p", Kind::Exec)?.as_str(),
-        want
+        told(alloc, &run)?.as_str(),
+        "13 emerge: Collision: Unowned etc/portage/make.profile/make.defaults\n"
     );
+    let before = sample_tree(alloc)?;
+    assert_eq!(rt; listing(alloc, &run.tree)?, listing(alloc, &before)?);
+    Ok(())
+}
+
+#[test]
+fn a_package_of_files_of_each_kind(rt: HostRuntime) -> Result<(), Fail> {
+    let alloc = rt.alloc();
+    let image = "x usr/bin/run abc\nl usr/lib/p.so p.so.1\n- usr/lib-p\n- etc/p abc";
+    let run = run_on(
+        alloc,
+        "=c/p-1",
+        sample_tree(alloc)?,
+        image_of(alloc, image)?,
+    )?;
     assert_eq!(rt;
-        told_beside(alloc, "=c/p-1", "etc/x", "usr/bin/p", Kind::Link)?.as_str(),
-        want
+        told(alloc, &run)?.as_str(),
+        "0 done 1 +c/p-1\nemerge: ok 1\n"
     );
-    let none = told_on(alloc, "=c/p-1", sample_tree(alloc)?, Vec::new(alloc))?;
-    assert_eq!(rt; none.as_str(), want);
-    let mut both = sample_image(alloc)?;
-    both.push(file(alloc, "usr/bin/q", Kind::Plain, "")?)?;
-    let two = told_on(alloc, "=c/p-1", sample_tree(alloc)?, both)?;
-    assert_eq!(rt; two.as_str(), want);
+    // The digests of `abc` and of nothing are RFC 1321's.
+    let want =
+        "etc/p abc\netc/portage/make.profile/make.defaults ARCH=\"amd64\"\nACCEPT_KEYWORDS=\"amd64\"\n\nusr/bin/run* abc\nusr/lib-p \nusr/lib/p.so@ p.so.1\nvar/db/pkg/c/p-1/CONTENTS obj /etc/p 900150983cd24fb0d6963f7d28e17f72 0\nobj /usr/bin/run 900150983cd24fb0d6963f7d28e17f72 0\nobj /usr/lib-p d41d8cd98f00b204e9800998ecf8427e 0\nsym /usr/lib/p.so -> p.so.1 0\n\nvar/db/pkg/c/p-1/EAPI 8\n\nvar/db/pkg/c/p-1/SLOT 0\n\nvar/db/repos/gentoo/c/p/p-1.ebuild \nvar/db/repos/gentoo/metadata/md5-cache/c/p-1 EAPI=8\nKEYWORDS=amd64\nSLOT=0\n_md5_=d41d8cd98f00b204e9800998ecf8427e\n\n";
+    assert_eq!(rt; listing(alloc, &run.tree)?.as_str(), want);
+    let again = run_on(alloc, "=c/p-1", run.tree, sample_image(alloc)?)?;
+    assert_eq!(rt; told(alloc, &again)?.as_str(), "0 emerge: ok 0\n");
+    Ok(())
+}
+
+#[test]
+fn a_package_without_files(rt: HostRuntime) -> Result<(), Fail> {
+    let alloc = rt.alloc();
+    let run = run_on(alloc, "=c/p-1", sample_tree(alloc)?, Vec::new(alloc))?;
+    assert_eq!(rt;
+        told(alloc, &run)?.as_str(),
+        "0 done 1 +c/p-1\nemerge: ok 1\n"
+    );
+    let again = run_on(alloc, "=c/p-1", run.tree, Vec::new(alloc))?;
+    assert_eq!(rt; told(alloc, &again)?.as_str(), "0 emerge: ok 0\n");
     Ok(())
 }
 

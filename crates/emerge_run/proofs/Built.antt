@@ -1,20 +1,31 @@
 -- What one builder of the pool answered, of the pool.
-use Rattle.std.proofs.Common.{◌≡◌, ◌<◌, ◌-◌, ℕ, List, [], ◌∷◌, ◌++◌, get_or, length, Some, Ok, Err, inl, inr, refl, ap, sym, ◌∙◌, arith, subst, append-nil}
+use Rattle.std.proofs.Common.{◌≡◌, ◌<◌, ◌+◌, ◌-◌, ℕ, zero, suc, List, [], ◌∷◌, ◌++◌, get_or, length, take, Some, Ok, Err, inl, inr, refl, ap, sym, ◌∙◌, arith, subst, append-nil}
 use Rattle.std.specs.Prelude.{All, Contains, IfOk, Result, remove, slice_get}
 use Rattle.std.proofs.lemmas.Bool.{cases_lt}
 use Rattle.std.proofs.lemmas.List.{length-append}
 use Rattle.std.proofs.lemmas.List.Edits.{remove-append_right}
 use Rattle.std.proofs.lemmas.Option.{get_or_from_slice_get, slice_get_within}
 use Rattle.std.proofs.Math.ListN.{get_or-append}
+use Rattle.std.proofs.Math.Seq.{take-length}
 use Rattle.std.proofs.lemmas.List.Elements.{All-push, All-weaker, Contains-push}
 use Rattle.file_tree.specs.Disk.{Rose}
 use Rattle.build_pool.specs.Pool.{Kept, LeavesOne, PoolRose, faults_of}
 use Rattle.build_pool.specs.declared.pools.Away.{Away}
 
-pub only_one : {A : Type 0} (xs : List A) (x : A) → length xs ≡ 1 → slice_get xs 0 ≡ Some x → xs ≡ x ∷ []
-only_one [] x n e = absurd (omega arith)
-only_one (y ∷ []) x n e = let same : y ≡ x = cc in ap (λ z. z ∷ []) same
-only_one (y ∷ z ∷ zs) x n e = absurd (omega arith)
+-- one more element of a list
+pub take_next : {A : Type 0} (xs : List A) (n : ℕ) (x : A) → slice_get xs n ≡ Some x → take (suc n) xs ≡ take n xs ++ x ∷ []
+take_next [] n x e = absurd (cc e)
+take_next (y ∷ xs) zero x e = let same : y ≡ x = cc in ap (λ z. z ∷ []) same
+take_next (y ∷ xs) (suc n) x e = ap (λ l. y ∷ l) (take_next xs n x e)
+
+pub taken_more : {A : Type 0} (items new image whole : List A) (n : ℕ) (x : A) → items ≡ take n whole → image ≡ whole → slice_get image n ≡ Some x → new ≡ items ++ x ∷ [] → new ≡ take (n + 1) whole
+taken_more {A} items new image whole n x taken same there is =
+    let next : n + 1 ≡ suc n = omega arith in
+    is ∙ (ap (λ l. l ++ x ∷ []) taken ∙ (sym (take_next whole n x (subst (λ (l : List A). slice_get l n ≡ Some x) same there)) ∙ ap (λ (k : ℕ). take k whole) (sym next)))
+
+-- so many elements as there are
+pub whole_taken : {A : Type 0} (told image items : List A) (n : ℕ) → image ≡ told → length told ≡ n → items ≡ take n image → told ≡ items
+whole_taken told image items n same long is = sym (is ∙ (ap (take n) same ∙ (ap (λ (k : ℕ). take k told) (sym long) ∙ take-length told)))
 
 -- the builder that answered is named beside its answer
 pub beside_answer : {B X E : Type 0} (r : Result X E) (b : B) (Q : B → Type 0) (P : B → X → Type 0) → Q b → IfOk r (P b) → IfOk r (λ x. (y : B) × Q y × P y x)

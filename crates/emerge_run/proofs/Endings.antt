@@ -3,6 +3,7 @@ use Rattle.std.proofs.Common.{◌≡◌, ◌⊎◌, ℕ, Bool, true, false, List
 use Rattle.std.specs.Prelude.{Contains, IsTrue}
 use Rattle.file_tree.specs.Disk.{Disk, Map, Story}
 use Rattle.file_tree.specs.Moments.{Leaves, Since}
+use Rattle.file_tree.specs.declared.limits.Quantity.TheVariants.{Candidates, Groups, Packages, Paths, RecordBytes}
 use Rattle.file_tree.proofs.Moments.{since_same, since_start, since_then, since_weaker}
 use Rattle.file_tree.specs.declared.objects.Entry.{Entry}
 use Rattle.build_pool.specs.declared.orders.Order.{Order}
@@ -15,37 +16,49 @@ use Rattle.merge_record.specs.Recovered.{IsRecovered}
 use Rattle.recovery.specs.Promise.{IsFaultOf}
 use Rattle.recovery.specs.declared.fault.RecoverFault.{RecoverFault}
 use Rattle.recovery.specs.declared.fault.RecoverFault.TheVariants as recovery
-use Rattle.emerge_run.specs.Answers.{Asks, AsksFor, IsMet, IsReady}
-use Rattle.emerge_run.specs.Images.{Fits, FitsImage}
+use Rattle.emerge_run.specs.Answers.{Asks, AsksFor, IsMet, IsReady, RefusesImage}
+use Rattle.image_fit.specs.Images.{Fits}
+use Rattle.image_fit.specs.Misfits.{Refuses}
+use Rattle.image_fit.specs.declared.fault.Misfit.{Misfit}
+use Rattle.image_fit.specs.declared.fault.Misfit.TheVariants as misfits
+use Rattle.emerge_run.specs.Images.{IsRefusedFor}
 use Rattle.emerge_run.specs.Outcomes.{CarriedOut, EndsWith, HasFiles, ImageAsks, IsAdded, IsApplied, IsAtRest, IsBeforeOrAfter, IsFromBuild, IsKept, IsLate, IsNamed, IsPackageOf, OfSomeBuilder, Outcome, Ran, RanTo, RecoversTo, RecoversToEither}
-use Rattle.emerge_run.specs.Package.{files, order_of}
+use Rattle.emerge_run.specs.Package.{AreFiles, order_of}
 use Rattle.emerge_run.specs.Refusals.{TreeRefuses, status_of, status_of_recovery}
 use Rattle.emerge_words.specs.declared.request.WordFault.{WordFault}
 use Rattle.emerge_run.specs.Words.{AskForPackage, EndsAtWords, IsOfWords, IsRequest}
 use Rattle.emerge_run.proofs.Grouped.{closed_at_rest, closed_leaves}
 use Rattle.emerge_run.specs.declared.refusal.Refusal.{Refusal}
 use Rattle.emerge_run.specs.declared.refusal.Refusal.TheVariants as refusals
-use Rattle.emerge_run.specs.declared.status.Part.TheVariants.{Command, Database, Image, Repository}
+use Rattle.emerge_run.specs.declared.status.Part.TheVariants.{Command, Database, Repository}
 use Rattle.emerge_run.specs.declared.status.Status.{Status}
 use Rattle.emerge_run.specs.declared.status.Status.TheVariants as status
 
 -- the whole image function that agrees with what was seen at one order
-pub seen_image : (tells : Bool) (told : Order → List Entry) (o : Order) (seen : List Entry) → (IsTrue tells → seen ≡ told o)
+pub seen_image : (tells : Bool) (told : Order → List Entry) (o : Order) (seen : List Entry) → (IsTrue tells → told o ≡ seen)
     → (image : Order → List Entry) × (IsTrue tells → image ≡ told) × (image o ≡ seen)
-seen_image true told o seen h = (told, (λ t. refl), sym (h refl))
+seen_image true told o seen h = (told, (λ t. refl), h refl)
 seen_image false told o seen h = ((λ _. seen), (λ t. absurd (cc t)), refl)
+
+-- an image that was seen and refused makes the run refuse
+refused_asks : (tells : Bool) (told : Order → List Entry) (m : Map) (a : AtomValue) (f : Facts) (misfit : Misfit) → IsReady m a f → IsRefusedFor misfit tells (told (order_of f)) m
+    → (image : Order → List Entry) × (IsTrue tells → image ≡ told) × RefusesImage a m image misfit
+refused_asks tells told m a f misfit ready h =
+    let seen = seen_image tells told (order_of f) h.0 h.1 in
+    (seen.0, seen.1, (f, ready, subst (λ (x : List Entry). Refuses m x misfit) (sym seen.2) h.2))
 
 -- what asking the builder answered is what the run is asked for
 pub image_asks : (tells : Bool) (told : Order → List Entry) (m : Map) (a : AtomValue) (f : Facts) (s : Status) → IsReady m a f → ImageAsks tells (told (order_of f)) m f.id s
     → (image : Order → List Entry) × (IsTrue tells → image ≡ told) × AsksFor a m image s
-image_asks tells told m a f (status.NotBuilt Image) ready h =
-    let seen = seen_image tells told (order_of f) h.0 h.1 in
-    (seen.0, seen.1, (f, ready, subst (λ (x : List Entry). FitsImage m x → ⊥) (sym seen.2) h.2))
-image_asks tells told m a f (status.NotBuilt Database) ready h = absurd h
-image_asks tells told m a f (status.NotBuilt Command) ready h = absurd h
+image_asks tells told m a f (status.Collision c) ready h = refused_asks tells told m a f (misfits.Collision c) ready h
+image_asks tells told m a f (status.BadImage b) ready h = refused_asks tells told m a f (misfits.Image b) ready h
+image_asks tells told m a f (status.Limit Paths) ready h = refused_asks tells told m a f misfits.Many ready h
+image_asks tells told m a f (status.Limit Groups) ready h = absurd h
+image_asks tells told m a f (status.Limit Packages) ready h = absurd h
+image_asks tells told m a f (status.Limit Candidates) ready h = absurd h
+image_asks tells told m a f (status.Limit RecordBytes) ready h = absurd h
+image_asks tells told m a f (status.NotBuilt what) ready h = absurd h
 image_asks tells told m a f (status.BadJournal fault) ready h = absurd h
-image_asks tells told m a f (status.Limit quantity) ready h = absurd h
-image_asks tells told m a f (status.NotBuilt Repository) ready h = absurd h
 image_asks tells told m a f (status.BuildFailed failed) ready h = (told, (λ t. refl), (f, ready, h))
 image_asks tells told m a f status.DeviceFault ready h = (told, (λ t. refl), tt)
 image_asks tells told m a f status.Memory ready h = (told, (λ t. refl), tt)
@@ -62,6 +75,8 @@ not_ok_word words (status.NotBuilt what) n ends e = absurd (cc e)
 not_ok_word words (status.BadJournal fault) n ends e = absurd ends
 not_ok_word words (status.Limit quantity) n ends e = absurd ends
 not_ok_word words (status.NoCandidate atom reasons) n ends e = absurd (cc e)
+not_ok_word words (status.Collision c) n ends e = absurd ends
+not_ok_word words (status.BadImage b) n ends e = absurd ends
 not_ok_word words (status.BuildFailed id) n ends e = absurd (cc e)
 not_ok_word words status.DeviceFault n ends e = absurd (cc e)
 not_ok_word words status.OutputFault n ends e = absurd (cc e)
@@ -83,9 +98,11 @@ pub not_ok_build : (s : Status) (n : ℕ) → IsFromBuild s → s ≡ status.Ok 
 not_ok_build (status.Ok groups) n from e = absurd from
 not_ok_build (status.Usage fault) n from e = absurd (cc e)
 not_ok_build (status.BadJournal fault) n from e = absurd from
-not_ok_build (status.Limit quantity) n from e = absurd from
-not_ok_build (status.NoCandidate atom reasons) n from e = absurd (cc e)
-not_ok_build (status.NotBuilt part) n from e = absurd (cc e)
+not_ok_build (status.Limit quantity) n from e = absurd (cc e)
+not_ok_build (status.Collision c) n from e = absurd (cc e)
+not_ok_build (status.BadImage b) n from e = absurd (cc e)
+not_ok_build (status.NoCandidate atom reasons) n from e = absurd from
+not_ok_build (status.NotBuilt part) n from e = absurd from
 not_ok_build (status.BuildFailed order) n from e = absurd (cc e)
 not_ok_build status.DeviceFault n from e = absurd (cc e)
 not_ok_build status.OutputFault n from e = absurd (cc e)
@@ -105,10 +122,11 @@ not_of_words a m image (status.Usage fault) asks of = asks
 not_of_words a m image (status.NotBuilt Command) asks of = asks
 not_of_words a m image (status.NotBuilt Repository) asks of = of
 not_of_words a m image (status.NotBuilt Database) asks of = of
-not_of_words a m image (status.NotBuilt Image) asks of = of
 not_of_words a m image (status.Ok groups) asks of = of
 not_of_words a m image (status.BadJournal fault) asks of = of
 not_of_words a m image (status.Limit quantity) asks of = of
+not_of_words a m image (status.Collision c) asks of = of
+not_of_words a m image (status.BadImage b) asks of = of
 not_of_words a m image (status.NoCandidate atom reasons) asks of = of
 not_of_words a m image (status.BuildFailed id) asks of = of
 not_of_words a m image status.DeviceFault asks of = of
@@ -138,7 +156,6 @@ pub tree_asks : (a : AtomValue) (m : Map) (image : Order → List Entry) (r : Re
 tree_asks a m image (refusals.NotBuilt Repository) refuses = refuses
 tree_asks a m image (refusals.NotBuilt Database) refuses = refuses
 tree_asks a m image (refusals.NotBuilt Command) refuses = refuses
-tree_asks a m image (refusals.NotBuilt Image) refuses = absurd refuses
 tree_asks a m image refusals.Failed refuses = tt
 tree_asks a m image refusals.Memory refuses = tt
 
@@ -170,10 +187,15 @@ asks_after words a opening m image (status.Ok groups) asked is asks = (a, asked,
 asks_after words a opening m image (status.Usage fault) asked is asks = absurd asks
 asks_after words a opening m image (status.NotBuilt Command) asked is asks = absurd asks
 asks_after words a opening m image (status.BadJournal fault) asked is asks = absurd asks
-asks_after words a opening m image (status.Limit quantity) asked is asks = absurd asks
+asks_after words a opening m image (status.Limit Paths) asked is asks = (a, asked, (m, is, asks))
+asks_after words a opening m image (status.Limit Groups) asked is asks = absurd asks
+asks_after words a opening m image (status.Limit Packages) asked is asks = absurd asks
+asks_after words a opening m image (status.Limit Candidates) asked is asks = absurd asks
+asks_after words a opening m image (status.Limit RecordBytes) asked is asks = absurd asks
+asks_after words a opening m image (status.Collision c) asked is asks = (a, asked, (m, is, asks))
+asks_after words a opening m image (status.BadImage b) asked is asks = (a, asked, (m, is, asks))
 asks_after words a opening m image (status.NotBuilt Repository) asked is asks = (a, asked, (m, is, asks))
 asks_after words a opening m image (status.NotBuilt Database) asked is asks = (a, asked, (m, is, asks))
-asks_after words a opening m image (status.NotBuilt Image) asked is asks = (a, asked, (m, is, asks))
 asks_after words a opening m image (status.NoCandidate atom reasons) asked is asks = (a, asked, (m, is, asks))
 asks_after words a opening m image (status.BuildFailed failed) asked is asks = (a, asked, (m, is, asks))
 asks_after words a opening m image status.DeviceFault asked is asks = tt
@@ -279,7 +301,7 @@ ran_before tells told resting a old new s s' history b has image its asks same n
       ),
     )
 
-late_asks : (a : AtomValue) (f : Facts) (m : Map) (image : Order → List Entry) (s : Status) → IsLate s → ((n : ℕ) → s ≡ status.Ok n → n ≡ 1) → IsReady m a f → FitsImage m (image (order_of f)) → AsksFor a m image s
+late_asks : (a : AtomValue) (f : Facts) (m : Map) (image : Order → List Entry) (s : Status) → IsLate s → ((n : ℕ) → s ≡ status.Ok n → n ≡ 1) → IsReady m a f → Fits m (image (order_of f)) → AsksFor a m image s
 late_asks a f m image (status.Ok n) late one ready fits = inl (f, ready, (fits, one n refl))
 late_asks a f m image status.DeviceFault late one ready fits = tt
 late_asks a f m image status.OutputFault late one ready fits = tt
@@ -287,6 +309,8 @@ late_asks a f m image status.Memory late one ready fits = tt
 late_asks a f m image (status.Usage fault) late one ready fits = absurd late
 late_asks a f m image (status.BadJournal fault) late one ready fits = absurd late
 late_asks a f m image (status.Limit quantity) late one ready fits = absurd late
+late_asks a f m image (status.Collision c) late one ready fits = absurd late
+late_asks a f m image (status.BadImage b) late one ready fits = absurd late
 late_asks a f m image (status.NotBuilt part) late one ready fits = absurd late
 late_asks a f m image (status.NoCandidate atom reasons) late one ready fits = absurd late
 late_asks a f m image (status.BuildFailed id) late one ready fits = absurd late
@@ -301,23 +325,24 @@ to_if_either a es image m c added (inr after) = inr (es, added, after)
 
 -- a run whose group was begun
 pub ran_carried : {B : Type 0} (tells : Bool) (told : B → Order → List Entry) (resting : List B) (a : AtomValue) (f : Facts) (old new : Story) (s : Status) (history : List ℕ)
-    (e : Entry) (b : B) → Contains resting b → (IsTrue tells → told b (order_of f) ≡ e ∷ []) → IsReady old.now.holds a f → Fits old.now.holds e
-    → IsLate s → ((n : ℕ) → s ≡ status.Ok n → n ≡ 1) → Since (RecoversToEither (files f e) old.now.holds) old new → CarriedOut (files f e) old.now.holds history s old new
-    → ((n : ℕ) → s ≡ status.Ok n → HasFiles (files f e) old.now.holds new.now)
+    (entries es : List Entry) (b : B) → Contains resting b → (IsTrue tells → told b (order_of f) ≡ entries) → IsReady old.now.holds a f → Fits old.now.holds entries → AreFiles f entries es
+    → IsLate s → ((n : ℕ) → s ≡ status.Ok n → n ≡ 1) → Since (RecoversToEither es old.now.holds) old new → CarriedOut es old.now.holds history s old new
+    → ((n : ℕ) → s ≡ status.Ok n → HasFiles es old.now.holds new.now)
     → OfSomeBuilder tells told resting (λ image. Ran a image old new history s)
-ran_carried tells told resting a f old new s history e b has told_is ready fits late one moments tree done =
-    let seen = seen_image tells (told b) (order_of f) (e ∷ []) (λ t. sym (told_is t)) in
-    let added : IsAdded a seen.0 old.now.holds (files f e) = record { facts = f; ready = ready; entry = e; told = seen.2; fits = fits; are = refl } in (
+ran_carried tells told resting a f old new s history entries es b has told_is ready fits are late one moments tree done =
+    let seen = seen_image tells (told b) (order_of f) entries told_is in
+    let taken : Fits old.now.holds (seen.0 (order_of f)) = subst (λ (x : List Entry). Fits old.now.holds x) (sym seen.2) fits in
+    let added : IsAdded a seen.0 old.now.holds es = record { facts = f; ready = ready; fits = taken; are = subst (λ (x : List Entry). AreFiles f x es) (sym seen.2) are } in (
       b,
       has,
       (
         seen.0,
         seen.1,
         record {
-          answer = late_asks a f old.now.holds seen.0 s late one ready (e, seen.2, fits);
-          moments = since_weaker (RecoversToEither (files f e) old.now.holds) (RecoversTo a seen.0 old.now.holds) (λ c h. to_if_either a (files f e) seen.0 old.now.holds c added h) old new moments;
-          tree = ran_if_carried a (files f e) seen.0 history s old new added tree;
-          done = λ n is. subst (λ (k : ℕ). EndsWith a seen.0 k old.now.holds new.now) (sym (one n is)) (files f e, added, done n is);
+          answer = late_asks a f old.now.holds seen.0 s late one ready taken;
+          moments = since_weaker (RecoversToEither es old.now.holds) (RecoversTo a seen.0 old.now.holds) (λ c h. to_if_either a es seen.0 old.now.holds c added h) old new moments;
+          tree = ran_if_carried a es seen.0 history s old new added tree;
+          done = λ n is. subst (λ (k : ℕ). EndsWith a seen.0 k old.now.holds new.now) (sym (one n is)) (es, added, done n is);
         },
       ),
     )

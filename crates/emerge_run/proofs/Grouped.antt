@@ -1,6 +1,6 @@
 -- A package's files as one group of the journal.
-use Rattle.std.proofs.Common.{◌≡◌, ℕ, Bool, true, false, cond, List, [], ◌∷◌, map, Option, Some, None, Result, Ok, Err, inl, inr, refl, ap, sym, ◌∙◌, subst}
-use Rattle.std.specs.Prelude.{IfOk, IsSome, OnOk}
+use Rattle.std.proofs.Common.{◌≡◌, ℕ, Bool, true, false, cond, List, [], ◌∷◌, map, Option, Some, None, inl, inr, refl, ap, sym, ◌∙◌, subst}
+use Rattle.std.specs.Prelude.{IsSome}
 use Rattle.std.proofs.lemmas.Bool.{cases_Bool, cond-true, cond-false}
 use Rattle.file_tree.specs.Disk.{Disk, HasBelow, IsUntouched, Map, Story, with_path}
 use Rattle.file_tree.specs.Moments.{Leaves, Since}
@@ -25,7 +25,7 @@ use Rattle.group_merge.proofs.Turns.{swapped}
 use Rattle.group_merge.proofs.Walk.{own_path}
 use Rattle.emerge_run.specs.Outcomes.{HasFiles, IsAtRest, IsClosed, RecoversToEither}
 use Rattle.emerge_run.specs.Package.{object_of, placement_of, placing, with_files}
-use Rattle.emerge_run.proofs.Parts.{none_if_bare}
+use Rattle.image_fit.proofs.Parts.{none_if_bare}
 
 -- each file has its object
 pub all_staged : (es : List Entry) → AreStaged (map placement_of es) (map object_of es)

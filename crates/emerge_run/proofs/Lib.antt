@@ -6,4 +6,3 @@ pub mod Grouped
 pub mod Lines
 pub mod OnePackage
 pub mod Nested
-pub mod Parts

@@ -1,5 +1,5 @@
 -- Paths above and below one another, as one that goes on with a slash behind the other.
-use Rattle.std.proofs.Common.{◌≡◌, ◌⊎◌, ◌<◌, ◌||◌, ◌==◌, ℕ, suc, Bool, true, false, List, [], ◌∷◌, ◌++◌, length, take, drop, get_or, inl, inr, refl, ap, sym, ◌∙◌, arith, subst, append_assoc}
+use Rattle.std.proofs.Common.{◌≡◌, ◌⊎◌, ◌<◌, ◌||◌, ◌==◌, ℕ, suc, true, List, [], ◌∷◌, ◌++◌, length, take, drop, get_or, inl, inr, refl, ap, sym, ◌∙◌, arith, subst, append_assoc}
 use Rattle.std.specs.Prelude.{bytes_eq}
 use Rattle.std.proofs.lemmas.Bool.{cases_lt, eq-eqb, or_left, or_right}
 use Rattle.std.proofs.lemmas.List.{take-append-drop}
@@ -8,8 +8,8 @@ use Rattle.std.proofs.Math.ListN.{get_or-eq_default}
 use Rattle.std.proofs.Math.Seq.{drop-cons, get_or-append_seam, take-append_seam}
 use Rattle.file_tree.specs.Paths.{is_below}
 use Rattle.merge_record.proofs.Steps.{and_both}
-use Rattle.emerge_run.specs.Images.{meets}
-use Rattle.emerge_run.proofs.Parts.{above_is_part}
+use Rattle.image_fit.proofs.Parts.{above_is_part}
+use Rattle.owner_book.specs.Rules.{touches}
 
 -- b goes on with a slash behind a
 abbrev pub IsAbove : List ℕ → List ℕ → Type 0
@@ -53,8 +53,8 @@ above_one (x ∷ a) (y ∷ b) r s e =
     let first : x ≡ y = cc (ap (λ (l : List ℕ). get_or l 0 0) e) in
     subst (λ (n : ℕ). Meet (x ∷ a) (n ∷ b)) first (behind x a b (above_one a b r s (ap (drop 1) e)))
 
-pub above_one_meet : (top path low : List ℕ) → is_below top low ≡ true → is_below path low ≡ true → meets top path ≡ true
-above_one_meet top path low h k =
+pub above_one_touch : (top path low : List ℕ) → is_below top low ≡ true → is_below path low ≡ true → touches top path ≡ true
+above_one_touch top path low h k =
     let one = above_if_below top low h in
     let two = above_if_below path low k in
     elim (above_one top path one.0 two.0 (sym one.1 ∙ two.1)) [
@@ -63,5 +63,5 @@ above_one_meet top path low h k =
       | inr (inr above) ↦ or_right (bytes_eq path top) (is_below top path || is_below path top) (or_right (is_below top path) (is_below path top) (below_if_above path top above))
     ]
 
-pub below_meets : (top path : List ℕ) → is_below top path ≡ true → meets top path ≡ true
-below_meets top path h = or_right (bytes_eq path top) (is_below top path || is_below path top) (or_left (is_below top path) (is_below path top) h)
+pub below_touches : (top path : List ℕ) → is_below top path ≡ true → touches top path ≡ true
+below_touches top path h = or_right (bytes_eq path top) (is_below top path || is_below path top) (or_left (is_below top path) (is_below path top) h)

@@ -3,13 +3,17 @@ use Rattle.std.specs.Prelude.{◌≡◌, ◌⊎◌, ℕ, true, false, List, [], 
 use Rattle.std.specs.List.{AllByRecursion}
 use Rattle.file_tree.specs.Disk.{HasBelow, Map}
 use Rattle.file_tree.specs.declared.limits.Quantity.{Quantity}
-use Rattle.file_tree.specs.declared.limits.Quantity.TheVariants.{Groups}
+use Rattle.file_tree.specs.declared.limits.Quantity.TheVariants.{Groups, Paths}
 use Rattle.file_tree.specs.declared.objects.Entry.{Entry}
 use Rattle.dep_atom.specs.Match.{value_matches}
 use Rattle.dep_atom.specs.Values.{AtomValue, atom_value}
 use Rattle.dep_atom.specs.declared.package.Facts.{Facts}
 use Rattle.dep_atom.specs.declared.package.PackageId.{PackageId}
 use Rattle.build_pool.specs.declared.orders.Order.{Order}
+use Rattle.image_fit.specs.Images.{Fits}
+use Rattle.image_fit.specs.Misfits as fit
+use Rattle.image_fit.specs.declared.fault.Misfit.{Misfit}
+use Rattle.image_fit.specs.declared.fault.Misfit.TheVariants as misfits
 use Rattle.merge_record.specs.Recovered.{IsRecovered}
 use Rattle.recovery.specs.Found.{HasTooManyGates}
 use Rattle.recovery.specs.Promise.{IsFaultOf}
@@ -18,13 +22,12 @@ use Rattle.recovery.specs.declared.fault.RecoverFault.TheVariants as recovery
 use Rattle.vdb_text.specs.Database.{IsInstalled}
 use Rattle.vdb_text.specs.Files.{database_path}
 use Rattle.visible_set.specs.Candidates.{AreOffers, HasOddEntry, IsChosen}
-use Rattle.emerge_run.specs.Images.{FitsImage}
 use Rattle.emerge_run.specs.Package.{order_of}
 use Rattle.emerge_run.specs.Words.{AskForOther, AskForPackage, IsRequest, IsUsage}
 use Rattle.emerge_run.specs.declared.judge.Standing.{Standing}
 use Rattle.emerge_run.specs.declared.judge.Standing.TheVariants.{Chosen, Installed, Unmatched}
 use Rattle.emerge_run.specs.declared.status.Part.{Part}
-use Rattle.emerge_run.specs.declared.status.Part.TheVariants.{Command, Repository, Database, Image}
+use Rattle.emerge_run.specs.declared.status.Part.TheVariants.{Command, Repository, Database}
 use Rattle.emerge_run.specs.declared.status.Reason.{Reason}
 use Rattle.emerge_run.specs.declared.status.Reason.TheVariants.{NotMatched}
 use Rattle.emerge_run.specs.declared.status.Status.{Status}
@@ -77,24 +80,29 @@ abbrev pub Refuses : Map → AtomValue → Part → Type 0
 Refuses m a Command = ⊥
 Refuses m a Repository = HasOddEntry m a.name
 Refuses m a Database = (HasOddEntry m a.name → ⊥) × (HasBelow m database_path × (IsMet m a → ⊥))
-Refuses m a Image = ⊥
 
--- the answer of a run for this atom over a recovered tree and this image: each part that is not
--- built comes exactly where it is the first that is refused; Ok means that nothing is, and that the
--- chosen package is merged or one that the atom matches was there. A failure or want of memory may
--- come in place of any of them.
+-- the image for the package that the atom chooses is refused for this
+abbrev pub RefusesImage : AtomValue → Map → (Order → List Entry) → Misfit → Type 0
+RefusesImage a m image misfit =
+    (f : Facts) × IsReady m a f × fit.Refuses m (image (order_of f)) misfit
+
+-- the answer of a run for this atom over a recovered tree and this image: each refusal comes
+-- exactly where it is the first, of the tree and then of the image; Ok means that nothing is
+-- refused, and that the chosen package is merged or one that the atom matches was there. A failure
+-- or want of memory may come in place of any of them.
 abbrev pub AsksFor : AtomValue → Map → (Order → List Entry) → Status → Type 0
 AsksFor a m image (status.Ok groups) =
-    ((f : Facts) × IsReady m a f × (FitsImage m (image (order_of f)) × (groups ≡ 1))) ⊎
+    ((f : Facts) × IsReady m a f × (Fits m (image (order_of f)) × (groups ≡ 1))) ⊎
     (((HasOddEntry m a.name → ⊥) × IsMet m a) × (groups ≡ 0))
 AsksFor a m image (status.Usage fault) = ⊥
 AsksFor a m image (status.NotBuilt Command) = ⊥
 AsksFor a m image (status.BadJournal fault) = ⊥
+AsksFor a m image (status.Limit Paths) = RefusesImage a m image misfits.Many
 AsksFor a m image (status.Limit quantity) = ⊥
+AsksFor a m image (status.Collision c) = RefusesImage a m image (misfits.Collision c)
+AsksFor a m image (status.BadImage b) = RefusesImage a m image (misfits.Image b)
 AsksFor a m image (status.NotBuilt Repository) = Refuses m a Repository
 AsksFor a m image (status.NotBuilt Database) = Refuses m a Database
-AsksFor a m image (status.NotBuilt Image) =
-    (f : Facts) × IsReady m a f × (FitsImage m (image (order_of f)) → ⊥)
 AsksFor a m image (status.NoCandidate atom reasons) =
     (atom_value atom ≡ a) × HasNone m a reasons.items
 AsksFor a m image (status.BuildFailed id) = (f : Facts) × IsReady m a f × (id ≡ f.id)
@@ -113,7 +121,7 @@ IsBroken (recovery.BadRecord g) m = IsFaultOf (recovery.BadRecord g) m
 IsBroken (recovery.BadStage g i) m = IsFaultOf (recovery.BadStage g i) m
 IsBroken fault m = ⊥
 
--- the tree has more of the quantity than may be
+-- the tree's journal has more of the quantity than may be
 abbrev pub HasTooMany : Quantity → Map → Type 0
 HasTooMany Groups m = HasTooManyGates m
 HasTooMany quantity m = ⊥
@@ -126,13 +134,15 @@ Asks words opening image (status.Ok groups) = AsksAfter words opening image (sta
 Asks words opening image (status.Usage fault) = IsUsage words fault
 Asks words opening image (status.NotBuilt Command) = AskForOther words
 Asks words opening image (status.BadJournal fault) = AskForPackage words × IsBroken fault opening
+Asks words opening image (status.Limit Paths) = AsksAfter words opening image (status.Limit Paths)
 Asks words opening image (status.Limit quantity) = AskForPackage words × HasTooMany quantity opening
+Asks words opening image (status.Collision c) =
+    AsksAfter words opening image (status.Collision c)
+Asks words opening image (status.BadImage b) = AsksAfter words opening image (status.BadImage b)
 Asks words opening image (status.NotBuilt Repository) =
     AsksAfter words opening image (status.NotBuilt Repository)
 Asks words opening image (status.NotBuilt Database) =
     AsksAfter words opening image (status.NotBuilt Database)
-Asks words opening image (status.NotBuilt Image) =
-    AsksAfter words opening image (status.NotBuilt Image)
 Asks words opening image (status.NoCandidate atom reasons) =
     AsksAfter words opening image (status.NoCandidate atom reasons)
 Asks words opening image (status.BuildFailed id) =

@@ -11,12 +11,14 @@ use Rattle.dep_atom.specs.declared.package.PackageId.{PackageId}
 use Rattle.group_merge.specs.Phases.{IsShut}
 use Rattle.recovery.specs.Promise.{RecoversAlike}
 use Rattle.emerge_run.specs.Answers.{Asks, AsksFor, IsReady}
-use Rattle.emerge_run.specs.Images.{Fits, FitsImage}
+use Rattle.emerge_run.specs.Images.{IsRefusedFor}
+use Rattle.image_fit.specs.Images.{Fits}
+use Rattle.image_fit.specs.declared.fault.Misfit.TheVariants as misfits
 use Rattle.merge_record.specs.Names.{jobs}
 use Rattle.merge_record.specs.Recovered.{IsRecovered}
-use Rattle.emerge_run.specs.Package.{files, order_of, with_files}
+use Rattle.emerge_run.specs.Package.{AreFiles, order_of, with_files}
 use Rattle.emerge_run.specs.Words.{IsRequest}
-use Rattle.emerge_run.specs.declared.status.Part.TheVariants.{Image}
+use Rattle.file_tree.specs.declared.limits.Quantity.TheVariants.{Paths}
 use Rattle.emerge_run.specs.declared.status.Status.{Status}
 use Rattle.emerge_run.specs.declared.status.Status.TheVariants as status
 
@@ -58,10 +60,8 @@ pub record IsAdded (a : AtomValue) (image : Order → List Entry) (m : Map)
     (es : List Entry) : Type 0 where
   pub facts : Facts
   pub ready : IsReady m a facts
-  pub entry : Entry
-  pub told : image (order_of facts) ≡ entry ∷ []
-  pub fits : Fits m entry
-  pub are : es ≡ files facts entry
+  pub fits : Fits m (image (order_of facts))
+  pub are : AreFiles facts (image (order_of facts)) es
 
 -- an image recovers to the map, or to the map with the package
 abbrev pub RecoversTo : AtomValue → (Order → List Entry) → Map → Map → Type 0
@@ -149,8 +149,11 @@ IsAnswer tree tells told resting words opening s = IsTrue tree
 
 -- what asking the builder gives beside an image that fits
 abbrev pub ImageAsks : Bool → List Entry → Map → PackageId → Status → Type 0
-ImageAsks tells told m id (status.NotBuilt Image) =
-    (image : List Entry) × (IsTrue tells → image ≡ told) × (FitsImage m image → ⊥)
+ImageAsks tells told m id (status.Limit Paths) = IsRefusedFor misfits.Many tells told m
+ImageAsks tells told m id (status.Limit quantity) = ⊥
+ImageAsks tells told m id (status.Collision c) =
+    IsRefusedFor (misfits.Collision c) tells told m
+ImageAsks tells told m id (status.BadImage b) = IsRefusedFor (misfits.Image b) tells told m
 ImageAsks tells told m id (status.NotBuilt part) = ⊥
 ImageAsks tells told m id (status.BuildFailed failed) = failed ≡ id
 ImageAsks tells told m id status.DeviceFault = Unit {0}
@@ -158,7 +161,6 @@ ImageAsks tells told m id status.Memory = Unit {0}
 ImageAsks tells told m id status.OutputFault = ⊥
 ImageAsks tells told m id (status.Usage fault) = ⊥
 ImageAsks tells told m id (status.BadJournal fault) = ⊥
-ImageAsks tells told m id (status.Limit quantity) = ⊥
 ImageAsks tells told m id (status.NoCandidate atom reasons) = ⊥
 ImageAsks tells told m id (status.Ok groups) = ⊥
 
@@ -180,6 +182,8 @@ IsRefusal (status.BadJournal fault) = Unit {0}
 IsRefusal (status.Limit quantity) = Unit {0}
 IsRefusal (status.NotBuilt part) = Unit {0}
 IsRefusal (status.NoCandidate atom reasons) = Unit {0}
+IsRefusal (status.Collision c) = Unit {0}
+IsRefusal (status.BadImage b) = Unit {0}
 IsRefusal (status.BuildFailed id) = Unit {0}
 IsRefusal (status.Ok groups) = ⊥
 IsRefusal status.DeviceFault = ⊥
@@ -188,14 +192,16 @@ IsRefusal status.Memory = ⊥
 
 -- the answers that come of building and judging an image
 abbrev pub IsFromBuild : Status → Type 0
-IsFromBuild (status.NotBuilt part) = Unit {0}
+IsFromBuild (status.Collision c) = Unit {0}
+IsFromBuild (status.BadImage b) = Unit {0}
+IsFromBuild (status.Limit quantity) = Unit {0}
 IsFromBuild status.DeviceFault = Unit {0}
 IsFromBuild status.Memory = Unit {0}
 IsFromBuild (status.BuildFailed id) = Unit {0}
 IsFromBuild (status.NoCandidate atom reasons) = ⊥
 IsFromBuild (status.Usage fault) = ⊥
 IsFromBuild (status.BadJournal fault) = ⊥
-IsFromBuild (status.Limit quantity) = ⊥
+IsFromBuild (status.NotBuilt part) = ⊥
 IsFromBuild (status.Ok groups) = ⊥
 IsFromBuild status.OutputFault = ⊥
 
@@ -210,4 +216,6 @@ IsLate (status.BadJournal fault) = ⊥
 IsLate (status.Limit quantity) = ⊥
 IsLate (status.NotBuilt part) = ⊥
 IsLate (status.NoCandidate atom reasons) = ⊥
+IsLate (status.Collision c) = ⊥
+IsLate (status.BadImage b) = ⊥
 IsLate (status.BuildFailed id) = ⊥

@@ -1,5 +1,5 @@
 -- The files of a package in the tree, and the tree with a package merged.
-use Rattle.std.specs.Prelude.{ℕ, List, [], ◌∷◌, Some, codes, length, map}
+use Rattle.std.specs.Prelude.{◌≡◌, ℕ, List, [], ◌∷◌, ◌++◌, Some, length, map}
 use Rattle.md5.specs.Md5.{md5}
 use Rattle.file_tree.specs.Thing.{Thing}
 use Rattle.file_tree.specs.Disk.{Map, with_path}
@@ -8,19 +8,15 @@ use Rattle.dep_atom.specs.declared.package.Facts.{Facts}
 use Rattle.build_pool.specs.declared.orders.Order.{Order}
 use Rattle.merge_record.specs.Content.{Content}
 use Rattle.merge_record.specs.declared.record.Placement.{Placement}
-use Rattle.vdb_text.specs.Files.{record_files}
+use Rattle.vdb_text.specs.Files.{AreRecordOf}
 
 -- what a builder is asked for, for this package
 abbrev pub order_of : Facts → Order
 order_of f = record { id = f.id }
 
--- the folder of Portage's own state
-unfoldable pub state_path : List ℕ
-state_path = codes "var/lib/portage"
-
--- the file of the image, and then the files of the package's record
-abbrev pub files : Facts → Entry → List Entry
-files f e = e ∷ record_files f e
+-- the entries of the image, and then the files of the package's record
+abbrev pub AreFiles : Facts → List Entry → List Entry → Type 0
+AreFiles f image es = (filed : List Entry) × AreRecordOf f image filed × (es ≡ image ++ filed)
 
 -- the map in which each path of the entries holds its object, a later entry over an earlier one
 abbrev pub with_files : List Entry → Map → Map

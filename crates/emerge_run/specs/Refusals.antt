@@ -2,9 +2,11 @@
 use Rattle.file_tree.specs.Disk.{Map}
 use Rattle.dep_atom.specs.Values.{AtomValue}
 use Rattle.emerge_run.specs.Answers.{Refuses}
-use Rattle.file_tree.specs.declared.limits.Quantity.TheVariants.{Groups}
+use Rattle.file_tree.specs.declared.limits.Quantity.TheVariants.{Groups, Paths}
 use Rattle.file_tree.specs.declared.fault.TreeFault.{TreeFault}
 use Rattle.file_tree.specs.declared.fault.TreeFault.TheVariants as tree
+use Rattle.image_fit.specs.declared.fault.Misfit.{Misfit}
+use Rattle.image_fit.specs.declared.fault.Misfit.TheVariants as misfits
 use Rattle.recovery.specs.declared.fault.RecoverFault.{RecoverFault}
 use Rattle.recovery.specs.declared.fault.RecoverFault.TheVariants as recovery
 use Rattle.visible_set.specs.declared.fault.CandidateFault.{CandidateFault}
@@ -41,6 +43,13 @@ status_of_recovery (recovery.BadStage g i) = status.BadJournal (recovery.BadStag
 status_of_recovery recovery.Limit = status.Limit Groups
 status_of_recovery recovery.Failed = status.DeviceFault
 status_of_recovery recovery.Memory = status.Memory
+
+abbrev pub status_of_misfit : Misfit → Status
+status_of_misfit misfits.Many = status.Limit Paths
+status_of_misfit (misfits.Image b) = status.BadImage b
+status_of_misfit (misfits.Collision c) = status.Collision c
+status_of_misfit misfits.Failed = status.DeviceFault
+status_of_misfit misfits.Memory = status.Memory
 
 abbrev pub status_of_word : WordFault → Status
 status_of_word words.Memory = status.Memory

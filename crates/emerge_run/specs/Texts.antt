@@ -8,9 +8,13 @@ use Rattle.dep_atom.specs.declared.package.PackageId.{PackageId}
 use Rattle.emerge_words.specs.declared.request.WordFault.{WordFault}
 use Rattle.emerge_words.specs.declared.request.WordFault.TheVariants as words
 use Rattle.emerge_run.specs.declared.status.Part.{Part}
-use Rattle.emerge_run.specs.declared.status.Part.TheVariants.{Command, Repository, Database, Image}
+use Rattle.emerge_run.specs.declared.status.Part.TheVariants.{Command, Repository, Database}
 use Rattle.file_tree.specs.declared.limits.Quantity.{Quantity}
 use Rattle.file_tree.specs.declared.limits.Quantity.TheVariants.{Candidates, Groups, Packages, Paths, RecordBytes}
+use Rattle.owner_book.specs.declared.fault.Collision.{Collision}
+use Rattle.owner_book.specs.declared.fault.Collision.TheVariants as collisions
+use Rattle.owner_book.specs.declared.fault.ImageBad.{ImageBad}
+use Rattle.owner_book.specs.declared.fault.ImageBad.TheVariants as bad
 use Rattle.recovery.specs.declared.fault.RecoverFault.{RecoverFault}
 use Rattle.recovery.specs.declared.fault.RecoverFault.TheVariants as recovery
 use Rattle.emerge_run.specs.declared.status.Reason.{Reason}
@@ -26,7 +30,6 @@ abbrev pub part_word : Part → List ℕ
 part_word Command = codes "Command"
 part_word Repository = codes "Repository"
 part_word Database = codes "Database"
-part_word Image = codes "Image"
 
 abbrev pub reason_word : Reason → List ℕ
 reason_word NotMatched = codes "NotMatched"
@@ -48,6 +51,20 @@ broken_text (recovery.BadRecord g) = decimal g ++ codes " record"
 broken_text (recovery.BadStage g i) = decimal g ++ (codes " stage " ++ decimal i)
 broken_text fault = []
 
+-- the rule by which a path can't be placed, with what it names
+abbrev pub collision_text : Collision → List ℕ
+collision_text (collisions.Owned p k) = codes "Owned " ++ (p ++ (32 ∷ decimal k.number))
+collision_text (collisions.Claimed p g) = codes "Claimed " ++ (p ++ (32 ∷ decimal g))
+collision_text (collisions.Ancestor p other) = codes "Ancestor " ++ (p ++ (32 ∷ other))
+collision_text (collisions.Unowned p) = codes "Unowned " ++ p
+
+-- what is wrong with an image, and at which path
+abbrev pub bad_text : ImageBad → List ℕ
+bad_text (bad.Reserved p) = codes "Reserved " ++ p
+bad_text (bad.Twice p) = codes "Twice " ++ p
+bad_text (bad.Large p) = codes "Large " ++ p
+bad_text (bad.Link p) = codes "Link " ++ p
+
 abbrev pub quantity_word : Quantity → List ℕ
 quantity_word Groups = codes "Groups"
 quantity_word Packages = codes "Packages"
@@ -61,6 +78,8 @@ last_word (status.Usage fault) = usage_word fault
 last_word (status.BadJournal fault) = codes "BadJournal: " ++ broken_text fault
 last_word (status.NoCandidate atom reasons) =
     codes "NoCandidate: " ++ (atom_text atom ++ flat_map reason_text reasons.items)
+last_word (status.Collision c) = codes "Collision: " ++ collision_text c
+last_word (status.BadImage b) = codes "BadImage: " ++ bad_text b
 last_word (status.BuildFailed id) = codes "BuildFailed: " ++ id_text id
 last_word status.DeviceFault = codes "DeviceFault"
 last_word status.OutputFault = codes "OutputFault"
@@ -77,6 +96,8 @@ code_of (status.Ok groups) = 0
 code_of (status.Usage fault) = 2
 code_of (status.BadJournal fault) = 5
 code_of (status.NoCandidate atom reasons) = 7
+code_of (status.Collision c) = 13
+code_of (status.BadImage b) = 14
 code_of (status.BuildFailed id) = 15
 code_of status.DeviceFault = 16
 code_of status.OutputFault = 17

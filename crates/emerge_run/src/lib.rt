@@ -27,8 +27,6 @@ mod refusal;
 mod request;
 mod run;
 mod status;
-#[cfg(test)]
-mod tests;
 mod texts;
 mod words;
 

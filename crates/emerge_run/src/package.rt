@@ -1,25 +1,18 @@
-ghost use Rattle.std.specs.Prelude.{◌≡◌, IfOk};
-ghost use Rattle.emerge_run.specs.Package.{files, state_path};
+ghost use Rattle.std.specs.Prelude.{IfOk};
+ghost use Rattle.emerge_run.specs.Package.{AreFiles};
 
 use dep_atom::Facts;
-use file_tree::{Entry, Path};
+use file_tree::Entry;
 use std::alloc::{AllocError, Global};
 use vdb_text::record_files;
 
-/// The folder of Portage's own state.
-#[tactic(auto, unfolding(crate::specs::Package::state_path))]
-pub fn path_of_state(alloc: Global) -> Result<Path, AllocError>
-    ensures { IfOk result (λ p. p ≡ state_path) }
+/// The entries of the image and the files of the package's record, in the order in which they are
+/// put.
+pub fn files_of(alloc: Global, facts: &Facts, image: Vec<Entry>) -> Result<Vec<Entry>, AllocError>
+    ensures { IfOk result (λ v. AreFiles facts.now image.items v.items) }
 {
-    Path::parse(alloc, "var/lib/portage").map_err(|_| AllocError)
-}
-
-/// The file of the image and the files of the package's record, in the order in which they are put.
-pub fn files_of(alloc: Global, facts: &Facts, entry: Entry) -> Result<Vec<Entry>, AllocError>
-    ensures { IfOk result (λ v. v.items ≡ files facts.now entry) }
-{
-    let mut record = record_files(alloc, facts, &entry)?;
-    let mut files = vec![in alloc; entry]?;
+    let mut record = record_files(alloc, facts, &image)?;
+    let mut files = image;
     files.append(&mut record)?;
     Ok(files)
 }

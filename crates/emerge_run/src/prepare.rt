@@ -1,34 +1,33 @@
-ghost use Rattle.std.specs.Prelude.{false, ◌≡◌, ◌≤◌, ◌<◌, ◌⊎◌, ◌++◌, ◌∷◌, [], ℕ, List, Contains};
-ghost use Rattle.std.specs.Prelude.{IfErr, IfOk, IsErrOf, IsTrue, OnErr, OnOk, length, map};
-ghost use Rattle.std.specs.Prelude.{string_bytes};
+ghost use Rattle.std.specs.Prelude.{◌≡◌, ◌≤◌, ◌<◌, Contains, IfErr, IfOk, IsErrOf, IsTrue, length};
 ghost use Rattle.file_tree.specs.Disk.{Rose};
-ghost use Rattle.file_tree.specs.declared.objects.Entry.{Entry};
 ghost use Rattle.build_pool.specs.Pool.{PoolRose, SameIds, faults_of};
 ghost use Rattle.dep_atom.specs.declared.package.PackageId.{PackageId};
-ghost use Rattle.emerge_run.specs.Images.{Fits, is_reserved};
+ghost use Rattle.image_fit.specs.Images.{Fits, IsImage};
+ghost use Rattle.emerge_run.specs.Images.{IsTold};
 ghost use Rattle.emerge_run.specs.Outcomes.{ImageAsks, IsFromBuild};
 ghost use Rattle.emerge_run.specs.Package.{order_of};
 
-use crate::images::{built_entry, judge_entry};
-use crate::status::{Part, Status};
+use crate::images::built_image;
+use crate::status::Status;
 use build_pool::{BuildPool, BuildStop, Builder, Order};
 use dep_atom::Facts;
 use file_tree::{Entry, Tree};
+use image_fit::{Misfit, judge_image};
 use std::alloc::Global;
 
 /// Has the image of a package built, and judges it over the tree.
-pub fn find_entry<T: Tree, B: Builder>(
+pub fn find_image<T: Tree, B: Builder>(
     alloc: Global,
     tree: &mut T,
     pool: &mut BuildPool<B>,
     facts: &Facts,
-) -> Result<Entry, Status>
+) -> Result<Vec<Entry>, Status>
     requires resting { 0 < length pool.old.resting }
     ensures fits { IsTrue T.tells → IfOk result
-        (λ e. (b : B) × Contains pool.old.resting b ×
-        ((IsTrue B.tells → B.told b (order_of facts.now) ≡ e ∷ []) ×
-        Fits (T.story tree.old).now.holds e)) }
-    ensures unreserved { IfOk result (λ e. is_reserved e.path ≡ false) }
+        (λ v. (b : B) × Contains pool.old.resting b ×
+        (IsTold B.tells (B.told b (order_of facts.now)) v.items ×
+        Fits (T.story tree.old).now.holds v.items)) }
+    ensures image { IfOk result (λ v. IsImage v.items) }
     ensures refused { IsTrue T.tells → IfErr result
         (λ s. (b : B) × Contains pool.old.resting b ×
         ImageAsks B.tells (B.told b (order_of facts.now))
@@ -47,12 +46,12 @@ pub fn find_entry<T: Tree, B: Builder>(
     let order = Order {
         id: facts.id.try_clone()?,
     };
-    match built_entry(pool, &order) {
-        Ok(Some(entry)) => {
-            judge_entry(alloc, tree, &entry)?;
-            Ok(entry)
-        }
-        Ok(None) => Err(Status::NotBuilt { what: Part::Image }),
+    match built_image(alloc, pool, &order) {
+        Ok(Some(image)) => match judge_image(alloc, tree, &image) {
+            Ok(()) => Ok(image),
+            Err(misfit) => Err(Status::from(misfit)),
+        },
+        Ok(None) => Err(Status::from(Misfit::Many)),
         Err(BuildStop::Memory) => Err(Status::Memory),
         Err(BuildStop::Failed) => Err(Status::BuildFailed { package: order.id }),
     }

@@ -1,14 +1,15 @@
-ghost use Rattle.std.specs.Prelude.{◌≡◌, ◌≤◌, ◌<◌, ◌⊎◌, ◌∷◌, [], ℕ, true, IfOk, IsTrue, length};
+ghost use Rattle.std.specs.Prelude.{◌≡◌, ◌≤◌, ◌<◌, ◌⊎◌, ◌∷◌, [], ℕ, List, IfOk, IsTrue, length};
 ghost use Rattle.std.specs.Prelude.{string_bytes, vec_capacity, vec_len};
 ghost use Rattle.file_tree.specs.Disk.{Rose};
+ghost use Rattle.file_tree.specs.declared.objects.Entry.{Entry};
 ghost use Rattle.build_pool.specs.Pool.{PoolRose, SameIds};
 ghost use Rattle.dep_atom.specs.Values.{AtomValue, atom_value};
 ghost use Rattle.emerge_run.specs.Answers.{IsReady};
 ghost use Rattle.dep_atom.specs.declared.package.PackageId.{PackageId};
-ghost use Rattle.merge_record.specs.Judging.{are_free, footprint};
+ghost use Rattle.image_fit.specs.Images.{IsImage};
 ghost use Rattle.emerge_run.specs.Outcomes.{IsAtRest, IsPackageOf, IsRefusal, OfSomeBuilder, Ran};
 ghost use Rattle.emerge_run.specs.Output.{AreLines, IsLines, Wrote};
-ghost use Rattle.emerge_run.specs.Package.{files, placing};
+ghost use Rattle.emerge_run.specs.Package.{AreFiles};
 ghost use Rattle.emerge_run.specs.Ready.{IsPlacing};
 ghost use Rattle.emerge_run.specs.Texts.{done_line};
 ghost use Rattle.emerge_words.specs.declared.request.WordFault.{WordFault};
@@ -17,7 +18,7 @@ use crate::carry::{Prepared, carry_out};
 use crate::group::group_of;
 use crate::judge::{Standing, judge_tree};
 use crate::package::files_of;
-use crate::prepare::find_entry;
+use crate::prepare::find_image;
 use crate::run::{Reached, stopped};
 use crate::status::Status;
 use crate::texts::line_of_group;
@@ -107,12 +108,11 @@ fn merge_chosen<T: Tree, S: Sink, B: Builder>(
     ensures ids { SameIds B.number pool.old pool.new }
     ensures lent { pool.new.lent ≡ pool.old.lent }
 {
-    files_apart();
-    let entry = match find_entry(alloc, tree, pool, chosen) {
-        Ok(entry) => entry,
+    let image = match find_image(alloc, tree, pool, chosen) {
+        Ok(image) => image,
         Err(status) => return stopped(alloc, status),
     };
-    match prepare(alloc, chosen, entry) {
+    match prepare(alloc, chosen, image) {
         Ok(prepared) => carry_out(alloc, tree, out, prepared),
         Err(_) => stopped(alloc, Status::Memory),
     }
@@ -120,16 +120,18 @@ fn merge_chosen<T: Tree, S: Sink, B: Builder>(
 
 /// Makes all that the merge needs, so that after its first change of the tree only the tree's own
 /// calls take memory.
-fn prepare(alloc: Global, facts: &Facts, entry: Entry) -> Result<Prepared, AllocError>
-    requires free { are_free [] (footprint (placing 1 (files facts.now entry))) ≡ true }
-    ensures group { IfOk result (λ p. IsPlacing p.group 1 (files facts.now entry)) }
+fn prepare(alloc: Global, facts: &Facts, image: Vec<Entry>) -> Result<Prepared, AllocError>
+    requires image { IsImage image.items }
+    ensures group { IfOk result (λ p. (es : List Entry) ×
+        AreFiles facts.now image.items es × IsPlacing p.group 1 es) }
     ensures line { IfOk result (λ p. string_bytes p.line ≡ done_line facts.now.id 1) }
     ensures history { IfOk result (λ p. (p.history.items ≡ []) ×
         (vec_len p.history < vec_capacity p.history)) }
     ensures acknowledged { IfOk result (λ p. (p.acknowledged.items ≡ []) ×
         (vec_len p.acknowledged < vec_capacity p.acknowledged)) }
 {
-    let group = group_of(alloc, 1, files_of(alloc, facts, entry)?)?;
+    files_apart();
+    let group = group_of(alloc, 1, files_of(alloc, facts, image)?)?;
     let line = line_of_group(alloc, &facts.id, 1)?;
     let history = Vec::with_capacity(alloc, 1)?;
     let acknowledged = Vec::with_capacity(alloc, 1)?;

@@ -1,6 +1,7 @@
 use dep_atom::{Atom, PackageId};
 use emerge_words::WordFault;
 use file_tree::Quantity;
+use owner_book::{Collision, ImageBad};
 use recovery::RecoverFault;
 
 /// A part of the product that is not there yet for what the run met.
@@ -12,8 +13,6 @@ pub enum Part {
     Repository,
     /// Something in the database of installed packages.
     Database,
-    /// An image of another form, or one that meets something in the tree.
-    Image,
 }
 
 /// Why an atom doesn't choose a candidate.
@@ -41,6 +40,10 @@ pub enum Status {
         atom: Atom,
         reasons: Vec<(PackageId, Reason)>,
     },
+    /// A path of the package's image can't be placed.
+    Collision(Collision),
+    /// The package's image isn't in form.
+    BadImage(ImageBad),
     /// A builder failed at this package.
     BuildFailed {
         package: PackageId,
@@ -74,6 +77,8 @@ impl Status {
             Status::Usage { .. } => 2,
             Status::BadJournal(_) => 5,
             Status::NoCandidate { .. } => 7,
+            Status::Collision(_) => 13,
+            Status::BadImage(_) => 14,
             Status::BuildFailed { .. } => 15,
             Status::DeviceFault => 16,
             Status::OutputFault => 17,

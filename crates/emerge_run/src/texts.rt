@@ -3,13 +3,14 @@ ghost use Rattle.std.specs.Prelude.{string_bytes};
 ghost use Rattle.std.specs.List.{flat_map};
 ghost use Rattle.dep_atom.specs.Ids.{id_text};
 ghost use Rattle.dep_atom.specs.Text.{atom_text};
-ghost use Rattle.emerge_run.specs.Texts.{broken_text, done_line, last_line, reason_text};
-ghost use Rattle.emerge_run.specs.Texts.{reason_word};
+ghost use Rattle.emerge_run.specs.Texts.{bad_text, broken_text, collision_text, done_line};
+ghost use Rattle.emerge_run.specs.Texts.{last_line, reason_text, reason_word};
 
 use crate::status::{Part, Reason, Status};
 use dep_atom::{Atom, PackageId};
 use emerge_words::WordFault;
 use file_tree::Quantity;
+use owner_book::{Collision, ImageBad};
 use recovery::RecoverFault;
 use std::alloc::{AllocError, Global};
 
@@ -30,6 +31,8 @@ pub fn fixed_line(status: &Status) -> Option<&'static str>
         Status::Ok { .. }
         | Status::BadJournal(_)
         | Status::NoCandidate { .. }
+        | Status::Collision(_)
+        | Status::BadImage(_)
         | Status::BuildFailed { .. } => None,
         Status::Usage { fault } => fixed_usage(fault),
         Status::DeviceFault => Some("emerge: DeviceFault\n"),
@@ -40,7 +43,6 @@ pub fn fixed_line(status: &Status) -> Option<&'static str>
             Part::Command => "emerge: NotBuilt: Command\n",
             Part::Repository => "emerge: NotBuilt: Repository\n",
             Part::Database => "emerge: NotBuilt: Database\n",
-            Part::Image => "emerge: NotBuilt: Image\n",
         }),
     }
 }
@@ -87,6 +89,8 @@ pub fn line_of_status(alloc: Global, status: &Status) -> Result<String, AllocErr
         Status::Ok { groups } => format!(in alloc; "emerge: ok {groups}\n"),
         Status::BadJournal(fault) => broken_line(alloc, *fault),
         Status::NoCandidate { atom, reasons } => unmatched_line(alloc, atom, reasons),
+        Status::Collision(collision) => collision_line(alloc, collision),
+        Status::BadImage(bad) => bad_line(alloc, bad),
         Status::BuildFailed { package } => failed_line(alloc, package),
         Status::Usage { fault } => usage_line(alloc, fault),
         other => match fixed_line(other) {
@@ -113,6 +117,65 @@ fn broken_part(alloc: Global, fault: RecoverFault) -> Result<String, AllocError>
         RecoverFault::BadStage { group, index } => format!(in alloc; "{group} stage {index}"),
         RecoverFault::Limit | RecoverFault::Failed | RecoverFault::Memory => {
             Ok(String::new(alloc))
+        }
+    }
+}
+
+fn collision_line(alloc: Global, collision: &Collision) -> Result<String, AllocError>
+    ensures { IfOk result (λ t. string_bytes t ≡
+        codes "emerge: Collision: " ++ (collision_text collision.now ++ 10 ∷ [])) }
+{
+    let text = collision_part(alloc, collision)?;
+    format!(in alloc; "emerge: Collision: {text}\n")
+}
+
+/// The rule by which a path can't be placed, with what it names.
+fn collision_part(alloc: Global, collision: &Collision) -> Result<String, AllocError>
+    ensures { IfOk result (λ t. string_bytes t ≡ collision_text collision.now) }
+{
+    match collision {
+        Collision::Owned { path, owner } => {
+            let path = path.text();
+            let number = owner.number;
+            format!(in alloc; "Owned {path} {number}")
+        }
+        Collision::Claimed { path, group } => {
+            let path = path.text();
+            format!(in alloc; "Claimed {path} {group}")
+        }
+        Collision::Ancestor { path, other } => {
+            let path = path.text();
+            let other = other.text();
+            format!(in alloc; "Ancestor {path} {other}")
+        }
+        Collision::Unowned { path } => {
+            let path = path.text();
+            format!(in alloc; "Unowned {path}")
+        }
+    }
+}
+
+/// What is wrong with an image, and at which path.
+fn bad_line(alloc: Global, bad: &ImageBad) -> Result<String, AllocError>
+    ensures { IfOk result (λ t. string_bytes t ≡
+        codes "emerge: BadImage: " ++ (bad_text bad.now ++ 10 ∷ [])) }
+{
+    match bad {
+        ImageBad::Reserved { path } => {
+            let path = path.text();
+            format!(in alloc; "emerge: BadImage: Reserved {path}\n")
+        }
+        ImageBad::Twice { path } => {
+            let path = path.text();
+            format!(in alloc; "emerge: BadImage: Twice {path}\n")
+        }
+        ImageBad::Large { path } => {
+            let path = path.text();
+            format!(in alloc; "emerge: BadImage: Large {path}\n")
+        }
+        ImageBad::Link { path } => {
+            let path = path.text();
+            format!(in alloc; "emerge: BadImage: Link {path}\n")
         }
     }
 }

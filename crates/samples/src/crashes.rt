@@ -2,11 +2,13 @@ use file_tree::{Kind, Object, Path};
 use std::alloc::{AllocError, Global};
 use tree_mem::{ImageFault, MemTree};
 
-/// A line for each object of the tree: its path and its text.
+/// A line for each object of the tree: its path, a `*` where it can be run or an `@` where it is a
+/// link, and its text.
 pub fn listing(alloc: Global, tree: &MemTree) -> Result<String, AllocError> {
     let mut text = String::new(alloc);
     for (path, object) in tree.objects() {
         text.push_str(path.text())?;
+        text.push_str(mark_of(object.kind))?;
         text.push(' ')?;
         for byte in &object.bytes {
             text.push(char::from(*byte))?;
@@ -14,6 +16,14 @@ pub fn listing(alloc: Global, tree: &MemTree) -> Result<String, AllocError> {
         text.push('\n')?;
     }
     Ok(text)
+}
+
+fn mark_of(kind: Kind) -> &'static str {
+    match kind {
+        Kind::Plain => "",
+        Kind::Exec => "*",
+        Kind::Link => "@",
+    }
 }
 
 /// The tree as a crash leaves it that loses nothing.

@@ -20,4 +20,4 @@ mod trees;
 pub use crashes::{as_read, listing, with_odd, with_touched, without_touched};
 pub use image_builder::ImageBuilder;
 pub use runs::{Run, run_on, run_with};
-pub use trees::{cached, file, sample_image, sample_tree, tree_of};
+pub use trees::{cached, file, image_of, sample_image, sample_tree, tree_of};

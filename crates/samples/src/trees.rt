@@ -50,6 +50,30 @@ pub fn sample_tree(alloc: Global) -> Result<MemTree, AllocError> {
     tree_of(alloc, entries).map_err(|_| AllocError)
 }
 
+/// An image of a text, which has a line for each entry: its kind (`-`, `x` or `l`), its path, and
+/// behind a space its bytes.
+pub fn image_of(alloc: Global, text: &str) -> Result<Vec<Entry>, AllocError> {
+    let mut image = Vec::new(alloc);
+    for line in text.lines() {
+        image.push(entry_of(alloc, line)?)?;
+    }
+    Ok(image)
+}
+
+fn entry_of(alloc: Global, line: &str) -> Result<Entry, AllocError> {
+    let (kind, rest) = line.split_once(' ').unwrap_or((line, ""));
+    let (path, bytes) = rest.split_once(' ').unwrap_or((rest, ""));
+    file(alloc, path, kind_of(kind), bytes).map_err(|_| AllocError)
+}
+
+fn kind_of(letter: &str) -> Kind {
+    match letter {
+        "x" => Kind::Exec,
+        "l" => Kind::Link,
+        _ => Kind::Plain,
+    }
+}
+
 /// An image of one empty file, `usr/bin/p`.
 pub fn sample_image(alloc: Global) -> Result<Vec<Entry>, AllocError> {
     let program = file(alloc, "usr/bin/p", Kind::Plain, "").map_err(|_| AllocError)?;

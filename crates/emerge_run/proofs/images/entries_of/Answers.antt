@@ -1,0 +1,13 @@
+use Rattle.std.proofs.Common.{rules, ◌≡◌, ◌∙◌, ◌++◌, ◌∷◌, []}
+use Rattle.emerge_run.proofs.Built.{taken_more}
+use Rattle.emerge_run.proofs.images.entries_of.Goals as goal
+
+pub loop-index-preserved : goal.loop-index-preserved
+loop-index-preserved g c =
+    let pushed : c.push.new.self.items ≡ c.loop-index.entries.items ++ c.in_ok-entry.entry ∷ [] = search rules in (
+      c.in_ok-entry.ensures.same_started ∙ c.loop-index.invariant.0,
+      c.in_ok-entry.ensures.same_number ∙ c.loop-index.invariant.1,
+      c.in_ok-entry.ensures.same_image ∙ c.loop-index.invariant.2,
+      (λ t. taken_more c.loop-index.entries.items c.push.new.self.items (g.B.Builder.image c.loop-index.builder) (g.B.Builder.image c.args.builder.now) c.loop-index.index c.in_ok-entry.entry (c.loop-index.invariant.3 t) c.loop-index.invariant.2 (c.in_ok-entry.ensures.entry t) pushed),
+      search rules,
+    )
