@@ -1,9 +1,8 @@
 -- What the reading of a text finds.
-use Rattle.std.specs.Prelude.{map, Result, Ok, Err, None}
+use Rattle.std.specs.Prelude.{map, Ok, Err, None}
 use Rattle.std.proofs.Common.{◌≡◌, ◌≢◌, ℕ, Bool, List, [], ◌∷◌, ◌++◌, ◌+◌, ◌<◌, length, take, get_or, refl, ap, sym, ◌∙◌, subst}
 use Rattle.std.proofs.lemmas.List.{map-append}
 use Rattle.dep_group.specs.declared.token.Opener.{Opener}
-use Rattle.dep_group.specs.declared.token.Opener.TheVariants.{When}
 use Rattle.dep_group.specs.declared.token.GroupFault.{GroupFault}
 use Rattle.dep_group.specs.declared.token.GroupFault.TheVariants as faults
 use Rattle.dep_group.specs.declared.token.Token.{Token}
@@ -12,9 +11,9 @@ use Rattle.dep_group.specs.declared.shape.Shape.TheVariants as shapes
 use Rattle.dep_group.specs.declared.word.Word.{Word}
 use Rattle.dep_group.specs.Maps.{token_map}
 use Rattle.dep_group.specs.Reading.{read, list_of}
-use Rattle.dep_group.specs.Shapes.{shape, condition}
+use Rattle.dep_group.specs.Shapes.{shape}
 use Rattle.dep_group.specs.Texts.{FirstFault, IsMemory, Writes, WritesSome, placed}
-use Rattle.dep_group.specs.Tokens.{AreOnlyTokens, Grammar, IsFlag, IsInForm, IsLeafWord, IsOnlyLeaf, IsOnlyToken, IsOpener, opener_shape, opener_text, tree_words}
+use Rattle.dep_group.specs.Tokens.{AreOnlyTokens, Grammar, IsLeafWord, IsOnlyLeaf, IsOnlyToken, IsOpener, opener_shape, opener_text}
 use Rattle.dep_group.specs.Trees.{Tree, Trees, trees_of, is_any_of}
 use Rattle.dep_group.specs.Views.{spot}
 use Rattle.dep_group.specs.Words.{Spot, texts, words, words_of}

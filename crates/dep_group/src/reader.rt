@@ -20,7 +20,8 @@ use std::mem;
 /// How many groups may be open at once.
 const MOST_OPEN: usize = 64;
 
-/// A kind of text of groups, by the nodes that it is read into. `K` are its openers, `L` its leaves.
+/// A kind of text of groups, by the nodes that it is read into. `K` are its openers, `L` its
+/// leaves.
 pub trait Node<K, L>: Sized {
     /// What a leaf says.
     ghost Value: { Type 0 };
@@ -115,7 +116,8 @@ fn step<K: Drop, L: Drop, N: Node<K, L> + Drop>(
         read_on N.kind N.view N.barred reader.old (token_map N.kind N.said token ∷ rest) at ≡
         read_on N.kind N.view N.barred reader.new rest (at + 1)) }
     ensures err { IfErr result (λ e. e ≢ Memory → (rest : List (Token (Opener (List ℕ)) N.Value)) →
-        read_on N.kind N.view N.barred reader.old (token_map N.kind N.said token ∷ rest) at ≡ Err e) }
+        read_on N.kind N.view N.barred reader.old (token_map N.kind N.said token ∷ rest) at ≡
+        Err e) }
 {
     if reader.begun.is_some() {
         return match token {

@@ -1,5 +1,5 @@
 -- Changes of a set of flags: a flag put in or taken out, or all taken out.
-use Rattle.std.specs.Prelude.{◌≡◌, ℕ, Bool, false, not, ◌||◌, ◌&&◌, List, [], ◌∷◌, bytes_eq, ◌==◌, if◌then◌else◌, fold}
+use Rattle.std.specs.Prelude.{◌≡◌, ℕ, Bool, false, not, ◌||◌, ◌&&◌, List, [], ◌∷◌, bytes_eq, ◌==◌, if◌then◌else◌, fold, ⊤}
 use Rattle.pms_names.specs.Flags.{has}
 use Rattle.pms_names.specs.Names.{IsName}
 use Rattle.pms_names.specs.declared.kind.Kind.TheVariants.{Flag}
@@ -15,14 +15,15 @@ clear_text = hyphen ∷ 42 ∷ []
 abbrev pub change_of : List ℕ → Change
 change_of [] = Add []
 change_of (b ∷ bytes) =
-    if bytes_eq (b ∷ bytes) clear_text then Clear else
-    (if b == hyphen then Take bytes else Add (b ∷ bytes))
+    if bytes_eq (b ∷ bytes) clear_text then Clear
+    else if b == hyphen then Take bytes
+    else Add (b ∷ bytes)
 
 -- the change is one of a flag's name, or of no flag
 abbrev pub IsWellNamed : Change → Type 0
 IsWellNamed (Add flag) = IsName Flag flag
 IsWellNamed (Take flag) = IsName Flag flag
-IsWellNamed Clear = Unit {0}
+IsWellNamed Clear = ⊤
 
 -- the word is a change
 abbrev pub IsChange : List ℕ → Type 0

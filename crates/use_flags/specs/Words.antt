@@ -1,5 +1,5 @@
 -- A text as its words, and the first word that is not as words should be.
-use Rattle.std.specs.Prelude.{◌≡◌, ℕ, ◌+◌, ◌<◌, ◌≤◌, Bool, true, false, ◌⊎◌, List, [], ◌∷◌, ◌++◌, length, take, drop, filter}
+use Rattle.std.specs.Prelude.{◌≡◌, ℕ, ◌+◌, ◌<◌, ◌≤◌, Bool, true, false, ◌⊎◌, List, [], ◌∷◌, ◌++◌, length, take, drop, filter, ⊤}
 use Rattle.std.specs.Char.{is_ascii_whitespace}
 use Rattle.std.specs.List.{All, AllByRecursion, slice_split}
 
@@ -23,7 +23,7 @@ EndsInBreak bytes =
 
 -- the text has no bytes, or begins with a white one
 abbrev pub BeginsWithBreak : List ℕ → Type 0
-BeginsWithBreak [] = Unit {0}
+BeginsWithBreak [] = ⊤
 BeginsWithBreak (b ∷ bytes) = is_ascii_whitespace b ≡ true
 
 -- the text is the word with what stands on both sides of it
@@ -42,7 +42,7 @@ pub record IsFirstBad (IsGood : List ℕ → Type 0) (bytes : List ℕ) (at : �
   pub stands : IsWordBetween before word after bytes
   pub place : length before ≡ at
   pub good : EachWord IsGood before
-  pub bad : EachWord IsGood (before ++ word) → ⊥
+  pub bad : ¬ EachWord IsGood (before ++ word)
 
 -- the words of the text up to `from` are followed by the word, which begins at `at`
 pub record IsNextWord (bytes : List ℕ) (from at : ℕ) (word : List ℕ) : Type 0 where

@@ -44,7 +44,7 @@ pub fn changes(alloc: Global, text: &str) -> Result<Vec<Change>, UseFault>
 fn read_change(alloc: Global, word: &[u8]) -> Result<Option<Change>, AllocError>
     ensures found { IfOk result (λ change. IfSome change (λ change. change ≡ change_of word.now)) }
     ensures change { IfOk result (λ change. IfSome change (λ _. IsChange word.now)) }
-    ensures none { IfOk result (λ change. IfNone change (IsChange word.now → ⊥)) }
+    ensures none { IfOk result (λ change. IfNone change (¬ IsChange word.now)) }
 {
     if word == b"-*".as_slice() {
         return Ok(Some(Change::Clear));
