@@ -1,5 +1,5 @@
 -- Which groups may begin.
-use Rattle.std.proofs.Common.{◌≡◌, ◌<◌, ◌≤◌, ◌∷◌, ◌∙◌, ℕ, zero, suc, Bool, true, false, List, [], Some, ap, refl, sym, length, arith}
+use Rattle.std.proofs.Common.{◌≡◌, ◌<◌, ◌≤◌, ◌∷◌, ◌∙◌, ℕ, zero, suc, Bool, false, List, [], Some, ap, refl, sym, length, arith}
 use Rattle.std.specs.Prelude.{IsTrue, slice_get, slice_index_or}
 use Rattle.merge_core.specs.Keeping.{Keeping}
 use Rattle.merge_core.specs.Phase.{Idle}
