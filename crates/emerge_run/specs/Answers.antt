@@ -126,9 +126,9 @@ abbrev pub HasTooMany : Quantity → Map → Type 0
 HasTooMany Groups m = HasTooManyGates m
 HasTooMany quantity m = ⊥
 
--- The answer of a run over this tree and this image. Usage comes exactly where the words are refused
--- for just this, another command is told as one, and the journal is refused exactly where it has too
--- many gates or is broken so.
+-- The answer of a run over this tree and this image. Usage comes exactly where the words are
+-- refused for just this, another command is told as one, and the journal is refused exactly where
+-- it has too many gates or is broken so.
 abbrev pub Asks : List (List ℕ) → Map → (Order → List Entry) → Status → Type 0
 Asks words opening image (status.Ok groups) = AsksAfter words opening image (status.Ok groups)
 Asks words opening image (status.Usage fault) = IsUsage words fault

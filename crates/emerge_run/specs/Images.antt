@@ -16,4 +16,5 @@ HasMany tells told = IsTrue tells → MOST_ENTRIES < length told
 
 -- the tree refuses the image for this
 abbrev pub IsRefusedFor : Misfit → Bool → List Entry → Map → Type 0
-IsRefusedFor misfit tells told m = (image : List Entry) × IsTold tells told image × Refuses m image misfit
+IsRefusedFor misfit tells told m =
+    (image : List Entry) × IsTold tells told image × Refuses m image misfit

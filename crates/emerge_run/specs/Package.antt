@@ -26,7 +26,12 @@ with_files (e ∷ es) m = with_files es (with_path m e.path (Some e.object))
 -- what a file's placement tells of it
 abbrev pub placement_of : Entry → Placement
 placement_of e =
-    record { path = e.path; kind = e.object.kind; length = length e.object.bytes; md5 = md5 e.object.bytes }
+    record {
+      path = e.path;
+      kind = e.object.kind;
+      length = length e.object.bytes;
+      md5 = md5 e.object.bytes;
+    }
 
 abbrev pub object_of : Entry → Thing
 object_of e = e.object

@@ -13,5 +13,6 @@ abbrev pub block_value : Block → Package × AtomValue
 block_value b = (b.owner.now, atom_value b.atom.now)
 
 -- under each name stand the blocks on packages of that name, in their order
-abbrev pub AreBlocks : List (Package × AtomValue) → BTreeMap (Bor (List ℕ)) (Vec Block Global) → Type 0
+abbrev pub AreBlocks : List (Package × AtomValue) →
+    BTreeMap (Bor (List ℕ)) (Vec Block Global) → Type 0
 AreBlocks bs lists = (name : List ℕ) → map block_value (listed lists name) ≡ those_on name bs

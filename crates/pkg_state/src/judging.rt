@@ -68,7 +68,8 @@ pub fn consistent(alloc: Global, packages: &[Pkg]) -> Result<(), Broken>
     ensures ok { OnOk result (AreConsistent packages.now) }
     ensures fault { IfErr result (λ e. IfSome (told e) (IsFirstFault packages.now)) }
     ensures fine { AreConsistent packages.now → IfErr result (λ e. e ≡ Memory) }
-    ensures only { (a : Fault) → IsFirstFault packages.now a → MatchResult result (λ _. ⊥) (IsTold a) }
+    ensures only { (a : Fault) → IsFirstFault packages.now a →
+        MatchResult result (λ _. ⊥) (IsTold a) }
 {
     judge_all(alloc, packages)
 }
