@@ -1,23 +1,29 @@
 -- What a crash leaves while a plan is merged recovers to a sound tree.
 use Rattle.std.proofs.Common.{◌≡◌, ◌<◌, ℕ, Bool, true, false, cond, not, List, [], ◌∷◌, filter, length, map, inl, inr, refl, sym, ap, subst, arith, ◌∙◌}
 use Rattle.basics.specs.Members.{AreDistinct, Has}
-use Rattle.basics.proofs.Membership.{has-map, has-map_back}
-use Rattle.file_tree.specs.Disk.{Disk, IsImage, Map}
+use Rattle.basics.proofs.Membership.{has-append_right, has-map, has-map_back}
+use Rattle.file_tree.specs.Disk.{Disk, Map, Story}
 use Rattle.file_tree.specs.Moments.{Leaves}
+use Rattle.file_tree.proofs.Moments.{since_weaker}
 use Rattle.merge_record.specs.Open.{IsRising, open_groups}
 use Rattle.merge_record.specs.Recovered.{IsRecovered}
 use Rattle.journal.specs.Group.{Group, applied, groups}
 use Rattle.journal.proofs.Forms.{groups_has}
-use Rattle.merge_core.specs.Order.{IsFirm, IsListed}
+use Rattle.merge_core.specs.Event.{Admits, Event, answered, begun}
+use Rattle.merge_core.specs.Order.{IsFirm, IsInOrder, IsListed}
 use Rattle.merge_core.specs.Phase.{is_settled, was_opened}
-use Rattle.merge_core.specs.Roll.{Roll, Stands, committed, group_at, others, phase_at}
-use Rattle.merge_core.specs.Runs.{IsFollowing, IsRunFrom}
+use Rattle.merge_core.specs.Roll.{Machine, Roll, Stands, committed, group_at, idle, others, phase_at}
+use Rattle.merge_core.specs.Runs.{AllWait, IsFollowing, IsRunFrom, Waits}
+use Rattle.merge_core.specs.Trail.{Entry, EventKeeps, Happens, IsAtRest, machine_after}
 use Rattle.merge_core.proofs.Images.{filter_has}
+use Rattle.merge_core.proofs.Runs.{opened_begun, run_then}
+use Rattle.database_law.specs.Packages.{Installed}
 use Rattle.database_law.specs.Step.{Change, groups_of}
 use Rattle.plan_law.specs.Plans as plans
 use Rattle.plan_law.proofs.Members.{distinct_joined, filtered}
 use Rattle.commit_law.specs.Commits.{CommitsLeaveSoundTrees}
-use Rattle.commit_law.specs.Crashes.{CrashesRecoverSoundly}
+use Rattle.commit_law.specs.Crashes.{AreStepsAllAlong, AreStepsCommitted, CrashesRecoverSoundly, EachMomentRecoversSoundly, IsPlanned, Merges, RecoversSoundly, SoundTrail}
+use Rattle.commit_law.proofs.Stays.{Stays, answer_stays, begun_listed, run_stays, stays_then}
 
 abbrev number : Group → ℕ
 number x = x.content.group
@@ -89,20 +95,25 @@ module _ (plan : List plans.Group) where
   does_these change (x ∷ xs) same =
       ap (λ (y : Group). y ∷ groups_of (map change (map number xs))) (same x (inl refl)) ∙ ap (λ (ys : List Group). x ∷ ys) (does_these change xs (λ y hy. same y (inr hy)))
 
-pub crashes_recover_soundly :
-    ((opening : Map) (r : Roll) (d : Disk) → IsFirm opening r d → IsListed r → Leaves (Stands opening r) d)
-    → ((opening : Map) (after : ℕ → List ℕ) (r : Roll) (d : Disk) (c : Map) → IsFirm opening r d → IsListed r → IsFollowing after r → IsImage d c → IsRunFrom after [] (committed r c))
-    → ((c : Map) → IsRising (open_groups c))
-    → CommitsLeaveSoundTrees
-    → CrashesRecoverSoundly
-crashes_recover_soundly stand runs rise commits plan change opening ps r d c planned firm listed merges steps image =
-    let stands = stand opening r d firm listed c image in
+-- what is committed is a run, where a crash left a map that stands
+stood_run : (opening : Map) (after : ℕ → List ℕ) (r : Roll) (c : Map) → Stands opening r c → IsListed r → IsFollowing after r → IsRunFrom after [] (committed r c)
+stood_run opening after r c stands listed follows =
+    run_then after [] r.order (groups (group_at r) (others r c)) follows.run (λ y hy h has.
+    let begins = opened_begun (phase_at r (number y)) (stands.opened y (has-append_right r.order (groups (group_at r) (others r c)) y hy)).0 in
+    let told = follows.told (number y) h begins has in
+    inr (group_at r h, listed.has h (ap is_settled told), refl))
+
+-- where a map stands, it recovers to a sound tree
+pub stands_soundly : ((c : Map) → IsRising (open_groups c)) → CommitsLeaveSoundTrees
+    → (plan : List plans.Group) (change : ℕ → Change) (opening : Map) (ps : List Installed) (r : Roll) (c : Map) → IsPlanned plan change opening ps → IsListed r → Merges r plan change
+    → AreStepsCommitted opening r change ps → Stands opening r c → RecoversSoundly opening r plan change c
+stands_soundly rise commits plan change opening ps r c planned listed merges steps stands =
     let within : (x : Group) → Has (committed r c) x → number x < length plan = λ x h. merges.there (number x) (stands.opened x h).0 in
     let run : List ℕ = map number (committed r c) in
-    let is_run : plans.IsRun plan run = goes_on plan (committed r c) [] (runs opening (λ g. (plans.group_at plan g).after) r d c firm listed merges.follows image) (committed_differ r listed c (rise c)) (λ x h none. none) within in
+    let is_run : plans.IsRun plan run = goes_on plan (committed r c) [] (stood_run opening (λ g. (plans.group_at plan g).after) r c stands listed merges.follows) (committed_differ r listed c (rise c)) (λ x h none. none) within in
     let same : (x : Group) → Has (committed r c) x → (change (number x)).does ≡ x = λ x h. merges.does (number x) (stands.opened x h).0 ∙ sym (stands.opened x h).1 in
     let opened : (g : ℕ) → Has run g → was_opened (phase_at r g) ≡ true = λ g h. (let k = has-map_back number (committed r c) g h in subst (λ (n : ℕ). was_opened (phase_at r n) ≡ true) k.2 (stands.opened k.0 k.1).0) in
-    let went = steps run is_run opened in
+    let went = steps c stands in
     let whole : groups_of (map change run) ≡ committed r c = does_these plan change (committed r c) same in
     record {
       run = run;
@@ -113,3 +124,47 @@ crashes_recover_soundly stand runs rise commits plan change opening ps r d c pla
       database = went.0;
       sound = commits plan change opening ps went.0 run planned.earlier planned.accepted planned.changes planned.database planned.kept is_run went.1;
     }
+
+-- a machine on the way merges the plan where the one at the end does
+merges_before : (plan : List plans.Group) (change : ℕ → Change) (r s : Roll) → IsFollowing (λ g. (plans.group_at plan g).after) r → Stays r s → Merges s plan change → Merges r plan change
+merges_before plan change r s follows stays merges = record {
+  follows = follows;
+  there = λ g o. merges.there g (stays g o).0;
+  does = λ g o. let k = stays g o in merges.does g k.0 ∙ k.1;
+}
+
+-- what the laws below say of one event
+pub record Laws : Type 0 where
+  pub rise : (c : Map) → IsRising (open_groups c)
+  pub commits : CommitsLeaveSoundTrees
+  pub keeps : (opening : Map) (m : Machine) (e : Event) → EventKeeps opening m e
+  pub follows : (opening : Map) (after : ℕ → List ℕ) (m : Machine) (d : Disk) (e : Event) (ok : Bool) → IsInOrder opening m d → IsFollowing after m.roll → Admits m e → Waits after m e → IsFollowing after (answered m e ok).roll
+
+module _ (laws : Laws) (plan : List plans.Group) (change : ℕ → Change) (opening : Map) (ps : List Installed) (planned : IsPlanned plan change opening ps) where
+  abbrev after : ℕ → List ℕ
+  after g = (plans.group_at plan g).after
+
+  pub walk : (m : Machine) (old new : Story) (es : List Entry) → IsInOrder opening m old.now → IsFollowing after m.roll → Happens m old es new → AllWait after m es
+      → Merges (machine_after m es).roll plan change → AreStepsAllAlong opening change ps m es → SoundTrail opening plan change m old es new
+  walk m old new [] order follows happens waits merges steps = happens
+  walk m old new (e ∷ es) order follows happens waits merges steps =
+      let next = answered m e.0 e.1 in
+      let last = (machine_after next es).roll in
+      let kept = laws.keeps opening m e.0 old happens.0 e.1 order happens.1 happens.2 happens.3 in
+      let stays = stays_then (begun m e.0).roll next.roll last (answer_stays m e.0 e.1 happens.2) (run_stays next happens.0 new es happens.4) in
+      let during = laws.follows opening after m old.now e.0 false order follows happens.2 waits.0 in (
+        happens.0,
+        since_weaker (Stands opening (begun m e.0).roll) (RecoversSoundly opening (begun m e.0).roll plan change)
+            (λ c stands. stands_soundly laws.rise laws.commits plan change opening ps (begun m e.0).roll c planned (begun_listed m e.0 happens.2 order.listed)
+            (merges_before plan change (begun m e.0).roll last during stays merges) steps.0 stands)
+            old happens.0 kept.1,
+        walk next happens.0 new es kept.0 (laws.follows opening after m old.now e.0 e.1 order follows happens.2 waits.0) happens.4 waits.1 merges steps.1,
+      )
+
+pub crashes_recover_soundly : Laws → ((opening : Map) (r : Roll) (d : Disk) → IsFirm opening r d → IsListed r → Leaves (Stands opening r) d) → CrashesRecoverSoundly
+crashes_recover_soundly laws stand plan change opening ps r d c planned firm listed merges steps image =
+    stands_soundly laws.rise laws.commits plan change opening ps r c planned listed merges steps (stand opening r d firm listed c image)
+
+pub each_moment_recovers_soundly : Laws → ((opening : Map) (d : Disk) → IsAtRest opening d → IsInOrder opening idle d) → ((after : ℕ → List ℕ) → IsFollowing after idle.roll) → EachMomentRecoversSoundly
+each_moment_recovers_soundly laws begins idles plan change opening ps old new es planned rest happens waits merges steps =
+    walk laws plan change opening ps planned idle old new es (begins opening old.now rest) (idles (λ g. (plans.group_at plan g).after)) happens waits merges steps

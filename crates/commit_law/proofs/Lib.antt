@@ -1,3 +1,4 @@
 pub mod Members
+pub mod Stays
 pub mod Whole
 pub mod Crashes

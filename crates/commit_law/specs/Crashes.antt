@@ -1,13 +1,16 @@
 -- What a crash leaves while the groups of a plan are merged.
-use Rattle.std.specs.Prelude.{◌≡◌, ◌<◌, ℕ, true, List, length, map}
+use Rattle.std.specs.Prelude.{◌≡◌, ◌<◌, ℕ, true, List, [], ◌∷◌, length, map, ⊤}
 use Rattle.basics.specs.Members.{Has}
-use Rattle.file_tree.specs.Disk.{Disk, IsImage, Map}
+use Rattle.file_tree.specs.Disk.{Disk, IsImage, Map, Story}
+use Rattle.file_tree.specs.Moments.{Since}
 use Rattle.merge_record.specs.Recovered.{IsRecovered}
 use Rattle.journal.specs.Group.{applied}
 use Rattle.merge_core.specs.Order.{IsFirm, IsListed}
 use Rattle.merge_core.specs.Phase.{is_settled, was_opened}
-use Rattle.merge_core.specs.Roll.{Roll, group_at, phase_at}
-use Rattle.merge_core.specs.Runs.{IsFollowing}
+use Rattle.merge_core.specs.Event.{answered, begun}
+use Rattle.merge_core.specs.Roll.{Machine, Roll, Stands, committed, group_at, idle, phase_at}
+use Rattle.merge_core.specs.Runs.{AllWait, IsFollowing}
+use Rattle.merge_core.specs.Trail.{Entry, Happens, IsAtRest, machine_after}
 use Rattle.database_law.specs.Database.{IsDatabase, IsKept}
 use Rattle.database_law.specs.Packages.{Installed}
 use Rattle.database_law.specs.Step.{AreSteps, Change, groups_of}
@@ -35,11 +38,16 @@ pub record Merges (r : Roll) (plan : List plans.Group) (change : ℕ → Change)
 abbrev pub AreOpened : Roll → List ℕ → Type 0
 AreOpened r run = (g : ℕ) → Has run g → was_opened (phase_at r g) ≡ true
 
--- in each order that the plan allows, the changes of such groups are steps one after another
-abbrev pub AreStepsAlways : Roll → List plans.Group → (ℕ → Change) → Map → List Installed → Type 0
-AreStepsAlways r plan change opening ps =
-    (run : List ℕ) → plans.IsRun plan run → AreOpened r run →
-    (qs : List Installed) × AreSteps (map change run) opening ps qs
+-- the groups that a crash that leaves this map doesn't undo, by their numbers
+abbrev pub committed_numbers : Roll → Map → List ℕ
+committed_numbers r c = map (λ g. g.content.group) (committed r c)
+
+-- whatever a crash leaves: the changes of what it commits, in the order in which they come into the
+-- tree, are steps one after another
+abbrev pub AreStepsCommitted : Map → Roll → (ℕ → Change) → List Installed → Type 0
+AreStepsCommitted opening r change ps =
+    (c : Map) → Stands opening r c →
+    (qs : List Installed) × AreSteps (map change (committed_numbers r c)) opening ps qs
 
 -- the map recovers to a sound tree: the opening after a run of the plan, with each settled group in
 -- it and none whose gate was never put
@@ -59,5 +67,34 @@ CrashesRecoverSoundly =
     (plan : List plans.Group) (change : ℕ → Change) (opening : Map) (ps : List Installed)
     (r : Roll) (d : Disk) (c : Map) →
     IsPlanned plan change opening ps → IsFirm opening r d → IsListed r → Merges r plan change →
-    AreStepsAlways r plan change opening ps → IsImage d c →
+    AreStepsCommitted opening r change ps → IsImage d c →
     RecoversSoundly opening r plan change c
+
+-- the changes are such steps at each moment of the run
+abbrev pub AreStepsAllAlong : Map → (ℕ → Change) → List Installed → Machine → List Entry → Type 0
+AreStepsAllAlong opening change ps m [] = ⊤
+AreStepsAllAlong opening change ps m (e ∷ es) =
+    AreStepsCommitted opening (begun m e.0).roll change ps ×
+    AreStepsAllAlong opening change ps (answered m e.0 e.1) es
+
+-- each crash image of each moment of the run recovers soundly, with each group in it that was
+-- settled when that moment's event began
+abbrev pub SoundTrail : Map → List plans.Group → (ℕ → Change) → Machine → Story → List Entry →
+    Story → Type 0
+SoundTrail opening plan change m old [] new = new ≡ old
+SoundTrail opening plan change m old (e ∷ es) new =
+    (mid : Story) × Since (RecoversSoundly opening (begun m e.0).roll plan change) old mid ×
+    SoundTrail opening plan change (answered m e.0 e.1) mid es new
+
+-- Whatever a crash leaves at any moment, also within a write, while the machine merges the plan
+-- from a tree at rest: its events come in any order in which groups wait, answered in any way. An
+-- event that the crash cut off is the last of the list.
+abbrev pub EachMomentRecoversSoundly : Type 0
+EachMomentRecoversSoundly =
+    (plan : List plans.Group) (change : ℕ → Change) (opening : Map) (ps : List Installed)
+    (old new : Story) (es : List Entry) →
+    IsPlanned plan change opening ps → IsAtRest opening old.now → Happens idle old es new →
+    AllWait (λ g. (plans.group_at plan g).after) idle es →
+    Merges (machine_after idle es).roll plan change →
+    AreStepsAllAlong opening change ps idle es →
+    SoundTrail opening plan change idle old es new

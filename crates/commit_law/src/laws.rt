@@ -1,5 +1,5 @@
 ghost use Rattle.commit_law.specs.Commits.{CommitsLeaveSoundTrees};
-ghost use Rattle.commit_law.specs.Crashes.{CrashesRecoverSoundly};
+ghost use Rattle.commit_law.specs.Crashes.{CrashesRecoverSoundly, EachMomentRecoversSoundly};
 
 /// A law: the committed groups of an accepted plan leave a kept tree whose packages are consistent,
 /// wherever the run of groups stops.
@@ -11,11 +11,15 @@ pub fn commits_leave_sound_trees()
 }
 
 /// A law: while a machine merges the groups of an accepted plan, in any order of its events, a crash
-/// recovers to a kept tree whose packages are consistent, with each settled group in it.
+/// recovers to a kept tree whose packages are consistent, with each settled group in it: a crash
+/// between two events, and a crash at any moment within one.
 pub fn crashes_recover_soundly()
-    ensures { CrashesRecoverSoundly }
+    ensures between { CrashesRecoverSoundly }
+    ensures moments { EachMomentRecoversSoundly }
 {
     merge_core::images_stand();
+    merge_core::events_keep();
+    merge_core::runs_keep();
     merge_core::committed_is_run();
     merge_record::open_groups_rise();
     commits_leave_sound_trees();
