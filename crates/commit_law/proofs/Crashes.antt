@@ -25,7 +25,7 @@ use Rattle.commit_law.specs.Commits.{CommitsLeaveSoundTrees}
 use Rattle.commit_law.specs.Crashes.{AreStepsAllAlong, AreStepsCommitted, CrashesRecoverSoundly, EachMomentRecoversSoundly, IsPlanned, Merges, RecoversSoundly, SoundTrail}
 use Rattle.commit_law.proofs.Stays.{Stays, answer_stays, begun_listed, run_stays, stays_then}
 
-abbrev number : Group → ℕ
+abbrev pub number : Group → ℕ
 number x = x.content.group
 
 -- different elements with a number each have different numbers
@@ -36,11 +36,11 @@ numbers_differ (x ∷ xs) one d = (
   numbers_differ xs (λ a b ha hb. one a b (inr ha) (inr hb)) d.1,
 )
 
-numbers_of : (f : ℕ → Group) → ((n : ℕ) → number (f n) ≡ n) → (ns : List ℕ) → map number (groups f ns) ≡ ns
+pub numbers_of : (f : ℕ → Group) → ((n : ℕ) → number (f n) ≡ n) → (ns : List ℕ) → map number (groups f ns) ≡ ns
 numbers_of f own [] = refl
 numbers_of f own (n ∷ ns) = ap (λ (k : ℕ). k ∷ map number (groups f ns)) (own n) ∙ ap (λ (ks : List ℕ). n ∷ ks) (numbers_of f own ns)
 
-rising_differ : (ns : List ℕ) → IsRising ns → AreDistinct ns
+pub rising_differ : (ns : List ℕ) → IsRising ns → AreDistinct ns
 rising_differ [] rising = tt
 rising_differ (n ∷ ns) rising = ((λ h. let less = rising.0 n h in absurd (omega (arith, less))), rising_differ ns rising.1)
 
@@ -48,7 +48,7 @@ kept_step : (b : Bool) (n : ℕ) (ns : List ℕ) → ¬ Has ns n → AreDistinct
 kept_step true n ns none d = (none, d)
 kept_step false n ns none d = d
 
-kept_differ : (test : ℕ → Bool) (ns : List ℕ) → AreDistinct ns → AreDistinct (filter test ns)
+pub kept_differ : (test : ℕ → Bool) (ns : List ℕ) → AreDistinct ns → AreDistinct (filter test ns)
 kept_differ test [] d = tt
 kept_differ test (n ∷ ns) d = kept_step (test n) n (filter test ns) (λ h. d.0 (filtered test ns n h).0) (kept_differ test ns d.1)
 

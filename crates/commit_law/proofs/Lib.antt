@@ -1,3 +1,5 @@
+pub mod Beside
+pub mod Fair
 pub mod Members
 pub mod Stays
 pub mod Whole

@@ -1,3 +1,4 @@
+ghost use Rattle.commit_law.specs.Claims.{GoodClaimsSuffice, MergesRecoverSoundly};
 ghost use Rattle.commit_law.specs.Commits.{CommitsLeaveSoundTrees};
 ghost use Rattle.commit_law.specs.Crashes.{CrashesRecoverSoundly, EachMomentRecoversSoundly};
 
@@ -23,4 +24,24 @@ pub fn crashes_recover_soundly()
     merge_core::committed_is_run();
     merge_record::open_groups_rise();
     commits_leave_sound_trees();
+}
+
+/// A law: where a claim is granted only to a group that may come then, over the settled groups and
+/// beside those under way, all that a crash commits at any moment are steps one after another.
+pub fn good_claims_suffice()
+    ensures { GoodClaimsSuffice }
+{
+    database_law::groups_keep_the_database();
+    version_text::one_name_and_version();
+    version_text::one_spelling();
+    merge_record::open_groups_rise();
+}
+
+/// A law, the two above together: whatever a crash leaves while an accepted plan is merged with good
+/// claims recovers to a sound tree.
+pub fn merges_recover_soundly()
+    ensures { MergesRecoverSoundly }
+{
+    crashes_recover_soundly();
+    good_claims_suffice();
 }

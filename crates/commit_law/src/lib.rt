@@ -5,11 +5,14 @@
 //! groups as `database_law` does, and the machine of all groups as `merge_core` does.
 //!
 //! **Proved**: whichever groups of an accepted plan are committed to a kept tree, in whatever order
-//! that the plan allows, they leave a kept tree with a database whose packages are consistent. While
-//! the machine and the disk are in order, whatever a crash leaves recovers to such a tree, with each
-//! settled group in it.
+//! that the plan allows, they leave a kept tree with a database whose packages are consistent. Where
+//! a group's claim is granted only while its change may come, over the settled groups and beside
+//! those under way, whatever a crash leaves at any moment of the plan's merge, with its events in any
+//! order and answered in any way, recovers to such a tree, with each settled group in it.
 #![tactic(auto)]
 
 mod laws;
 
-pub use laws::{commits_leave_sound_trees, crashes_recover_soundly};
+pub use laws::{
+    commits_leave_sound_trees, crashes_recover_soundly, good_claims_suffice, merges_recover_soundly,
+};

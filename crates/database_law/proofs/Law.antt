@@ -122,7 +122,7 @@ module _ (comes : ComesApart) (spells : OneSpelling) (m : Map) (ps added qs : Li
           ])
     ]
 
-    folder_stays : folder new (id_of p) ≡ folder m (id_of p)
+    pub folder_stays : folder new (id_of p) ≡ folder m (id_of p)
     folder_stays = λ i name.
         keeps does m (record_path (id_of p) name) (counted_outside (record_path (id_of p) name) (counted_of (id_of p) name (db.ids p stays.0))) (unput name) (unremoved name) i
 
@@ -145,7 +145,7 @@ module _ (comes : ComesApart) (spells : OneSpelling) (m : Map) (ps added qs : Li
           ])
     ]
 
-    name_comes : applied m (does ∷ []) (record_path (id_of a) name) ≡ put does (record_path (id_of a) name)
+    pub name_comes : applied m (does ∷ []) (record_path (id_of a) name) ≡ put does (record_path (id_of a) name)
     name_comes =
         let q : List ℕ = record_path (id_of a) name in
         let outside = counted_outside q (counted_of (id_of a) name (puts.ids a has)) in
@@ -208,7 +208,7 @@ module _ (comes : ComesApart) (spells : OneSpelling) (m : Map) (ps added qs : Li
 
   -- a path that a coming package records
   module _ (a : Installed) (has : Has added a) (q : List ℕ) (own : Has (paths a) q) where
-    own_put : IsSome (put does q)
+    pub own_put : IsSome (put does q)
     own_put =
         let o = has-map_back path_of a.owned q own in
         subst (λ (s : List ℕ). IsSome (put does s)) o.2 (holds_some (put does o.0.path) o.0.content (puts.owned a o.0 has o.1))
@@ -252,7 +252,7 @@ group_keeps comes spells m ps added qs gone does db kept step after =
     (database_after comes spells m ps added qs gone does db kept step.removes step.puts step.apart after, kept_after comes spells m ps added qs gone does db kept step.removes step.puts step.apart after)
 
 -- groups one after another are groups at once
-applied_behind : (m : Map) (g : Group) (gs : List Group) (q : List ℕ) → applied (applied m (g ∷ [])) gs q ≡ applied m (g ∷ gs) q
+pub applied_behind : (m : Map) (g : Group) (gs : List Group) (q : List ℕ) → applied (applied m (g ∷ [])) gs q ≡ applied m (g ∷ gs) q
 applied_behind m g gs q = elim (cases_Bool (is_below jobs q)) [
   | inl e ↦ cond-true (is_below jobs q) None (with_groups gs q (applied m (g ∷ []) q)) e ∙ sym (cond-true (is_below jobs q) None (with_groups gs q (with_group g q (m q))) e)
   | inr e ↦ cond-false (is_below jobs q) None (with_groups gs q (applied m (g ∷ []) q)) e
