@@ -1,1 +1,3 @@
 pub mod Membership
+pub mod Tests
+pub mod Texts

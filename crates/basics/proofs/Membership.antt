@@ -1,7 +1,7 @@
--- What appending, mapping and picking do to membership.
-use Rattle.std.specs.Prelude.{map}
-use Rattle.std.proofs.Common.{◌≡◌, ◌⊎◌, List, [], ◌∷◌, ◌++◌, inl, inr, ap, refl}
-use Rattle.basics.specs.Members.{Has}
+-- What appending, mapping and filtering do to membership, and membership by place.
+use Rattle.std.specs.Prelude.{map, filter, Contains}
+use Rattle.std.proofs.Common.{◌≡◌, ◌⊎◌, ◌<◌, ◌∙◌, ℕ, zero, suc, Bool, true, false, cond, List, [], ◌∷◌, ◌++◌, get_or, length, inl, inr, ap, arith, refl, subst, sym}
+use Rattle.basics.specs.Members.{AreDistinct, Has}
 
 pub has-append_left : {A : Type 0} (xs ys : List A) (x : A) → Has xs x → Has (xs ++ ys) x
 has-append_left [] ys x h = absurd h
@@ -26,3 +26,50 @@ pub has-map_back : {A B : Type 0} (f : A → B) (xs : List A) (y : B) → Has (m
 has-map_back f [] y h = absurd h
 has-map_back f (x ∷ xs) y (inl e) = (x, inl refl, e)
 has-map_back f (x ∷ xs) y (inr h) = let k = has-map_back f xs y h in (k.0, inr k.1, k.2)
+
+module _ {A : Type 0} (test : A → Bool) where
+  filter_cases : (b : Bool) (y : A) (ys : List A) (x : A) → Has (cond b (y ∷ ys) ys) x → ((b ≡ true) × (y ≡ x)) ⊎ Has ys x
+  filter_cases true y ys x (inl e) = inl (refl, e)
+  filter_cases true y ys x (inr h) = inr h
+  filter_cases false y ys x h = inr h
+
+  filter_first : (b : Bool) (y : A) (ys : List A) → b ≡ true → Has (cond b (y ∷ ys) ys) y
+  filter_first true y ys e = inl refl
+  filter_first false y ys e = absurd (cc e)
+
+  filter_later : (b : Bool) (y : A) (ys : List A) (x : A) → Has ys x → Has (cond b (y ∷ ys) ys) x
+  filter_later true y ys x h = inr h
+  filter_later false y ys x h = h
+
+  -- what a filter keeps is a member that passes
+  pub has-filter_back : (xs : List A) (x : A) → Has (filter test xs) x → Has xs x × (test x ≡ true)
+  has-filter_back [] x h = absurd h
+  has-filter_back (y ∷ ys) x h = elim (filter_cases (test y) y (filter test ys) x h) [
+    | inl e ↦ (inl e.1, ap test (sym e.1) ∙ e.0)
+    | inr later ↦ (let k = has-filter_back ys x later in (inr k.0, k.1))
+  ]
+
+  -- and each member that passes is kept
+  pub has-filter : (xs : List A) (x : A) → Has xs x → test x ≡ true → Has (filter test xs) x
+  has-filter [] x h e = absurd h
+  has-filter (y ∷ ys) x (inl same) e = subst (λ (z : A). Has (filter test (y ∷ ys)) z) same (filter_first (test y) y (filter test ys) (ap test same ∙ e))
+  has-filter (y ∷ ys) x (inr h) e = filter_later (test y) y (filter test ys) x (has-filter ys x h e)
+
+pub has-from_contains : {A : Type 0} (xs : List A) (x : A) → Contains xs x → Has xs x
+has-from_contains {A = A} xs x c = go xs c.0 c.1 c.2
+  where
+    go : (ys : List A) (k : ℕ) → k < length ys → get_or ys k x ≡ x → Has ys x
+    go [] k lt e = absurd (omega arith)
+    go (y ∷ ys) zero lt e = inl e
+    go (y ∷ ys) (suc k) lt e = inr (go ys k (omega arith) e)
+
+pub contains-from_has : {A : Type 0} (xs : List A) (x : A) → Has xs x → Contains xs x
+contains-from_has [] x has = absurd has
+contains-from_has (y ∷ ys) x (inl e) = (0, omega arith, e)
+contains-from_has (y ∷ ys) x (inr h) = let c = contains-from_has ys x h in (suc c.0, omega (arith, c.1), c.2)
+
+-- lists that are distinct together have no member in common
+pub distinct-apart : {A : Type 0} (xs ys : List A) (x : A) → AreDistinct (xs ++ ys) → Has xs x → Has ys x → ⊥
+distinct-apart [] ys x distinct has mine = absurd has
+distinct-apart {A = A} (y ∷ xs) ys x distinct (inl e) mine = distinct.0 (has-append_right xs ys y (subst (λ (z : A). Has ys z) (sym e) mine))
+distinct-apart (y ∷ xs) ys x distinct (inr has) mine = distinct-apart xs ys x distinct.1 has mine

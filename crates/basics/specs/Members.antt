@@ -1,5 +1,5 @@
 -- Membership in a list, by recursion on the list: the form that suits inductions.
-use Rattle.std.specs.Prelude.{◌≡◌, ◌⊎◌, List, [], ◌∷◌}
+use Rattle.std.specs.Prelude.{◌≡◌, ◌⊎◌, List, [], ◌∷◌, ⊤}
 
 -- `x` stands in the list
 abbrev pub Has : {A : Type 0} → List A → A → Type 0
@@ -8,5 +8,5 @@ Has (y ∷ ys) x = (y ≡ x) ⊎ Has ys x
 
 -- `x` stands in the list once
 abbrev pub AreDistinct : {A : Type 0} → List A → Type 0
-AreDistinct [] = Unit {0}
-AreDistinct (y ∷ ys) = (Has ys y → ⊥) × AreDistinct ys
+AreDistinct [] = ⊤
+AreDistinct (y ∷ ys) = (¬ Has ys y) × AreDistinct ys

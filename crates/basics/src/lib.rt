@@ -1,5 +1,5 @@
-//! What every crate of the workspace wants: a text with equality and order, tests on bytes, and
-//! membership in a list by recursion.
+//! What every crate of the workspace wants: a text with equality and order, tests on bytes, the
+//! blanks, and membership in a list by recursion.
 //!
 //! **A contract sees** a [`Text`] as its bytes, `text.now`; membership, distinct lists and lists
 //! that say the same are words of `specs/Members.antt`.
@@ -15,8 +15,10 @@
 //! ```
 #![tactic(auto)]
 
+mod blanks;
 mod bytes;
 mod text;
 
+pub use blanks::{CARRIAGE_RETURN, NEWLINE, SPACE, TAB, is_blank};
 pub use bytes::{is_digit, is_lower};
 pub use text::Text;

@@ -1,18 +1,18 @@
 -- A change that may come may still come once another one, beside it, was made.
 use Rattle.std.proofs.Common.{◌≡◌, ◌∙◌, ℕ, true, false, List, [], ◌∷◌, Option, None, map, inl, inr, sym, ap, subst}
 use Rattle.std.specs.Prelude.{IsSome}
-use Rattle.std.proofs.lemmas.Bool.{cases_Bool, cond-false, true≢false}
+use Rattle.std.proofs.lemmas.Bool.{cases_Bool, cond-false, or_parts, true≢false}
 use Rattle.basics.specs.Members.{Has}
 use Rattle.file_tree.specs.Disk.{Map}
 use Rattle.file_tree.specs.Paths.{is_below}
-use Rattle.merge_record.specs.Judging.{is_in}
+use Rattle.merge_record.specs.Judging.{is_in, path_of}
 use Rattle.merge_record.specs.Names.{jobs}
 use Rattle.merge_record.proofs.Form.{in_if_has}
 use Rattle.dep_atom.proofs.Joined.{ComesApart}
 use Rattle.vdb_text.specs.Files.{record_path}
 use Rattle.vdb_text.proofs.Packages.{OneSpelling}
 use Rattle.journal.specs.Group.{Group, applied, covers, with_group}
-use Rattle.journal.proofs.Changes.{is_in-append, or_false, outside, placed_outside}
+use Rattle.journal.proofs.Changes.{is_in-append, outside, placed_outside}
 use Rattle.database_law.specs.Database.{IsDatabase, IsKept}
 use Rattle.database_law.specs.Packages.{Installed, id_of}
 use Rattle.database_law.specs.Step.{Change, IsAfter, IsApart, Owns, Removes, Stays, put}
@@ -20,12 +20,16 @@ use Rattle.database_law.proofs.Law.{folder_stays, name_comes, own_put}
 use Rattle.database_law.proofs.Places.{counted_of, counted_outside, none_is_not_some}
 use Rattle.commit_law.specs.Claims.{AreBeside, MayCome}
 
+-- a path of no group is neither removed nor placed
+uncovered : (g : Group) (q : List ℕ) → covers g q ≡ false → (is_in g.content.removals q ≡ false) × (is_in (map path_of g.content.placements) q ≡ false)
+uncovered g q e = or_parts (is_in g.content.removals q) (is_in (map path_of g.content.placements) q) (sym (is_in-append g.content.removals (map path_of g.content.placements) q) ∙ e)
+
 -- a path that a group puts or removes is one of its own
 removed_covered : (g : Group) (q : List ℕ) → Has g.content.removals q → covers g q ≡ true
 removed_covered g q has = elim (cases_Bool (covers g q)) [
   | inl e ↦ e
   | inr e ↦ (
-      let parts = or_false (is_in g.content.removals q) (is_in (map (λ p. p.path) g.content.placements) q) (sym (is_in-append g.content.removals (map (λ p. p.path) g.content.placements) q) ∙ e) in
+      let parts = uncovered g q e in
       absurd (true≢false (sym (in_if_has g.content.removals q has) ∙ parts.0)))
 ]
 
@@ -33,13 +37,13 @@ put_covered : (g : Group) (q : List ℕ) → IsSome (put g q) → covers g q ≡
 put_covered g q some = elim (cases_Bool (covers g q)) [
   | inl e ↦ e
   | inr e ↦ (
-      let parts = or_false (is_in g.content.removals q) (is_in (map (λ p. p.path) g.content.placements) q) (sym (is_in-append g.content.removals (map (λ p. p.path) g.content.placements) q) ∙ e) in
+      let parts = uncovered g q e in
       absurd (none_is_not_some (put g q) (placed_outside g.content.placements g.objects q None parts.1) some))
 ]
 
 unput : (g : Group) (q : List ℕ) → covers g q ≡ false → put g q ≡ None
 unput g q e =
-    let parts = or_false (is_in g.content.removals q) (is_in (map (λ p. p.path) g.content.placements) q) (sym (is_in-append g.content.removals (map (λ p. p.path) g.content.placements) q) ∙ e) in
+    let parts = uncovered g q e in
     placed_outside g.content.placements g.objects q None parts.1
 
 -- a path of no group is as it was

@@ -1,7 +1,7 @@
 -- What a crash leaves while a plan is merged recovers to a sound tree.
 use Rattle.std.proofs.Common.{◌≡◌, ◌<◌, ℕ, Bool, true, false, cond, not, List, [], ◌∷◌, filter, length, map, inl, inr, refl, sym, ap, subst, arith, ◌∙◌}
 use Rattle.basics.specs.Members.{AreDistinct, Has}
-use Rattle.basics.proofs.Membership.{has-append_right, has-map, has-map_back}
+use Rattle.basics.proofs.Membership.{has-append_right, has-map, has-map_back, has-filter_back}
 use Rattle.file_tree.specs.Disk.{Disk, Map, Story}
 use Rattle.file_tree.specs.Moments.{Leaves}
 use Rattle.file_tree.proofs.Moments.{since_weaker}
@@ -15,7 +15,6 @@ use Rattle.merge_core.specs.Phase.{is_settled, was_opened}
 use Rattle.merge_core.specs.Roll.{Machine, Roll, Stands, committed, group_at, idle, others, phase_at}
 use Rattle.merge_core.specs.Runs.{AllWait, IsFollowing, IsRunFrom, Waits}
 use Rattle.merge_core.specs.Trail.{Entry, EventKeeps, Happens, IsAtRest, machine_after}
-use Rattle.merge_core.proofs.Images.{filter_has}
 use Rattle.merge_core.proofs.Runs.{opened_begun, run_then}
 use Rattle.database_law.specs.Packages.{Installed}
 use Rattle.database_law.specs.Step.{Change, groups_of}
@@ -59,7 +58,7 @@ module _ (r : Roll) (listed : IsListed r) (c : Map) (rising : IsRising (open_gro
   apart : (x y : Group) → Has r.order x → Has (groups (group_at r) (others r c)) y → ¬ (number x ≡ number y)
   apart x y hx hy e =
       let k = groups_has (group_at r) (others r c) y hy in
-      let open_one = filter_has (λ g. not (is_settled (phase_at r g))) (open_groups c) k.0 k.1 in
+      let open_one = has-filter_back (λ g. not (is_settled (phase_at r g))) (open_groups c) k.0 k.1 in
       let settled = (listed.only x hx).0 in
       let same : number x ≡ k.0 = e ∙ ap number k.2 in
       let turned : not (is_settled (phase_at r k.0)) ≡ false = ap not (ap (λ (g : ℕ). is_settled (phase_at r g)) (sym same) ∙ settled) in

@@ -3,7 +3,7 @@ use Rattle.std.proofs.Common.{◌≡◌, ◌++◌, ◌∙◌, ℕ, Bool, true, f
 use Rattle.std.proofs.lemmas.Bool.{cases_Bool, cond-false, cond-true}
 use Rattle.std.proofs.lemmas.List.{map-append}
 use Rattle.basics.specs.Members.{AreDistinct, Has}
-use Rattle.basics.proofs.Membership.{has-append_right}
+use Rattle.basics.proofs.Membership.{has-append_right, has-filter_back}
 use Rattle.file_tree.specs.Disk.{Map, Story}
 use Rattle.file_tree.specs.Paths.{is_below}
 use Rattle.merge_record.specs.Names.{jobs}
@@ -17,7 +17,6 @@ use Rattle.merge_core.specs.Event.{Abandon, Acknowledge, Admits, Begin, Claim, C
 use Rattle.merge_core.specs.Phase.{is_settled, was_opened}
 use Rattle.merge_core.specs.Roll.{Machine, Roll, Standing, group_at, idle, others, phase_at, set}
 use Rattle.merge_core.specs.Trail.{Entry, Happens, machine_after}
-use Rattle.merge_core.proofs.Images.{filter_has}
 use Rattle.merge_core.proofs.Standings.{by_group, set_with}
 use Rattle.database_law.specs.Database.{IsDatabase, IsKept}
 use Rattle.database_law.specs.Packages.{Installed}
@@ -118,7 +117,7 @@ module _ (facts : Facts) (change : ℕ → Change) where
         let numbers : committed_numbers r c ≡ settled_numbers r ++ others r c =
         map-append number r.order (groups (group_at r) (others r c)) ∙ ap (λ (ks : List ℕ). settled_numbers r ++ ks) (numbers_of (group_at r) (λ n. refl) (others r c)) in
         let granted : (n : ℕ) → Has (others r c) n → is_granted (phase_at r n) ≡ true = λ n h.
-        (let open_one = filter_has (λ g. not (is_settled (phase_at r g))) (open_groups c) n h in
+        (let open_one = has-filter_back (λ g. not (is_settled (phase_at r g))) (open_groups c) n h in
         let there = stands.opened (group_at r n) (has-append_right r.order (groups (group_at r) (others r c)) (group_at r n) (has_groups (group_at r) (others r c) n h)) in
         fair.opened n there.0 (unsettled (is_settled (phase_at r n)) open_one.1)) in
         let tree = fair_tree r fair in

@@ -1,5 +1,5 @@
 -- Packages that go together do so in any list of just these.
-use Rattle.std.proofs.Common.{◌≡◌, ◌||◌, ◌↔◌, ℕ, Bool, true, false, List, [], ◌∷◌, map, inl, inr, refl, sym, ap, subst, ◌∙◌}
+use Rattle.std.proofs.Common.{◌≡◌, ◌||◌, ◌↔◌, ℕ, Bool, true, List, [], ◌∷◌, map, inl, inr, refl, sym, ap, subst, ◌∙◌}
 use Rattle.std.specs.List.Sorted.{IsStrictlySortedBy}
 use Rattle.basics.specs.Members.{AreDistinct, Has}
 use Rattle.basics.proofs.Membership.{has-map, has-map_back}
@@ -21,6 +21,7 @@ use Rattle.database_law.specs.Packages.{Installed}
 use Rattle.database_law.proofs.Places.{all_less, not_less}
 use Rattle.plan_law.proofs.Members.{passes_some, some_passes}
 use Rattle.commit_law.specs.Commits.{packages_of}
+use Rattle.basics.proofs.Tests.{same_tests}
 
 -- two lists have the same members
 abbrev pub AreSame : List Package → List Package → Type 0
@@ -37,16 +38,10 @@ some_matches ps qs same asker a e =
 same_back : (ps qs : List Package) → AreSame ps qs → AreSame qs ps
 same_back ps qs same p = ((same p).1, (same p).0)
 
-tests_alike : (b c : Bool) → (b ≡ true → c ≡ true) → (c ≡ true → b ≡ true) → b ≡ c
-tests_alike true true f g = refl
-tests_alike false false f g = refl
-tests_alike true false f g = sym (f refl)
-tests_alike false true f g = g refl
-
 met_alike : (ps qs : List Package) → AreSame ps qs → (class : Class) (p : Package) → is_met (facts_of ps) class p ≡ is_met (facts_of qs) class p
 met_alike ps qs same class p =
     let facts : (λ (a : AtomValue). is_fact (facts_of ps) p.facts.enabled a) ≡ (λ (a : AtomValue). is_fact (facts_of qs) p.facts.enabled a) =
-    λ i a. is_block a || tests_alike (some_match (facts_of ps) p.facts.enabled a) (some_match (facts_of qs) p.facts.enabled a) (some_matches ps qs same p.facts.enabled a) (some_matches qs ps (same_back ps qs same) p.facts.enabled a) i in
+    λ i a. is_block a || same_tests (some_match (facts_of ps) p.facts.enabled a) (some_match (facts_of qs) p.facts.enabled a) (some_matches ps qs same p.facts.enabled a) (some_matches qs ps (same_back ps qs same) p.facts.enabled a) i in
     ap (λ (fact : AtomValue → Bool). all_hold kind fact (has p.facts.enabled) (tree_of class p)) facts
 
 -- folders in byte order differ

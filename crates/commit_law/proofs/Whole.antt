@@ -1,5 +1,5 @@
 -- The committed groups of an accepted plan leave a sound tree.
-use Rattle.std.proofs.Common.{◌≡◌, ℕ, Bool, true, false, not, List, [], ◌∷◌, filter, map, inl, inr, refl, sym, ap, subst, ◌∙◌}
+use Rattle.std.proofs.Common.{◌≡◌, ℕ, Bool, false, not, List, [], ◌∷◌, filter, map, inl, inr, sym, ap, subst, ◌∙◌}
 use Rattle.basics.specs.Members.{Has}
 use Rattle.basics.proofs.Membership.{has-append_cases, has-append_left, has-append_right, has-map, has-map_back}
 use Rattle.file_tree.specs.Disk.{Map}
@@ -13,16 +13,10 @@ use Rattle.plan_law.specs.Sound.{IsSound}
 use Rattle.plan_law.proofs.Members.{filtered, kept}
 use Rattle.commit_law.specs.Commits.{AreOf, CommitsLeaveSoundTrees, IsOf, packages_of}
 use Rattle.commit_law.proofs.Members.{AreSame, consistent_alike}
+use Rattle.std.proofs.lemmas.Bool.{not_from_false, not-true}
 
 abbrev stays_on : Group → Package → Bool
 stays_on g p = not (clears g (line_of p.facts))
-
-not_false : (b : Bool) → b ≡ false → not b ≡ true
-not_false b e = ap not e
-
-not_true : (b : Bool) → not b ≡ true → b ≡ false
-not_true true e = absurd (cc e)
-not_true false e = refl
 
 -- a change leaves the packages that its group does
 one_change : (g : Group) (c : Change) (ps mid : List Installed) (s : List Package) → IsOf g c → IsAfter ps c.gone c.added mid → AreSame s (packages_of ps) → AreSame (changed g s) (packages_of mid)
@@ -36,7 +30,7 @@ one_change g c ps mid s of step same p = (forth, back) where
         subst (λ (x : Package). Has (packages_of mid) x) k.2 (came k.0 k.1))
     | inr left ↦ (let m = filtered (stays_on g) s p left in
         let k = has-map_back (λ (y : Installed). y.package_is) ps p ((same p).0 m.0) in
-        let stays : c.gone k.0 ≡ false = of.leaves k.0 ∙ ap (λ (x : Package). clears g (line_of x.facts)) k.2 ∙ not_true (clears g (line_of p.facts)) m.1 in
+        let stays : c.gone k.0 ≡ false = of.leaves k.0 ∙ ap (λ (x : Package). clears g (line_of x.facts)) k.2 ∙ not-true (clears g (line_of p.facts)) m.1 in
         subst (λ (x : Package). Has (packages_of mid) x) k.2 (has-map (λ (y : Installed). y.package_is) mid k.0 ((step.members k.0).1 (inl (k.1, stays)))))
   ]
 
@@ -46,7 +40,7 @@ one_change g c ps mid s of step same p = (forth, back) where
       elim ((step.members k.0).0 k.1) [
         | inl stays ↦ (let there = (same p).1 (subst (λ (x : Package). Has (packages_of ps) x) k.2 (has-map (λ (y : Installed). y.package_is) ps k.0 stays.0)) in
             let goes_on : clears g (line_of p.facts) ≡ false = ap (λ (x : Package). clears g (line_of x.facts)) (sym k.2) ∙ sym (of.leaves k.0) ∙ stays.1 in
-            has-append_right g.additions (filter (stays_on g) s) p (kept (stays_on g) s p there (not_false (clears g (line_of p.facts)) goes_on)))
+            has-append_right g.additions (filter (stays_on g) s) p (kept (stays_on g) s p there (not_from_false (clears g (line_of p.facts)) goes_on)))
         | inr added ↦ has-append_left g.additions (filter (stays_on g) s) p
             (subst (λ (l : List Package). Has l p) of.comes (subst (λ (x : Package). Has (packages_of c.added) x) k.2 (has-map (λ (y : Installed). y.package_is) c.added k.0 added)))
       ]

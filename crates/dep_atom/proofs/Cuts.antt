@@ -5,6 +5,7 @@ use Rattle.std.proofs.lemmas.Bool.Decides.{nat_tests}
 use Rattle.std.proofs.lemmas.List.Folds.{list_any-append}
 use Rattle.std.proofs.lemmas.List.{append_cancel_right}
 use Rattle.dep_atom.specs.Cuts.{is_either, Lacks, Starts, end_text}
+use Rattle.std.proofs.lemmas.Bool.{or_from}
 
 head_lacks : (x y b : ℕ) (bytes : List ℕ) → Lacks x y (b ∷ bytes) → is_either x y b ≡ false
 head_lacks x y b bytes h = first (is_either x y b) (list_any (is_either x y) bytes) h
@@ -37,14 +38,11 @@ cut_once x y (a ∷ as') b (c ∷ cs) d h k s t e =
     let rest : (as' ≡ cs) × (b ≡ d) = cut_once x y as' b cs d (tail_lacks x y a as' h) (tail_lacks x y c cs k) s t tails in
     (ap (λ l. a ∷ l) rest.0 ∙ ap (λ i. i ∷ cs) heads, rest.1)
 
-join_false : (p q : Bool) → p ≡ false → q ≡ false → (p || q) ≡ false
-join_false p q h k = rw (h, k) refl
-
 pub lacks_before : (x y : ℕ) (text : List ℕ) (at : ℕ) → ((k : ℕ) → k < at → is_either x y (get_or text k 0) ≡ false) → Lacks x y (take at text)
 lacks_before x y [] zero h = refl
 lacks_before x y [] (suc at) h = refl
 lacks_before x y (b ∷ text) zero h = refl
-lacks_before x y (b ∷ text) (suc at) h = join_false (is_either x y b) (list_any (is_either x y) (take at text)) (h 0 (omega arith)) (lacks_before x y text at (λ k within. h (suc k) (omega (arith, within))))
+lacks_before x y (b ∷ text) (suc at) h = or_from (is_either x y b) (list_any (is_either x y) (take at text)) (h 0 (omega arith)) (lacks_before x y text at (λ k within. h (suc k) (omega (arith, within))))
 
 pub lacks_whole : (x y : ℕ) (text : List ℕ) → ((k : ℕ) → k < length text → is_either x y (get_or text k 0) ≡ false) → Lacks x y (take (length text) text)
 lacks_whole x y text h = lacks_before x y text (length text) h

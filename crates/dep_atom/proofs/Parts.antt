@@ -11,6 +11,7 @@ use Rattle.dep_atom.specs.declared.uses.UseKind.TheVariants.{On, Off, Same, Oppo
 use Rattle.dep_atom.specs.Cuts.{is_plain}
 use Rattle.dep_atom.specs.Reading.{block_at, op_at, use_kind_at, has_equals, has_question}
 use Rattle.dep_atom.specs.Text.{block_text, op_text, before_flag}
+use Rattle.dep_atom.proofs.Plain.{plain_differs}
 
 block_told : (b : Block) (rest : List ℕ) → (get_or rest 0 0 == 33) ≡ false → block_at (get_or (block_text b ++ rest) 0 0) (get_or (block_text b ++ rest) 1 0) ≡ b
 block_told No rest h = rw h refl
@@ -22,17 +23,14 @@ block_once text rest behind got b e told h k =
     let same : got ≡ b = told ∙ ap (λ t. block_at (get_or t 0 0) (get_or t 1 0)) k ∙ block_told b behind h in
     (same, append_cancel_left (block_text b) rest behind (sym (ap (λ o. block_text o ++ rest) same) ∙ sym e ∙ k))
 
-not_sign : (b x : ℕ) → is_plain x ≡ false → is_plain b ≡ true → (b == x) ≡ false
-not_sign b x f t = grind (arith, nat_tests)
-
 op_told : (o : Op) (rest : List ℕ) → is_plain (get_or rest 0 0) ≡ true → op_at (get_or (op_text o ++ rest) 0 0) (get_or (op_text o ++ rest) 1 0) ≡ o
-op_told Any rest h = rw (not_sign (get_or rest 0 0) 60 refl h, not_sign (get_or rest 0 0) 61 refl h, not_sign (get_or rest 0 0) 62 refl h, not_sign (get_or rest 0 0) 126 refl h) refl
-op_told Less rest h = rw (not_sign (get_or rest 0 0) 61 refl h) refl
+op_told Any rest h = rw (plain_differs (get_or rest 0 0) 60 refl h, plain_differs (get_or rest 0 0) 61 refl h, plain_differs (get_or rest 0 0) 62 refl h, plain_differs (get_or rest 0 0) 126 refl h) refl
+op_told Less rest h = rw (plain_differs (get_or rest 0 0) 61 refl h) refl
 op_told LessEqual rest h = refl
 op_told Equal rest h = refl
 op_told Similar rest h = refl
 op_told GreaterEqual rest h = refl
-op_told Greater rest h = rw (not_sign (get_or rest 0 0) 61 refl h) refl
+op_told Greater rest h = rw (plain_differs (get_or rest 0 0) 61 refl h) refl
 
 pub op_once : (text rest behind : List ℕ) (got o : Op) → text ≡ op_text got ++ rest → got ≡ op_at (get_or text 0 0) (get_or text 1 0) → is_plain (get_or behind 0 0) ≡ true → text ≡ op_text o ++ behind → (got ≡ o) × (rest ≡ behind)
 op_once text rest behind got o e told h k =
@@ -41,7 +39,7 @@ op_once text rest behind got o e told h k =
 
 -- no block stands where an operator or a name begins
 pub op_is_no_block : (o : Op) (rest : List ℕ) → is_plain (get_or rest 0 0) ≡ true → (get_or (op_text o ++ rest) 0 0 == 33) ≡ false
-op_is_no_block Any rest h = not_sign (get_or rest 0 0) 33 refl h
+op_is_no_block Any rest h = plain_differs (get_or rest 0 0) 33 refl h
 op_is_no_block Less rest h = refl
 op_is_no_block LessEqual rest h = refl
 op_is_no_block Equal rest h = refl

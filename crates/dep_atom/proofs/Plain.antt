@@ -86,11 +86,11 @@ plain-ascii [] h i = omega arith
 plain-ascii (x ∷ xs) h zero = plain_is_ascii x h.0
 plain-ascii (x ∷ xs) h (suc i) = plain-ascii xs h.1 i
 
-differs : (b x : ℕ) → is_plain x ≡ false → is_plain b ≡ true → (b == x) ≡ false
-differs b x f t = grind (arith, nat_tests)
+pub plain_differs : (b x : ℕ) → is_plain x ≡ false → is_plain b ≡ true → (b == x) ≡ false
+plain_differs b x f t = grind (arith, nat_tests)
 
 neither : (b x y : ℕ) → is_plain x ≡ false → is_plain y ≡ false → is_plain b ≡ true → is_either x y b ≡ false
-neither b x y f g t = rw (differs b x f t, differs b y g t) refl
+neither b x y f g t = rw (plain_differs b x f t, plain_differs b y g t) refl
 
 pub lacks_plain : (x y : ℕ) (bytes : List ℕ) → is_plain x ≡ false → is_plain y ≡ false → ArePlain bytes → Lacks x y bytes
 lacks_plain x y [] f g h = refl

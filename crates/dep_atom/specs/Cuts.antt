@@ -1,5 +1,5 @@
 -- Where a text is cut: before the first of two bytes, and before a byte at its end.
-use Rattle.std.specs.Prelude.{◌≡◌, ℕ, Bool, true, false, ◌||◌, ◌==◌, List, [], ◌∷◌, if◌then◌else◌}
+use Rattle.std.specs.Prelude.{◌≡◌, ℕ, Bool, true, false, ◌||◌, ◌==◌, List, [], ◌∷◌, if◌then◌else◌, ⊤}
 use Rattle.std.specs.List.{list_any}
 use Rattle.std.specs.Char.{is_ascii_alphanumeric}
 
@@ -12,7 +12,7 @@ Lacks one other bytes = list_any (is_either one other) bytes ≡ false
 
 -- the text is empty, or begins with one of the bytes
 abbrev pub Starts : ℕ → ℕ → List ℕ → Type 0
-Starts one other [] = Unit {0}
+Starts one other [] = ⊤
 Starts one other (b ∷ bytes) = is_either one other b ≡ true
 
 -- the byte alone, or nothing

@@ -1,5 +1,5 @@
 -- Which fault of a text that is no atom comes first, from left to right.
-use Rattle.std.specs.Prelude.{◌≡◌, ℕ, ◌+◌, ◌-◌, ◌<◌, ◌⊎◌, Bool, true, false, List, [], ◌∷◌, ◌++◌, length, slice_index, Option}
+use Rattle.std.specs.Prelude.{◌≡◌, ℕ, ◌+◌, ◌-◌, ◌<◌, ◌⊎◌, Bool, true, false, List, [], ◌∷◌, ◌++◌, length, slice_index, Option, ⊤}
 use Rattle.std.specs.List.{AllByRecursion}
 use Rattle.version_text.specs.Grammar.{IsVersionText, Parts}
 use Rattle.pms_names.specs.declared.name.Name.{Name}
@@ -18,22 +18,22 @@ use Rattle.dep_atom.specs.Text.{block_text, op_text, name_text, version_part, st
 
 -- the kinds of faults that reading one part can end in
 abbrev pub IsSlotFault : AtomFault → Type 0
-IsSlotFault faults.BadSlot = Unit {0}
-IsSlotFault faults.Memory = Unit {0}
+IsSlotFault faults.BadSlot = ⊤
+IsSlotFault faults.Memory = ⊤
 IsSlotFault _ = ⊥
 
 -- the fault of a USE item that begins at `at`
 abbrev pub IsUseFaultAt : ℕ → AtomFault → Type 0
 IsUseFaultAt at (faults.BadUse k) = k ≡ at
-IsUseFaultAt at faults.Memory = Unit {0}
+IsUseFaultAt at faults.Memory = ⊤
 IsUseFaultAt at _ = ⊥
 
 -- the first fault of what stands in an atom without an operator: a version behind the name, or else
 -- the name
 abbrev pub PlainFault : List ℕ → AtomFault → Type 0
 PlainFault text faults.VersionWithoutOperator = NameThen IsVersionText text
-PlainFault text faults.Name = (IsNameText text → ⊥) × (NameThen IsVersionText text → ⊥)
-PlainFault text faults.Memory = Unit {0}
+PlainFault text faults.Name = (¬ IsNameText text) × (¬ NameThen IsVersionText text)
+PlainFault text faults.Memory = ⊤
 PlainFault text _ = ⊥
 
 -- the first fault of what is to be a name, a hyphen and a version: a name stands alone; or what it
@@ -41,10 +41,10 @@ PlainFault text _ = ⊥
 -- stands behind that hyphen
 abbrev pub NameVersionFault : List ℕ → AtomFault → Type 0
 NameVersionFault text faults.OperatorWithoutVersion = IsNameText text
-NameVersionFault text faults.Name = (IsNameText text → ⊥) × (NameThen BeginsNumber text → ⊥)
+NameVersionFault text faults.Name = (¬ IsNameText text) × (¬ NameThen BeginsNumber text)
 NameVersionFault text faults.Version =
-    (IsNameText text → ⊥) × NameThen BeginsNumber text × (NameThen IsReadableText text → ⊥)
-NameVersionFault text faults.Memory = Unit {0}
+    (¬ IsNameText text) × NameThen BeginsNumber text × (¬ NameThen IsReadableText text)
+NameVersionFault text faults.Memory = ⊤
 NameVersionFault text _ = ⊥
 
 -- a name and a version stand there, and an asterisk behind them, where none may
@@ -61,7 +61,7 @@ StarredFault may_star front star fault = NameVersionFault front fault
 -- the text without an asterisk at its end, and whether one stood there
 pub record IsUnstarred (text front : List ℕ) (star : Bool) : Type 0 where
   pub whole : text ≡ front ++ star_text star
-  pub none : star ≡ false → (f : List ℕ) → text ≡ f ++ (42 ∷ []) → ⊥
+  pub none : star ≡ false → (f : List ℕ) → ¬ (text ≡ f ++ (42 ∷ []))
 
 -- the first fault of what stands behind an operator
 pub record VersionedFault (may_star : Bool) (text : List ℕ) (fault : AtomFault) : Type 0 where
@@ -77,8 +77,8 @@ BodyFault Equal text fault = VersionedFault true text fault
 BodyFault _ text fault = VersionedFault false text fault
 
 abbrev pub SlotTextFault : List ℕ → AtomFault → Type 0
-SlotTextFault text faults.BadSlot = (s : SlotPart) → IsSlotForm s → text ≡ slot_text s → ⊥
-SlotTextFault text faults.Memory = Unit {0}
+SlotTextFault text faults.BadSlot = (s : SlotPart) → IsSlotForm s → ¬ (text ≡ slot_text s)
+SlotTextFault text faults.Memory = ⊤
 SlotTextFault text _ = ⊥
 
 -- what stands here, up to a comma, a closing bracket or the end, is no USE item
@@ -88,11 +88,11 @@ pub record BeginsNoItem (left : List ℕ) : Type 0 where
   pub whole : left ≡ item ++ behind
   pub lacks : Lacks 44 93 item
   pub ends : Starts 44 93 behind
-  pub none : (u : UseDep) → IsUseForm u → item ≡ use_text u → ⊥
+  pub none : (u : UseDep) → IsUseForm u → ¬ (item ≡ use_text u)
 
 -- nothing stands here, or a closing bracket with more behind it
 abbrev pub IsNoEnd : List ℕ → Type 0
-IsNoEnd [] = Unit {0}
+IsNoEnd [] = ⊤
 IsNoEnd (b ∷ []) = ⊥
 IsNoEnd (b ∷ c ∷ more) = b ≡ 93
 
@@ -112,22 +112,22 @@ pub record GoesWrong (uses left : List ℕ) : Type 0 where
 -- the fault of the USE item with which the text begins, at `at`
 abbrev pub ItemFault : ℕ → List ℕ → AtomFault → Type 0
 ItemFault at text (faults.BadUse k) = (k ≡ at) × BeginsNoItem text
-ItemFault at text faults.Memory = Unit {0}
+ItemFault at text faults.Memory = ⊤
 ItemFault at text _ = ⊥
 
 -- the fault of a USE part with which a text of `total` bytes ends
 abbrev pub EndFault : ℕ → List ℕ → AtomFault → Type 0
 EndFault total uses (faults.BadUse at) =
     (left : List ℕ) × (at ≡ total - length left) × GoesWrong uses left
-EndFault total uses faults.Memory = Unit {0}
+EndFault total uses faults.Memory = ⊤
 EndFault total uses _ = ⊥
 
 -- no USE part is so spelled, and it goes wrong `at` bytes behind the beginning of the whole text
 abbrev pub UsesTextFault : List ℕ → List ℕ → AtomFault → Type 0
 UsesTextFault text uses (faults.BadUse at) =
-    ((us : List UseDep) → AllByRecursion IsUseForm us → uses ≡ uses_text us → ⊥)
+    ((us : List UseDep) → AllByRecursion IsUseForm us → ¬ (uses ≡ uses_text us))
     × ((left : List ℕ) × (at + length left ≡ length text) × GoesWrong uses left)
-UsesTextFault text uses faults.Memory = Unit {0}
+UsesTextFault text uses faults.Memory = ⊤
 UsesTextFault text uses _ = ⊥
 
 -- an atom's text as it comes apart: the block and the operator that it begins with, what stands

@@ -1,5 +1,5 @@
 -- Which atoms some text writes.
-use Rattle.std.specs.Prelude.{◌≡◌, ℕ, Bool, false, List, Option, Some, None}
+use Rattle.std.specs.Prelude.{◌≡◌, ℕ, Bool, false, List, Option, Some, None, ⊤}
 use Rattle.version_text.specs.Grammar.{Parts}
 use Rattle.pms_version.specs.Limits.{IsReadable}
 use Rattle.pms_names.specs.Names.{IsName}
@@ -16,13 +16,13 @@ pub record IsNameForm (name : Name) : Type 0 where
   pub «package» : IsName kinds.Package name.«package»
 
 abbrev pub IsSubslotForm : Option (List ℕ) → Type 0
-IsSubslotForm None = Unit {0}
+IsSubslotForm None = ⊤
 IsSubslotForm (Some subslot) = IsName kinds.Slot subslot
 
 abbrev pub IsSlotForm : SlotPart → Type 0
-IsSlotForm Free = Unit {0}
-IsSlotForm Star = Unit {0}
-IsSlotForm Equals = Unit {0}
+IsSlotForm Free = ⊤
+IsSlotForm Star = ⊤
+IsSlotForm Equals = ⊤
 IsSlotForm (Given slot subslot equals) = IsName kinds.Slot slot × IsSubslotForm subslot
 
 abbrev pub IsUseForm : UseDep → Type 0

@@ -1,5 +1,5 @@
 -- A package of one version, as its category and its name with the version (PMS 3.2).
-use Rattle.std.specs.Prelude.{◌≡◌, ℕ, ◌+◌, ◌<◌, ◌⊎◌, List, ◌∷◌, ◌++◌, length, drop, slice_index}
+use Rattle.std.specs.Prelude.{◌≡◌, ℕ, ◌+◌, ◌<◌, ◌⊎◌, List, ◌∷◌, ◌++◌, length, drop, slice_index, ⊤}
 use Rattle.version_text.specs.Grammar.{IsVersionText, spelling}
 use Rattle.pms_version.specs.Limits.{IsReadable}
 use Rattle.pms_names.specs.Names.{IsName}
@@ -42,14 +42,14 @@ name_fault names.Memory = Memory
 
 -- neither a package's name alone nor one with a hyphen and a digit begins the text
 pub record HasNoPackage (bytes : List ℕ) : Type 0 where
-  pub not_alone : IsName Package bytes → ⊥
-  pub not_numbered : PackageThen BeginsNumber bytes → ⊥
+  pub not_alone : ¬ IsName Package bytes
+  pub not_numbered : ¬ PackageThen BeginsNumber bytes
 
 -- a package's name alone, or one with a hyphen and a digit, begins the text, but no version within
 -- the limits stands behind it
 pub record HasNoVersion (bytes : List ℕ) : Type 0 where
   pub named : IsName Package bytes ⊎ PackageThen BeginsNumber bytes
-  pub unversioned : PackageThen IsReadableText bytes → ⊥
+  pub unversioned : ¬ PackageThen IsReadableText bytes
 
 -- the first fault of a text that is to be a package's name with a version
 abbrev pub PackageFault : List ℕ → AtomFault → Type 0
@@ -59,7 +59,7 @@ PackageFault bytes _ = ⊥
 
 -- the first fault of a category and a name with a version, from left to right
 abbrev pub FirstIdFault : List ℕ → List ℕ → AtomFault → Type 0
-FirstIdFault category bytes Name = (IsName Category category → ⊥) ⊎ HasNoPackage bytes
+FirstIdFault category bytes Name = (¬ IsName Category category) ⊎ HasNoPackage bytes
 FirstIdFault category bytes Version = IsName Category category × HasNoVersion bytes
-FirstIdFault category bytes Memory = Unit {0}
+FirstIdFault category bytes Memory = ⊤
 FirstIdFault category bytes _ = ⊥

@@ -45,7 +45,7 @@ IsNameVersion text name version =
 
 -- the text begins with no category and slash
 abbrev pub HasNoCategory : List ℕ → Type 0
-HasNoCategory text = (category rest : List ℕ) → IsInCategory text category rest → ⊥
+HasNoCategory text = (category rest : List ℕ) → ¬ IsInCategory text category rest
 
 -- the text begins with a digit, as each version does
 abbrev pub BeginsNumber : List ℕ → Type 0

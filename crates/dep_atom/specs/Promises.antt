@@ -12,12 +12,12 @@ ReadsBack {A} Form spelled text result =
 
 -- something is found, and Found says what, just where it is there
 abbrev pub FindsWhere : {A : Type 0} → Type 0 → (A → Type 0) → Result (Option A) AllocError → Type 0
-FindsWhere IsThere Found result = IfOk result (λ r. MatchOption r (IsThere → ⊥) Found)
+FindsWhere IsThere Found result = IfOk result (λ r. MatchOption r (¬ IsThere) Found)
 
 -- but for want of memory there is one fault at most
 abbrev pub HasOneFault : (AtomFault → Type 0) → Type 0
 HasOneFault IsFault =
-    (a b : AtomFault) → IsFault a → IsFault b → (a ≡ Memory → ⊥) → (b ≡ Memory → ⊥) → a ≡ b
+    (a b : AtomFault) → IsFault a → IsFault b → (¬ (a ≡ Memory)) → (¬ (b ≡ Memory)) → a ≡ b
 
 -- but for want of memory there is none
 abbrev pub HasNoFault : (AtomFault → Type 0) → Type 0

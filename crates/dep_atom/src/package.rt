@@ -77,7 +77,7 @@ impl PackageId {
 
 // Why a text is no package's name and version.
 fn package_fault(text: &[u8]) -> AtomFault
-    requires { PackageThen IsReadableText text.now → ⊥ }
+    requires { ¬ PackageThen IsReadableText text.now }
     ensures { PackageFault text.now result }
 {
     if PackageName::is_one(text) || begins_package_number(text) {
@@ -89,7 +89,7 @@ fn package_fault(text: &[u8]) -> AtomFault
 
 /// The hyphen that parts a name and its version. No two hyphens of a text do.
 pub(crate) fn version_hyphen(bytes: &[u8]) -> Option<usize>
-    ensures { MatchOption result ((at : ℕ) → PartsAt bytes.now at → ⊥) (PartsAt bytes.now) }
+    ensures { MatchOption result ((at : ℕ) → ¬ PartsAt bytes.now at) (PartsAt bytes.now) }
 {
     for (at, b) in bytes.iter().enumerate() {
         if *b == b'-' {

@@ -84,7 +84,7 @@ pub(crate) fn split_before(text: &[u8], one: u8, other: u8) -> (&[u8], &[u8])
 
 /// What stands behind the byte, where the text begins with it.
 pub(crate) fn take_byte(text: &[u8], byte: u8) -> Option<&[u8]>
-    ensures { MatchOption result ((rest : List ℕ) → text.now ≡ byte ∷ rest → ⊥)
+    ensures { MatchOption result ((rest : List ℕ) → ¬ (text.now ≡ byte ∷ rest))
         (λ rest. text.now ≡ byte ∷ rest.now) }
 {
     if text.is_empty() || text[0] != byte {
@@ -97,7 +97,7 @@ pub(crate) fn take_byte(text: &[u8], byte: u8) -> Option<&[u8]>
 // The text without a byte at its end, and whether it stood there.
 fn take_end(text: &[u8], end: u8) -> (&[u8], bool)
     ensures parts { text.now ≡ result.0.now ++ end_text end result.1 }
-    ensures none { result.1 ≡ false → (front : List ℕ) → text.now ≡ front ++ (end ∷ []) → ⊥ }
+    ensures none { result.1 ≡ false → (front : List ℕ) → ¬ (text.now ≡ front ++ (end ∷ [])) }
 {
     if text.is_empty() {
         return (text, false);
@@ -165,7 +165,7 @@ fn read_versioned(alloc: Global, may_star: bool, text: &[u8]) -> Result<Package,
 
 // Why a text behind an operator is no name and version.
 fn versioned_fault(text: &[u8]) -> AtomFault
-    requires { NameThen IsReadableText text.now → ⊥ }
+    requires { ¬ NameThen IsReadableText text.now }
     ensures { NameVersionFault text.now result }
 {
     if is_name(text) {
@@ -392,7 +392,7 @@ fn take_kind(text: &[u8], has_equals: bool, has_question: bool) -> (UseKind, &[u
 
 // Reads `(+)`, `(-)` or nothing.
 fn read_otherwise(text: &[u8]) -> Option<Option<bool>>
-    ensures { MatchOption result ((o : Option Bool) → text.now ≡ otherwise_text o → ⊥)
+    ensures { MatchOption result ((o : Option Bool) → ¬ (text.now ≡ otherwise_text o))
         (λ o. text.now ≡ otherwise_text o) }
 {
     match text {

@@ -9,7 +9,3 @@ and_left false b h = h
 pub and_right : (a b : Bool) → (a && b) ≡ true → b ≡ true
 and_right true b h = h
 and_right false b h = absurd (cc)
-
-pub of_not : (b : Bool) → not b ≡ true → b ≡ false
-of_not true h = cc
-of_not false h = refl

@@ -2,13 +2,14 @@
 use Rattle.std.specs.Prelude.{not, nat_lt, max, if◌then◌else◌, ◌&&◌, Option, Some, None, Result, Ok, Err}
 use Rattle.std.proofs.Common.{◌≡◌, ℕ, ◌+◌, ◌<◌, ◌≤◌, Bool, true, false, List, [], ◌∷◌, ◌++◌, length, refl, ap, sym, ◌∙◌, arith, append_assoc, append-nil, subst}
 use Rattle.std.proofs.lemmas.Bool.Decides.{nat_tests}
-use Rattle.dep_group.proofs.Bools.{and_left, and_right, of_not}
+use Rattle.dep_group.proofs.Bools.{and_left, and_right}
 use Rattle.dep_group.specs.declared.token.Token.{Token}
 use Rattle.dep_group.specs.declared.token.Token.TheVariants.{Leaf, Begins, Opens, Closes, Glued, Unknown}
 use Rattle.dep_group.specs.declared.token.GroupFault.{GroupFault}
 use Rattle.dep_group.specs.declared.token.GroupFault.TheVariants as fault
 use Rattle.dep_group.specs.Trees.{Tree, Trees, leaf, group, no_trees, tree, trees_of, depth, all_depth, is_free, all_free}
 use Rattle.dep_group.specs.Reading.{opening, tokens, all_tokens, Opened, in_any_of, read, list_of, led_here}
+use Rattle.std.proofs.lemmas.Bool.{not-true}
 
 pub trees_of-list_of : {K L : Type 0} (ts : Trees K L) → trees_of (list_of ts) ≡ ts
 trees_of-list_of no_trees = refl
@@ -22,7 +23,7 @@ read-opening any_of barred (Some opener) rest at os done h = (at + 1, at + 1 + 1
 mutual
   pub read-tokens : {K L : Type 0} (any_of : K → Bool) (barred : L → Bool) (t : Tree K L) (rest : List (Token K L)) (at : ℕ) (os : List (Opened K L)) (done : List (Tree K L)) → length os + depth t ≤ 64 → is_free any_of barred (in_any_of any_of os) t ≡ true → (q : ℕ) × (read any_of barred (tokens t rest) at None os done ≡ read any_of barred rest q None os (done ++ t ∷ []))
   read-tokens any_of barred (leaf a) rest at os done low free =
-      (at + 1, ap (λ b. if b then Err (fault.Barred at) else read any_of barred rest (at + 1) None os (done ++ leaf a ∷ [])) (of_not (in_any_of any_of os && barred a) free))
+      (at + 1, ap (λ b. if b then Err (fault.Barred at) else read any_of barred rest (at + 1) None os (done ++ leaf a ∷ [])) (not-true (in_any_of any_of os && barred a) free))
   read-tokens any_of barred (group opener ts) rest at os done low free =
       let room : nat_lt (length os) 64 ≡ true = grind (arith, nat_tests) in
       let opened = read-opening any_of barred opener (all_tokens ts (Closes ∷ rest)) at os done room in

@@ -9,10 +9,12 @@ use Rattle.std.specs.Str.{IsUtf8, IsCharBoundary}
 use Rattle.std.proofs.lemmas.Str.{IsCharBoundary-start, IsCharBoundary-after_ascii}
 use Rattle.std.proofs.lemmas.Bool.Decides.{nat_tests}
 use Rattle.std.proofs.Math.Seq.{drop-cons}
-use Rattle.dep_group.proofs.Bools.{and_left, and_right, of_not}
-use Rattle.dep_group.specs.Words.{Spot, is_blank, begins_word, with_letter, words, is_word, word_between, place, spaced_after, spaced, texts, words_of}
+use Rattle.dep_group.proofs.Bools.{and_left, and_right}
+use Rattle.dep_group.specs.Words.{Spot, begins_word, with_letter, words, is_word, word_between, place, spaced_after, spaced, texts, words_of}
 use Rattle.dep_group.specs.Views.{spot}
 use Rattle.dep_group.specs.declared.word.Word.{Word}
+use Rattle.std.proofs.lemmas.Bool.{not-true}
+use Rattle.basics.specs.Blanks.{is_blank}
 
 is_word-first : (b : ℕ) (w : List ℕ) → is_word (b ∷ w) ≡ true → not (is_blank b) ≡ true
 is_word-first b [] h = h
@@ -23,7 +25,7 @@ pub words-blank : (at b : ℕ) (bs : List ℕ) → is_blank b ≡ true → words
 words-blank at b bs h = ap (λ r. if r then words (at + 1) bs else with_letter at b (begins_word bs) (words (at + 1) bs)) h
 
 words-letter : (at b : ℕ) (bs : List ℕ) → not (is_blank b) ≡ true → words at (b ∷ bs) ≡ with_letter at b (begins_word bs) (words (at + 1) bs)
-words-letter at b bs h = ap (λ r. if r then words (at + 1) bs else with_letter at b (begins_word bs) (words (at + 1) bs)) (of_not (is_blank b) h)
+words-letter at b bs h = ap (λ r. if r then words (at + 1) bs else with_letter at b (begins_word bs) (words (at + 1) bs)) (not-true (is_blank b) h)
 
 -- what begins with a word and a blank
 pub words-word_blank : (at b : ℕ) (w bs : List ℕ) → is_word w ≡ true → is_blank b ≡ true → words at (w ++ (b ∷ bs)) ≡ record { at = at; bytes = w } ∷ words (at + length w + 1) bs

@@ -22,7 +22,8 @@ abbrev mutual
   all_tokens no_trees rest = rest
   all_tokens (tree t ts) rest = tokens t (all_tokens ts rest)
 
--- a group that is open: its opener, the index of its parenthesis, and the trees before it in the group around it
+-- a group that is open: its opener, the index of its parenthesis, and the trees before it in the
+-- group around it
 pub record Opened (K L : Type 0) : Type 0 where
   pub opener : Option K
   pub at : ℕ
@@ -38,21 +39,29 @@ abbrev pub in_any_of : {K L : Type 0} → (K → Bool) → List (Opened K L) →
 in_any_of any_of os = list_any (λ o. opens_any any_of o.opener) os
 
 -- what the end of the tokens gives: the trees, if nothing is open
-abbrev pub finished : {K L : Type 0} → ℕ → Option K → List (Opened K L) → List (Tree K L) → Result (List (Tree K L)) GroupFault
+abbrev pub finished : {K L : Type 0} → ℕ → Option K → List (Opened K L) → List (Tree K L)
+    → Result (List (Tree K L)) GroupFault
 finished at (Some opener) os done = Err (fault.Leaf (at - 1))
 finished at None [] done = Ok done
 finished at None (o ∷ os) done = Err (fault.Open (outermost o.at os))
 
--- what the tokens give from index `at` on: the trees, or the first fault. `begun` is the opener right before,
--- `os` are the open groups with the innermost first, `done` are the trees in the innermost of them
-abbrev pub read : {K L : Type 0} → (K → Bool) → (L → Bool) → List (Token K L) → ℕ → Option K → List (Opened K L) → List (Tree K L) → Result (List (Tree K L)) GroupFault
+-- what the tokens give from index `at` on: the trees, or the first fault. `begun` is the opener
+-- right before, `os` are the open groups with the innermost first, `done` are the trees in the innermost of them
+abbrev pub read : {K L : Type 0} → (K → Bool) → (L → Bool) → List (Token K L) → ℕ → Option K
+    → List (Opened K L) → List (Tree K L) → Result (List (Tree K L)) GroupFault
 read any_of barred [] at begun os done = finished at begun os done
 read any_of barred (Opens ∷ ts) at begun os done =
-    if nat_lt (length os) 64 then read any_of barred ts (at + 1) None (record { opener = begun; at = at; before = done } ∷ os) [] else Err fault.Depth
-read any_of barred (Leaf a ∷ ts) at None os done = if in_any_of any_of os && barred a then Err (fault.Barred at) else read any_of barred ts (at + 1) None os (done ++ leaf a ∷ [])
-read any_of barred (Begins opener ∷ ts) at None os done = read any_of barred ts (at + 1) (Some opener) os done
+    if nat_lt (length os) 64
+    then read any_of barred ts (at + 1) None (record { opener = begun; at = at; before = done } ∷ os) []
+    else Err fault.Depth
+read any_of barred (Leaf a ∷ ts) at None os done =
+    if in_any_of any_of os && barred a then Err (fault.Barred at)
+    else read any_of barred ts (at + 1) None os (done ++ leaf a ∷ [])
+read any_of barred (Begins opener ∷ ts) at None os done =
+    read any_of barred ts (at + 1) (Some opener) os done
 read any_of barred (Closes ∷ ts) at None [] done = Err (fault.Close at)
-read any_of barred (Closes ∷ ts) at None (o ∷ os) done = read any_of barred ts (at + 1) None os (o.before ++ group o.opener (trees_of done) ∷ [])
+read any_of barred (Closes ∷ ts) at None (o ∷ os) done =
+    read any_of barred ts (at + 1) None os (o.before ++ group o.opener (trees_of done) ∷ [])
 read any_of barred (Glued ∷ ts) at None os done = Err (fault.NoSpace at)
 read any_of barred (Unknown ∷ ts) at None os done = Err (fault.Leaf at)
 read any_of barred (t ∷ ts) at (Some opener) os done = Err (fault.Leaf (at - 1))
@@ -62,7 +71,10 @@ abbrev pub list_of : {K L : Type 0} → Trees K L → List (Tree K L)
 list_of no_trees = []
 list_of (tree t ts) = t ∷ list_of ts
 
--- the tokens that have led to these open groups and to the trees in the innermost, with those that follow
-abbrev pub led_here : {K L : Type 0} → List (Opened K L) → List (Tree K L) → List (Token K L) → List (Token K L)
+-- the tokens that have led to these open groups and to the trees in the innermost, with those
+-- that follow
+abbrev pub led_here : {K L : Type 0} → List (Opened K L) → List (Tree K L) → List (Token K L)
+    → List (Token K L)
 led_here [] done rest = all_tokens (trees_of done) rest
-led_here (o ∷ os) done rest = led_here os o.before (opening o.opener (all_tokens (trees_of done) rest))
+led_here (o ∷ os) done rest =
+    led_here os o.before (opening o.opener (all_tokens (trees_of done) rest))

@@ -1,14 +1,11 @@
 -- The words of a text: what stands between blanks (PMS 8.2: white space parts the tokens).
-use Rattle.std.specs.Prelude.{ℕ, ◌+◌, Bool, true, false, not, ◌&&◌, if◌then◌else◌, ◌||◌, ◌==◌, List, [], ◌∷◌, ◌++◌, map, nat_lt, slice_index, slice_range}
+use Rattle.std.specs.Prelude.{ℕ, ◌+◌, Bool, true, false, not, ◌&&◌, if◌then◌else◌, List, [], ◌∷◌, ◌++◌, map, nat_lt, slice_index, slice_range}
+use Rattle.basics.specs.Blanks.{is_blank}
 
 -- a word, and the place of its first byte
 pub record Spot : Type 0 where
   pub at : ℕ
   pub bytes : List ℕ
-
--- a space, a tab, a newline or a carriage return
-abbrev pub is_blank : ℕ → Bool
-is_blank b = b == 32 || (b == 9 || (b == 10 || b == 13))
 
 -- a word begins right where the bytes do
 abbrev pub begins_word : List ℕ → Bool

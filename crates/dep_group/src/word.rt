@@ -1,8 +1,9 @@
 ghost use Rattle.std.specs.Prelude.{◌≡◌, ◌≤◌, ◌++◌, map, IfOk, OnOk};
 ghost use Rattle.std.specs.Str.{IsCharBoundary};
-ghost use Rattle.dep_group.specs.Words.{is_blank, place, word_between, words};
+ghost use Rattle.dep_group.specs.Words.{place, word_between, words};
 ghost use Rattle.dep_group.specs.Views.{spot};
 
+use basics::is_blank;
 use std::alloc::{AllocError, Global};
 
 /// A word of a text, and the place of its first byte there.
@@ -48,12 +49,6 @@ fn push_word<'a>(
         })?;
     }
     Ok(())
-}
-
-fn is_blank(b: u8) -> bool
-    ensures { result ≡ is_blank b }
-{
-    b == b' ' || b == b'\t' || b == b'\n' || b == b'\r'
 }
 
 /// The place of the word with this index, or 0 where there are not so many.

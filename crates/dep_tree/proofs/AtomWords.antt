@@ -24,15 +24,17 @@ use Rattle.dep_atom.specs.Cuts.{is_plain}
 use Rattle.dep_atom.specs.Form.{IsNameForm, IsSubslotForm, IsSlotForm, IsUseForm, IsVersionForm}
 use Rattle.dep_atom.specs.Text.{block_text, op_text, name_text, version_part, star_text, subslot_text, equals_text, slot_text, before_flag, after_flag, otherwise_text, use_text, further_use_text, uses_text, value_text}
 use Rattle.dep_atom.specs.Values.{AtomValue}
-use Rattle.dep_atom.proofs.Plain.{ArePlain, plain_name, plain_version}
+use Rattle.dep_atom.proofs.Plain.{ArePlain, plain_name, plain_version, plain_differs}
 use Rattle.dep_group.specs.declared.shape.Shape.TheVariants as shapes
 use Rattle.dep_group.specs.Shapes.{asks, condition, denies, has_parenthesis, is_parenthesis, question_mark, shape}
-use Rattle.dep_group.specs.Words.{is_blank, is_word}
-use Rattle.dep_group.proofs.Bools.{and_left, and_right, of_not}
+use Rattle.dep_group.specs.Words.{is_word}
+use Rattle.dep_group.proofs.Bools.{and_left, and_right}
 use Rattle.dep_group.proofs.FormLemmas.{IsWritten}
 use Rattle.dep_group.proofs.OnceLemmas.{OneMark}
 use Rattle.dep_group.specs.Tokens.{IsFlag}
 use Rattle.dep_tree.specs.Grammar.{blocks, grammar, is_block}
+use Rattle.std.proofs.lemmas.Bool.{not-true}
+use Rattle.basics.specs.Blanks.{is_blank}
 
 abbrev Are : (ℕ → Bool) → List ℕ → Type 0
 Are p bytes = AllByRecursion (λ b. p b ≡ true) bytes
@@ -51,17 +53,14 @@ is_outer b = is_letter b && (not (is_parenthesis b) && (not (b == 91) && not (b 
 abbrev is_inner : ℕ → Bool
 is_inner b = is_letter b && not (b == 93)
 
-differs : (b x : ℕ) → is_plain x ≡ false → is_plain b ≡ true → (b == x) ≡ false
-differs b x f t = grind (arith, nat_tests)
-
 outer_plain : (bytes : List ℕ) → ArePlain bytes → Are is_outer bytes
 outer_plain [] h = tt
 outer_plain (b ∷ bytes) h =
-    (rw (differs b 32 refl h.0, differs b 9 refl h.0, differs b 10 refl h.0, differs b 13 refl h.0, differs b 40 refl h.0, differs b 41 refl h.0, differs b 91 refl h.0, differs b 63 refl h.0) refl, outer_plain bytes h.1)
+    (rw (plain_differs b 32 refl h.0, plain_differs b 9 refl h.0, plain_differs b 10 refl h.0, plain_differs b 13 refl h.0, plain_differs b 40 refl h.0, plain_differs b 41 refl h.0, plain_differs b 91 refl h.0, plain_differs b 63 refl h.0) refl, outer_plain bytes h.1)
 
 inner_plain : (bytes : List ℕ) → ArePlain bytes → Are is_inner bytes
 inner_plain [] h = tt
-inner_plain (b ∷ bytes) h = (rw (differs b 32 refl h.0, differs b 9 refl h.0, differs b 10 refl h.0, differs b 13 refl h.0, differs b 93 refl h.0) refl, inner_plain bytes h.1)
+inner_plain (b ∷ bytes) h = (rw (plain_differs b 32 refl h.0, plain_differs b 9 refl h.0, plain_differs b 10 refl h.0, plain_differs b 13 refl h.0, plain_differs b 93 refl h.0) refl, inner_plain bytes h.1)
 
 block_outer : (b : Block) → Are is_outer (block_text b)
 block_outer No = tt
@@ -164,13 +163,13 @@ parted : (a : AtomValue) → value_text a ≡ front a ++ uses_text a.uses
 parted a = regroup (block_text a.block) (op_text a.op) (name_text a.name) (version_part a.version) (star_text a.star) (slot_text a.slot) (uses_text a.uses)
 
 outer_no_parenthesis : (b : ℕ) → is_outer b ≡ true → is_parenthesis b ≡ false
-outer_no_parenthesis b h = of_not (is_parenthesis b) (and_left _ _ (and_right _ _ h))
+outer_no_parenthesis b h = not-true (is_parenthesis b) (and_left _ _ (and_right _ _ h))
 
 outer_no_bracket : (b : ℕ) → is_outer b ≡ true → (b == 91) ≡ false
-outer_no_bracket b h = of_not (b == 91) (and_left _ _ (and_right _ _ (and_right _ _ h)))
+outer_no_bracket b h = not-true (b == 91) (and_left _ _ (and_right _ _ (and_right _ _ h)))
 
 outer_no_question : (b : ℕ) → is_outer b ≡ true → (b == 63) ≡ false
-outer_no_question b h = of_not (b == 63) (and_right (not (b == 91)) (not (b == 63)) (and_right (not (is_parenthesis b)) (not (b == 91) && not (b == 63)) (and_right (is_letter b) (not (is_parenthesis b) && (not (b == 91) && not (b == 63))) h)))
+outer_no_question b h = not-true (b == 63) (and_right (not (b == 91)) (not (b == 63)) (and_right (not (is_parenthesis b)) (not (b == 91) && not (b == 63)) (and_right (is_letter b) (not (is_parenthesis b) && (not (b == 91) && not (b == 63))) h)))
 
 outside : (xs ys : List ℕ) → Are is_outer xs → has_parenthesis false (xs ++ ys) ≡ has_parenthesis false ys
 outside [] ys h = refl
@@ -297,7 +296,7 @@ flag_outer flag h = outer_plain flag (plain_name kinds.Flag flag h)
 -- a flag does not begin with an exclamation mark
 flag_denies : (flag rest : List ℕ) → ArePlain flag → HasPlain flag → denies (flag ++ rest) ≡ false
 flag_denies [] rest h k = absurd (cc)
-flag_denies (b ∷ flag) rest h k = differs b 33 refl h.0
+flag_denies (b ∷ flag) rest h k = plain_differs b 33 refl h.0
 
 condition_shape : (flag : List ℕ) (on : Bool) → IsFlag flag → shape true (condition flag on) ≡ shapes.When on
 condition_shape flag true h =

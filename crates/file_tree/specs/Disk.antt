@@ -1,5 +1,5 @@
 -- A disk as a tree reads it, what a crash may leave of it, and the story of all its states.
-use Rattle.std.specs.Prelude.{◌≡◌, ◌↔◌, ◌⊎◌, ◌<◌, ◌≤◌, ◌+◌, ◌^◌, ℕ, Bool, true, false, cond, List, [], ◌∷◌, ◌++◌, Option, Some, None, bytes_eq, Contains, IsSome}
+use Rattle.std.specs.Prelude.{◌≡◌, ◌↔◌, ◌⊎◌, ◌<◌, ◌≤◌, ◌+◌, ◌^◌, ℕ, Bool, true, false, List, [], ◌∷◌, ◌++◌, Option, Some, None, bytes_eq, Contains, IsSome, if◌then◌else◌}
 use Rattle.file_tree.specs.Thing.{Thing}
 use Rattle.file_tree.specs.Paths.{is_below}
 use Rattle.file_tree.specs.declared.objects.Look.{Look}
@@ -16,12 +16,12 @@ pub record Disk : Type 0 where
 
 -- the map with one path holding something else
 abbrev pub with_path : Map → List ℕ → Option Thing → Map
-with_path m p x = λ q. cond (bytes_eq p q) x (m q)
+with_path m p x = λ q. if bytes_eq p q then x else m q
 
 -- one path is changed, and touched by that
 abbrev pub write : Disk → List ℕ → Option Thing → Disk
 write d p x =
-    record { holds = with_path d.holds p x; touched = λ q. cond (bytes_eq p q) true (d.touched q) }
+    record { holds = with_path d.holds p x; touched = λ q. if bytes_eq p q then true else d.touched q }
 
 -- a sync reached the disk
 abbrev pub settled : Disk → Disk
@@ -83,7 +83,7 @@ HasBelow m p = (q : List ℕ) × (is_below p q ≡ true) × IsSome (m q)
 
 -- what a look at a path answers
 abbrev pub Looks : Map → List ℕ → Look → Type 0
-Looks m p Nothing = (m p ≡ None) × (HasBelow m p → ⊥)
+Looks m p Nothing = (m p ≡ None) × (¬ HasBelow m p)
 Looks m p (Item kind) = (x : Thing) × (m p ≡ Some x) × (x.kind ≡ kind)
 Looks m p Folder = (m p ≡ None) × HasBelow m p
 

@@ -1,5 +1,5 @@
 -- The texts that are paths, and the first fault of a text that is none.
-use Rattle.std.specs.Prelude.{◌≡◌, ◌==◌, ◌<◌, ◌≤◌, ◌+◌, ◌-◌, ◌&&◌, ◌||◌, ℕ, zero, suc, Bool, true, false, not, nat_lt, nat_le, nat_eq, List, [], ◌∷◌, length, drop, slice_index, take_while, bytes_eq}
+use Rattle.std.specs.Prelude.{◌≡◌, ◌==◌, ◌<◌, ◌≤◌, ◌+◌, ◌-◌, ◌&&◌, ◌||◌, ℕ, zero, suc, Bool, true, false, not, nat_lt, nat_le, nat_eq, List, [], ◌∷◌, length, drop, slice_index, take_while, bytes_eq, ⊤}
 use Rattle.std.specs.List.{starts_with}
 use Rattle.file_tree.specs.declared.fault.PathFault.{PathFault}
 use Rattle.file_tree.specs.declared.fault.PathFault.TheVariants.{Empty, BadChar, BadPart, TooLong, Memory}
@@ -71,4 +71,4 @@ FirstFault bytes Empty = length bytes ≡ 0
 FirstFault bytes TooLong = most_bytes < length bytes
 FirstFault bytes (BadChar at) = IsGoodBefore bytes at × (bad_char_at bytes at ≡ true)
 FirstFault bytes (BadPart at) = IsGoodBefore bytes at × (bad_part_at bytes at ≡ true)
-FirstFault bytes Memory = Unit {0}
+FirstFault bytes Memory = ⊤

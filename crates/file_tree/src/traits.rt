@@ -61,7 +61,7 @@ pub trait Tree {
 
     /// Makes `to` hold what `from` holds, which stays there.
     fn place(&mut self, from: &Path, to: &Path) -> Result<(), Failed>
-        requires differ { from.now ≡ to.now → ⊥ }
+        requires differ { ¬ (from.now ≡ to.now) }
         requires there { IsTrue tells → IsSome ((story self.old).now.holds from.now) }
         ensures ok { IsTrue tells → OnOk result
             (story self.new ≡ with_write (story self.old) to.now

@@ -26,10 +26,10 @@ pub record IsAt (k : Keeping) (g : ℕ) (asked : Phase) : Type 0 where
 
 -- why a step that asks for one phase may not come now, where limit says that too much was brought
 abbrev pub IsRefusedAt : Keeping → ℕ → Phase → Type 0 → Refusal → Type 0
-IsRefusedAt k g asked limit refusals.OutOfRange = IsRunning k g → ⊥
+IsRefusedAt k g asked limit refusals.OutOfRange = ¬ IsRunning k g
 IsRefusedAt k g asked limit (refusals.WrongPhase has wanted) = IsRunning k g
     × ((standing_in k.standings g).phase ≡ phase_of has) × (wanted ≡ asked)
-    × (phase_of has ≡ phase_of asked → ⊥)
+    × (¬ (phase_of has ≡ phase_of asked))
 IsRefusedAt k g asked limit (refusals.NotDue left) = ⊥
 IsRefusedAt k g asked limit refusals.Limit = IsAt k g asked × limit
 IsRefusedAt k g asked limit refusals.Memory = IsAt k g asked
@@ -75,4 +75,4 @@ IsFull x = 2 ^ 32 ≤ length x.objects
 pub record IsApart (r : Roll) (g : ℕ) : Type 0 where
   pub free : are_free [] (footprint (group_at r g).content) ≡ true
   pub others : (h : ℕ) (q : List ℕ) → pure.is_live (phase_at r h) ≡ true →
-      covers (group_at r g) q ≡ true → covers (group_at r h) q ≡ true → ⊥
+      covers (group_at r g) q ≡ true → ¬ (covers (group_at r h) q ≡ true)

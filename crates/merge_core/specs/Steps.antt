@@ -1,6 +1,6 @@
 -- Steps that are told by their name alone: when each may come, and what it makes of its group.
-use Rattle.std.specs.Prelude.{◌≡◌, ◌==◌, ◌<◌, ◌+◌, ◌-◌, ◌++◌, ◌&&◌, ◌||◌, ℕ, suc, Bool, true, false}
-use Rattle.std.specs.Prelude.{not, cond}
+use Rattle.std.specs.Prelude.{◌≡◌, ◌==◌, ◌<◌, ◌+◌, ◌-◌, ◌++◌, ◌&&◌, ◌||◌, ℕ, suc, Bool, true, false, ⊤, if◌then◌else◌}
+use Rattle.std.specs.Prelude.{not}
 use Rattle.std.specs.Prelude.{length, List, [], ◌∷◌, slice_set}
 use Rattle.journal.specs.Group.{Group}
 use Rattle.merge_core.specs.declared.phase.Phase.{Phase}
@@ -71,7 +71,7 @@ IsDueFor steps.PlacePath x = x.placed < length x.placements
 IsDueFor steps.RemovePath x = x.removed < length x.removals
 IsDueFor steps.SyncPlaced x =
     (length x.placements ≡ x.placed) × (length x.removals ≡ x.removed)
-IsDueFor s x = Unit {0}
+IsDueFor s x = ⊤
 
 -- how many paths are still to be changed, where all of them have to be done
 abbrev pub left_for : Step → Standing → ℕ
@@ -111,7 +111,9 @@ moved s false n x = started s n x
 -- the count of syncs once the step's call was answered
 abbrev pub syncs_after : Keeping → ℕ → Step → Bool → ℕ
 syncs_after k g s ok =
-    cond (ok && (is_sync s && ((standing_in k.standings g).stamp == k.syncs))) (suc k.syncs) k.syncs
+    if ok && (is_sync s && ((standing_in k.standings g).stamp == k.syncs))
+    then suc k.syncs
+    else k.syncs
 
 -- the groups in the tree once the step's call was answered
 abbrev pub order_after : Keeping → ℕ → Step → Bool → List Group
@@ -139,13 +141,13 @@ pub record IsTaken (k : Keeping) (g : ℕ) (s : Step) : Type 0 where
 
 -- why it may not
 abbrev pub IsRefused : Keeping → ℕ → Step → Refusal → Type 0
-IsRefused k g s refusals.OutOfRange = CanCome k g s → ⊥
+IsRefused k g s refusals.OutOfRange = ¬ CanCome k g s
 IsRefused k g s (refusals.WrongPhase has asked) = CanCome k g s
     × ((standing_in k.standings g).phase ≡ phase_of has) × (asked ≡ wanted s)
-    × (IsPhaseFor s (phase_of has) → ⊥)
+    × (¬ IsPhaseFor s (phase_of has))
 IsRefused k g s (refusals.NotDue left) = CanCome k g s
     × IsPhaseFor s (standing_in k.standings g).phase
-    × (IsDueFor s (standing_in k.standings g) → ⊥)
+    × (¬ IsDueFor s (standing_in k.standings g))
     × (left ≡ left_for s (standing_in k.standings g))
 IsRefused k g s refusals.Limit = ⊥
 IsRefused k g s refusals.Memory = ⊥

@@ -113,7 +113,7 @@ impl Core {
 
     fn can_come(&self, group: u32, step: Step) -> bool
         ensures comes { IsTrue result → CanCome self.now group step }
-        ensures not { result ≡ false → CanCome self.now group step → ⊥ }
+        ensures not { result ≡ false → ¬ CanCome self.now group step }
     {
         (group as usize) < self.standings.len() && (!self.stopped || step.is_abandon())
     }

@@ -76,7 +76,7 @@ impl Standing {
 
     pub(crate) fn is_due(&self, step: Step) -> bool
         ensures due { IsTrue result → IsDueFor step self.now }
-        ensures not { result ≡ false → IsDueFor step self.now → ⊥ }
+        ensures not { result ≡ false → ¬ IsDueFor step self.now }
     {
         match step {
             Step::PlacePath => self.placed < self.placements.len(),

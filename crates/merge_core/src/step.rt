@@ -66,7 +66,7 @@ impl Step {
 
     pub(crate) fn takes(self, has: Phase) -> bool
         ensures takes { IsTrue result → IsPhaseFor self (phase_of has) }
-        ensures not { result ≡ false → IsPhaseFor self (phase_of has) → ⊥ }
+        ensures not { result ≡ false → ¬ IsPhaseFor self (phase_of has) }
     {
         match self {
             Step::Abandon => may_end(has),
@@ -87,7 +87,7 @@ fn may_end(phase: Phase) -> bool
 #[tactic(auto, using(crate::proofs::Coded::phases_same))]
 pub(crate) fn is_same(one: Phase, other: Phase) -> bool
     ensures same { IsTrue result → phase_of one ≡ phase_of other }
-    ensures not { result ≡ false → phase_of one ≡ phase_of other → ⊥ }
+    ensures not { result ≡ false → ¬ (phase_of one ≡ phase_of other) }
 {
     one == other
 }

@@ -63,7 +63,7 @@ are_free-words taken (p ∷ ps) h =
       apart = λ q has was. elim has [ inl e ↦ not_in taken q (ap (is_in taken) (sym e) ∙ one.1) was | inr k ↦ rest.apart q k (inr was) ];
     }
 
-false_if_absent : (taken : List (List ℕ)) (p : List ℕ) (b : Bool) → is_in taken p ≡ b → (Has taken p → ⊥) → is_in taken p ≡ false
+pub false_if_absent : (taken : List (List ℕ)) (p : List ℕ) (b : Bool) → is_in taken p ≡ b → (Has taken p → ⊥) → is_in taken p ≡ false
 false_if_absent taken p true e h = absurd (h (has_if_in taken p e))
 false_if_absent taken p false e h = e
 

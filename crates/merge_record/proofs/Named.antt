@@ -4,7 +4,7 @@ use Rattle.std.specs.Prelude.{codes, bytes_eq}
 use Rattle.std.specs.List.{AllByRecursion}
 use Rattle.std.proofs.Math.Nat.{mod-lt}
 use Rattle.std.proofs.Math.Seq.{drop-cons}
-use Rattle.std.proofs.lemmas.Bool.{eqb-true, lt-ltb, ltb-true}
+use Rattle.std.proofs.lemmas.Bool.{eqb-true, lt-ltb, ltb-true, ne_eqb}
 use Rattle.std.proofs.lemmas.List.Sums.{take_while-cons}
 use Rattle.std.proofs.lemmas.Slice.Eq.{bytes_eq-Decides}
 use Rattle.std.proofs.lemmas.List.{append-nil, length-append}
@@ -17,6 +17,7 @@ use Rattle.merge_record.proofs.Naming.{length-digits, length-folder}
 use Rattle.merge_record.proofs.Numbers.{IsBytes-number_text}
 use Rattle.merge_record.proofs.Steps.{IsBytes, IsBytes-rest}
 use Rattle.merge_record.proofs.Whole.{and_true}
+use Rattle.basics.proofs.Texts.{bytes_eq-apart}
 
 -- bytes above the full stop, with something between two slashes and behind the last; `fresh` where a part begins
 abbrev pub is_good : Bool → List ℕ → Bool
@@ -39,26 +40,12 @@ good_cons fresh b bs h =
     let d = and_true (not (fresh && eqb b 47)) (is_good (eqb b 47) bs) a.1 in
     record { high = ltb-true 46 b a.0; part = not_and fresh (eqb b 47) d.0; rest = d.1 }
 
-apart : (a b : ℕ) → (a ≡ b → ⊥) → eqb a b ≡ false
-apart a b h = go (eqb a b) refl
-  where
-    go : (t : Bool) → eqb a b ≡ t → eqb a b ≡ false
-    go true e = absurd (h (eqb-true a b e))
-    go false e = e
-
-lists_apart : (xs ys : List ℕ) → (xs ≡ ys → ⊥) → bytes_eq xs ys ≡ false
-lists_apart xs ys h = go (bytes_eq xs ys) refl
-  where
-    go : (t : Bool) → bytes_eq xs ys ≡ t → bytes_eq xs ys ≡ false
-    go true e = absurd (h ((bytes_eq-Decides xs ys).0 e))
-    go false e = e
-
 -- lists whose first bytes lie on both sides of a bound
 heads_apart : (xs ys : List ℕ) → get_or xs 0 0 ≤ 46 → 46 < get_or ys 0 0 → bytes_eq xs ys ≡ false
-heads_apart xs ys le lt = lists_apart xs ys (λ e. let same : get_or xs 0 0 ≡ get_or ys 0 0 = ap (λ (t : List ℕ). get_or t 0 0) e in omega arith)
+heads_apart xs ys le lt = bytes_eq-apart xs ys (λ e. let same : get_or xs 0 0 ≡ get_or ys 0 0 = ap (λ (t : List ℕ). get_or t 0 0) e in omega arith)
 
 heads_apart_back : (xs ys : List ℕ) → 46 < get_or xs 0 0 → get_or ys 0 0 ≤ 46 → bytes_eq xs ys ≡ false
-heads_apart_back xs ys lt le = lists_apart xs ys (λ e. let same : get_or xs 0 0 ≡ get_or ys 0 0 = ap (λ (t : List ℕ). get_or t 0 0) e in omega arith)
+heads_apart_back xs ys lt le = bytes_eq-apart xs ys (λ e. let same : get_or xs 0 0 ≡ get_or ys 0 0 = ap (λ (t : List ℕ). get_or t 0 0) e in omega arith)
 
 neither : (a b d : Bool) → a ≡ false → b ≡ false → d ≡ false → (a || (b || d)) ≡ false
 neither a b d p q r = rw (p, q, r) refl
@@ -99,7 +86,7 @@ good_at bytes h (suc k) le =
     let before = good_at bytes h k (omega arith) in
     let here : drop k bytes ≡ get_or bytes k 0 ∷ drop (suc k) bytes = drop-cons bytes k 0 (omega arith) in
     let g = good_cons (part_begins bytes k) (get_or bytes k 0) (drop (suc k) bytes) (ap (is_good (part_begins bytes k)) (sym here) ∙ before) in
-    let begins : part_begins bytes (suc k) ≡ eqb (get_or bytes k 0) 47 = rw (sub_one k, apart (suc k) 0 (λ e. omega arith)) refl in
+    let begins : part_begins bytes (suc k) ≡ eqb (get_or bytes k 0) 47 = rw (sub_one k, ne_eqb (suc k) 0 (λ e. omega arith)) refl in
     ap (λ (b : Bool). is_good b (drop (suc k) bytes)) begins ∙ g.rest
   where
     sub_one : (n : ℕ) → suc n - 1 ≡ n
@@ -139,7 +126,7 @@ high_digits n = high_hex (number_text 4 n) (IsBytes-number_text 4 n)
 high_good : (fresh : Bool) (b : ℕ) (bs : List ℕ) → IsHigh b → is_good fresh (b ∷ bs) ≡ is_good false bs
 high_good fresh b bs h =
     let high : ltb 46 b ≡ true = lt-ltb 46 b (omega arith) in
-    let part : eqb b 47 ≡ false = apart b 47 (λ e. omega arith) in
+    let part : eqb b 47 ≡ false = ne_eqb b 47 (λ e. omega arith) in
     rw (high, part) (go fresh)
   where
     go : (f : Bool) → not (f && false) && is_good false bs ≡ is_good false bs

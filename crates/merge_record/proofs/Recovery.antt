@@ -13,7 +13,7 @@ use Rattle.merge_record.specs.Names.{jobs, stage_path}
 use Rattle.merge_record.specs.Open.{open_groups}
 use Rattle.merge_record.specs.Recovered.{IsRecovered, placed_at, rebuilt, recovered_by, remade}
 use Rattle.merge_record.specs.declared.record.Placement.{Placement}
-use Rattle.merge_record.proofs.Form.{AreFree, bind_ok, has_if_in, in_if_has, judged_words, shift}
+use Rattle.merge_record.proofs.Form.{AreFree, bind_ok, has_if_in, in_if_has, judged_words, shift, false_if_absent}
 use Rattle.merge_record.proofs.Verdicts.{ok_all}
 
 -- ---- records whose paths are apart
@@ -91,13 +91,9 @@ distinct_parts (x ∷ xs) ys h =
     let rest = distinct_parts xs ys h.1 in
     (λ q has mine. elim has [ inl e ↦ h.0 (has-append_right xs ys x (subst (λ (z : List ℕ). Has ys z) (sym e) mine)) | inr k ↦ rest.0 q k mine ], rest.1)
 
-absent : (paths : List (List ℕ)) (q : List ℕ) (b : Bool) → is_in paths q ≡ b → (Has paths q → ⊥) → is_in paths q ≡ false
-absent paths q true e h = absurd (h (has_if_in paths q e))
-absent paths q false e h = e
-
 remade_other : (c : Map) (r : Content) (q : List ℕ) (x : Option Thing) → (Has (footprint r) q → ⊥) → remade c r q x ≡ x
 remade_other c r q x h =
-    let no = absent r.removals q (is_in r.removals q) refl (λ k. h (has-append_left r.removals (map path_of r.placements) q k)) in
+    let no = false_if_absent r.removals q (is_in r.removals q) refl (λ k. h (has-append_left r.removals (map path_of r.placements) q k)) in
     ap (λ (b : Bool). placed_at c r.group 0 r.placements q (cond b None x)) no ∙ placed_other c r.group 0 r.placements q x (λ k. h (has-append_right r.removals (map path_of r.placements) q k))
 
 remade_removed : (c : Map) (r : Content) (q : List ℕ) (x : Option Thing) → AreDistinct (footprint r) → Has r.removals q → remade c r q x ≡ None

@@ -80,7 +80,3 @@ and_left false b p = refl
 pub and_right : (a b : Bool) → b ≡ false → a && b ≡ false
 and_right true b p = p
 and_right false b p = refl
-
-pub false_unless : (b : Bool) → (b ≡ true → ⊥) → b ≡ false
-false_unless true h = absurd (h refl)
-false_unless false h = refl

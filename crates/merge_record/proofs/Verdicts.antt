@@ -2,8 +2,8 @@
 use Rattle.std.proofs.Common.{◌≡◌, ◌<◌, ◌≤◌, ◌+◌, ℕ, suc, Bool, true, false, cond, List, [], ◌∷◌, ◌++◌, eqb, ◌&&◌, append_assoc, eq-eqb, length, map, get_or, drop, Result, Ok, Err, refl, sym, ap, subst, ◌∙◌, add-one}
 use Rattle.std.proofs.Math.Seq.{drop-cons}
 use Rattle.std.specs.Bool.{OnTrue}
-use Rattle.std.proofs.lemmas.Bool.{eqb-true}
-use Rattle.std.proofs.lemmas.List.{drop_all, append-nil}
+use Rattle.std.proofs.lemmas.Bool.{eqb-true, ne_eqb}
+use Rattle.std.proofs.lemmas.List.{drop_all, append-nil, drop_more}
 use Rattle.file_tree.specs.Disk.{Map, Story}
 use Rattle.merge_record.specs.Content.{Content}
 use Rattle.merge_record.proofs.Free.{are_free-same, both_walks, first_stops, has_same-append, has_same-swap, on_true, second_decides}
@@ -50,16 +50,9 @@ stages_end c g i ps le = ap (stages_judged c g i) (drop_all i ps le)
 
 -- ---- the paths
 
-not_same : (a b : ℕ) → (a ≡ b → ⊥) → eqb a b ≡ false
-not_same a b h = go (eqb a b) refl
-  where
-    go : (t : Bool) → eqb a b ≡ t → eqb a b ≡ false
-    go true e = absurd (h (eqb-true a b e))
-    go false e = e
-
 pub number_stops : (taken : List (List ℕ)) (g : ℕ) (r : Content) → (r.group ≡ g → ⊥) → paths_judged taken g r ≡ Err (faults.BadRecord g)
 unfolding paths_judged
-number_stops taken g r h = rw (not_same r.group g h) refl
+number_stops taken g r h = rw (ne_eqb r.group g h) refl
 
 pub paths_stop : (taken : List (List ℕ)) (g : ℕ) (r : Content) → are_free taken (footprint r) ≡ false → paths_judged taken g r ≡ Err (faults.BadRecord g)
 unfolding paths_judged
@@ -153,9 +146,6 @@ judged_all-same c a b [] h = refl
 judged_all-same c a b (g ∷ gs) h =
     rw (judged-same c a b g h) (all_bind-same c a b gs (judged c b g) (λ r. judged_all-same c (a ++ footprint r) (b ++ footprint r) gs (has_same-append a b (footprint r) h)))
 
-next_group : (gs : List ℕ) (i : ℕ) → i < length gs → drop i gs ≡ get_or gs i 0 ∷ drop (i + 1) gs
-next_group gs i lt = rw add-one (drop-cons gs i 0 lt)
-
 regroup : (front : List Content) (r : Content) (read : Result (List Content) JudgeFault) → with_front front (read >>= λ rs. Ok (r ∷ rs)) ≡ with_front (front ++ r ∷ []) read
 regroup front r (Ok rs) = ap (λ (xs : List Content). ok_all xs) (sym (append_assoc front (r ∷ []) rs))
 regroup front r (Err e) = refl
@@ -169,7 +159,7 @@ all_err s t taken gs i front e total same lt h so_far =
     let here : Misses e (judged c taken g) = subst (λ (x : Story). Misses e (judged x.now.holds taken g)) same h in
     let next = λ (r : Content). judged_all c (taken ++ footprint r) (drop (i + 1) gs) >>= λ rs. ok_all (r ∷ rs) in
     let both = misses_bind e (judged c taken g >>= next) (λ rs. ok_all (front ++ rs)) (misses_bind e (judged c taken g) next here) in
-    subst (λ (v : Result (List Content) JudgeFault). Misses e v) (ap (λ (xs : List ℕ). with_front front (judged_all c taken xs)) (sym (next_group gs i lt)) ∙ so_far) both
+    subst (λ (v : Result (List Content) JudgeFault). Misses e v) (ap (λ (xs : List ℕ). with_front front (judged_all c taken xs)) (sym (drop_more gs i 0 lt)) ∙ so_far) both
 
 pub all_on : (s t : Story) (taken new : List (List ℕ)) (gs : List ℕ) (i : ℕ) (front : List Content) (r : Content) (total : Result (List Content) JudgeFault) → t ≡ s → i < length gs → judged t.now.holds taken (get_or gs i 0) ≡ Ok r
     → HasSame new (footprint r ++ taken) → with_front front (judged_all s.now.holds taken (drop i gs)) ≡ total → with_front (front ++ r ∷ []) (judged_all s.now.holds new (drop (i + 1) gs)) ≡ total
@@ -182,7 +172,7 @@ all_on s t taken new gs i front r total same lt h more so_far =
     let step : judged_all c taken (get_or gs i 0 ∷ rest) ≡ (judged_all c new rest >>= λ rs. ok_all (r ∷ rs)) =
     bind_is (judged c taken (get_or gs i 0)) r (λ x. judged_all c (taken ++ footprint x) rest >>= λ rs. ok_all (x ∷ rs)) here
     ∙ ap (λ (v : Result (List Content) JudgeFault). v >>= λ rs. ok_all (r ∷ rs)) (sym (judged_all-same c new (taken ++ footprint r) rest members)) in
-    sym (regroup front r (judged_all c new rest)) ∙ ap (λ (v : Result (List Content) JudgeFault). with_front front v) (sym step) ∙ ap (λ (xs : List ℕ). with_front front (judged_all c taken xs)) (sym (next_group gs i lt)) ∙ so_far
+    sym (regroup front r (judged_all c new rest)) ∙ ap (λ (v : Result (List Content) JudgeFault). with_front front v) (sym step) ∙ ap (λ (xs : List ℕ). with_front front (judged_all c taken xs)) (sym (drop_more gs i 0 lt)) ∙ so_far
 
 pub all_end : (c : Map) (taken : List (List ℕ)) (gs : List ℕ) (i : ℕ) (front : List Content) (total : Result (List Content) JudgeFault) → length gs ≤ i → with_front front (judged_all c taken (drop i gs)) ≡ total → total ≡ Ok front
 unfolding judged_all

@@ -1,5 +1,5 @@
 -- When the open groups of an image are in form, and the first that isn't.
-use Rattle.std.specs.Prelude.{◌≡◌, ◌==◌, ◌&&◌, ◌||◌, ◌++◌, ℕ, suc, Bool, true, false, not, length, map, List, [], ◌∷◌, Option, Some, None, Result, Ok, Err, bytes_eq, slice_get, if◌then◌else◌}
+use Rattle.std.specs.Prelude.{◌≡◌, ◌==◌, ◌&&◌, ◌||◌, ◌++◌, ℕ, suc, Bool, true, false, not, length, map, List, [], ◌∷◌, Option, Some, None, Result, Ok, Err, bytes_eq, slice_get, if◌then◌else◌, ⊤}
 use Rattle.std.specs.List.{list_any}
 use Rattle.basics.specs.Members.{AreDistinct, Has}
 use Rattle.file_tree.specs.Disk.{Map}
@@ -69,12 +69,12 @@ record_read g (Ok r) = Ok r
 record_read g (Err e) = Err (faults.BadRecord g)
 
 -- the record is the group's, and its paths are free
-unfoldable pub paths_judged : List (List ℕ) → ℕ → Content → Result (Unit {0}) JudgeFault
+unfoldable pub paths_judged : List (List ℕ) → ℕ → Content → Result ⊤ JudgeFault
 paths_judged taken g r =
     if (r.group == g) && are_free taken (footprint r) then Ok tt else Err (faults.BadRecord g)
 
 -- the stages of placements from an index on, or the first that isn't as recorded
-unfoldable pub stages_judged : Map → ℕ → ℕ → List Placement → Result (Unit {0}) JudgeFault
+unfoldable pub stages_judged : Map → ℕ → ℕ → List Placement → Result ⊤ JudgeFault
 stages_judged c g i [] = Ok tt
 stages_judged c g i (p ∷ ps) = if is_staged (c (stage_path g i)) p then stages_judged c g
     (suc i) ps else Err (faults.BadStage g i)
@@ -102,8 +102,8 @@ judged_open c = judged_all c [] (open_groups c)
 
 -- what a call answered, seen by view, is the verdict, unless the device failed or memory ran out
 abbrev pub Misses : {Y : Type 0} → JudgeFault → Result Y JudgeFault → Type 0
-Misses faults.Failed verdict = Unit {0}
-Misses faults.Memory verdict = Unit {0}
+Misses faults.Failed verdict = ⊤
+Misses faults.Memory verdict = ⊤
 Misses (faults.BadRecord g) verdict = verdict ≡ Err (faults.BadRecord g)
 Misses (faults.BadStage g i) verdict = verdict ≡ Err (faults.BadStage g i)
 
@@ -131,6 +131,6 @@ pub record IsInForm (c : Map) (taken : List (List ℕ)) (g : ℕ) (r : Content) 
   pub number : r.group ≡ g
   pub distinct : AreDistinct (footprint r)
   pub outside : (q : List ℕ) → Has (footprint r) q → meets_jobs q ≡ false
-  pub free : (q : List ℕ) → Has (footprint r) q → Has taken q → ⊥
+  pub free : (q : List ℕ) → Has (footprint r) q → ¬ Has taken q
   pub stages : (i : ℕ) (p : Placement) → slice_get r.placements i ≡ Some p →
       IsStaged (c (stage_path g i)) p

@@ -1,5 +1,5 @@
 -- The paths of the journal. The files of a group stand in a folder of its own.
-use Rattle.std.specs.Prelude.{◌<◌, ◌^◌, ℕ, List, ◌∷◌, ◌++◌, codes}
+use Rattle.std.specs.Prelude.{◌<◌, ◌^◌, ℕ, List, ◌∷◌, ◌++◌, codes, ⊤}
 use Rattle.hex.specs.Hex.{encode_lower}
 use Rattle.merge_record.specs.Spelling.{number_text}
 
@@ -28,7 +28,7 @@ part_name (Stage index) = codes "stage/" ++ digits index
 -- a stage has an index that eight digits tell
 abbrev pub IsPart : Part → Type 0
 IsPart (Stage index) = index < 2 ^ 32
-IsPart part = Unit {0}
+IsPart part = ⊤
 
 unfoldable pub folder : ℕ → List ℕ
 folder group = jobs ++ 47 ∷ digits group

@@ -1,6 +1,6 @@
 -- Reading from left to right, with the first fault that is met. A place is what the whole has
 -- before the rest.
-use Rattle.std.specs.Prelude.{◌≡◌, ◌==◌, ◌+◌, ◌-◌, ◌&&◌, ℕ, zero, suc, List, [], ◌∷◌, length, take, drop, nat_lt, Result, Ok, Err, if◌then◌else◌}
+use Rattle.std.specs.Prelude.{◌≡◌, ◌==◌, ◌+◌, ◌-◌, ◌&&◌, ℕ, zero, suc, List, [], ◌∷◌, length, take, drop, nat_lt, Result, Ok, Err, if◌then◌else◌, ⊤}
 use Rattle.std.specs.Str.{is_utf8}
 use Rattle.byteorder.specs.Endian.{big_number}
 use Rattle.file_tree.specs.Paths.{is_path}
@@ -21,7 +21,7 @@ abbrev pub ◌>>=◌ : {A B : Type 0} → Result A RecordFault → (A → Result
 
 -- what a function returned, seen by view, is what reading gives, unless memory ran out
 abbrev pub Fails : {Y : Type 0} → RecordFault → Result Y RecordFault → Type 0
-Fails faults.Memory read = Unit {0}
+Fails faults.Memory read = ⊤
 Fails faults.Short read = read ≡ Err faults.Short
 Fails (faults.Tag at) read = read ≡ Err (faults.Tag at)
 Fails (faults.Path at) read = read ≡ Err (faults.Path at)

@@ -21,7 +21,7 @@ use std::alloc::{AllocError, Global};
 #[tactic(auto, unfolding(crate::specs::Judging::record_read))]
 fn record_from(alloc: Global, group: u32, bytes: &[u8]) -> Result<Record, JudgeFault>
     ensures answer { Agrees (λ r. r) result (record_read group (record_of bytes.now)) }
-    ensures device { IsErrOf result JudgeFault.Failed → ⊥ }
+    ensures device { ¬ IsErrOf result JudgeFault.Failed }
     ensures few { IfOk result (λ r. length r.placements < 2 ^ 32) }
 {
     match decode(alloc, bytes) {
@@ -109,7 +109,7 @@ fn take_footprint(
     taken: &mut TakenPaths,
 ) -> Result<(), JudgeFault>
     ensures answer { Agrees (λ _. tt) result (paths_judged taken.old group value.now) }
-    ensures device { IsErrOf result JudgeFault.Failed → ⊥ }
+    ensures device { ¬ IsErrOf result JudgeFault.Failed }
     ensures taken { OnOk result (HasSame taken.new (footprint value.now ++ taken.old)) }
 {
     if value.group != group {

@@ -82,7 +82,7 @@ fn number_in(text: &[u8]) -> Option<u32>
 /// The group whose gate the path is, if it is one.
 pub fn group_of_gate(alloc: Global, path: &Path) -> Result<Option<u32>, AllocError>
     ensures { IfOk result (λ found.
-        MatchOption found ((g : ℕ) → g < 2 ^ 32 → path.now ≡ gate_path g → ⊥)
+        MatchOption found ((g : ℕ) → g < 2 ^ 32 → ¬ (path.now ≡ gate_path g))
         (λ g. (g < 2 ^ 32) × (path.now ≡ gate_path g))) }
 {
     let text = path.text().as_bytes();

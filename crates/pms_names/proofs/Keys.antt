@@ -10,19 +10,14 @@ use Rattle.std.specs.declared.cmp.Ordering.{Ordering}
 use Rattle.std.specs.declared.cmp.Ordering.TheVariants.{Less, Equal, Greater}
 use Rattle.std.proofs.lemmas.Cmp.{nat_list_eq_equiv}
 use Rattle.pms_names.specs.Flags.{has, byte_order, IsRising}
-
--- a flag's order is that of its text alone
-then_equal : (o : Ordering) → ordering_then o Equal ≡ o
-then_equal Less = refl
-then_equal Equal = refl
-then_equal Greater = refl
+use Rattle.basics.proofs.Texts.{then-Equal}
 
 -- the order of flags, as it comes from their parts
 abbrev pub flag_order : List ℕ → List ℕ → Ordering
 flag_order x y = ordering_then (byte_order x y) Equal
 
 tied : (x y : List ℕ) → is_at (flag_order x) y ≡ bytes_eq x y
-tied x y = ap is_eq (then_equal (byte_order x y)) ∙ sym (texts_ties x y)
+tied x y = ap is_eq (then-Equal (byte_order x y)) ∙ sym (texts_ties x y)
 
 pub contains_has : (keys : List (List ℕ)) (flag : List ℕ) → list_any (is_at (flag_order flag)) keys ≡ has keys flag
 contains_has [] flag = refl

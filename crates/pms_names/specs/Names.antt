@@ -1,5 +1,5 @@
 -- Which texts are names of a kind, and which fault of any other text comes first (PMS 3.1).
-use Rattle.std.specs.Prelude.{◌≡◌, ℕ, ◌+◌, ◌<◌, ◌≤◌, true, false, List, length, drop, slice_index}
+use Rattle.std.specs.Prelude.{◌≡◌, ℕ, ◌+◌, ◌<◌, ◌≤◌, true, false, List, length, drop, slice_index, ⊤}
 use Rattle.pms_names.specs.declared.limits.TheConstants.{MOST_BYTES}
 use Rattle.pms_names.specs.declared.kind.Kind.{Kind}
 use Rattle.pms_names.specs.declared.kind.Kind.TheVariants.{Category, Package, Slot, Flag}
@@ -38,7 +38,7 @@ EndsBadly Flag bytes = ⊥
 -- the text is a name of the kind
 pub record IsName (kind : Kind) (bytes : List ℕ) : Type 0 where
   pub spelled : IsSpelled kind bytes
-  pub ends : EndsBadly kind bytes → ⊥
+  pub ends : ¬ EndsBadly kind bytes
 
 -- the first byte that no name of the kind contains stands at `at`
 pub record IsFirstBadByte (kind : Kind) (bytes : List ℕ) (at : ℕ) : Type 0 where
@@ -55,4 +55,4 @@ FirstFault kind bytes BadStart =
 FirstFault kind bytes (BadChar at) = HasNameLength bytes ×
     (begins_badly kind (slice_index bytes 0) ≡ false) × IsFirstBadByte kind bytes at
 FirstFault kind bytes EndsLikeVersion = IsSpelled kind bytes × EndsBadly kind bytes
-FirstFault kind bytes Memory = Unit {0}
+FirstFault kind bytes Memory = ⊤

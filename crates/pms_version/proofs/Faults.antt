@@ -12,6 +12,7 @@ use Rattle.pms_version.specs.Limits.{digit_count, HasShortNumbers, IsReadable}
 use Rattle.pms_version.specs.Reading.{IsShortBefore, FirstFault}
 use Rattle.pms_version.specs.declared.fault.VersionFault.{VersionFault}
 use Rattle.pms_version.specs.declared.fault.VersionFault.TheVariants.{Empty, BadChar, TooManyDigits, TooLong, Memory}
+use Rattle.pms_version.proofs.Steps.{contrary}
 
 pub version_begins_so : (n : ℕ) (bytes : List ℕ) → IsVersionText bytes → BeginsVersion (take n bytes)
 version_begins_so n bytes text = (drop n bytes, subst IsVersionText (sym (take-append-drop n bytes)) text)
@@ -27,9 +28,6 @@ begins_before_stop n at bytes h stop = begins_within bytes n at h stop.begins
 
 pub not_zero : (bytes : List ℕ) → (length bytes == 0) ≡ false → 0 < length bytes
 not_zero bytes h = let ne : length bytes ≡ 0 → ⊥ = eqb-false (length bytes) 0 h in omega arith
-
-contrary : (t : Bool) → t ≡ true → t ≡ false → ⊥
-contrary t h k = cc
 
 pub row-more : (bytes : List ℕ) (start at : ℕ) → ((k : ℕ) → start ≤ k → k < at → is_digit (get_or bytes k 0) ≡ true) → is_digit (get_or bytes at 0) ≡ true → (k : ℕ) → start ≤ k → k < at + 1 → is_digit (get_or bytes k 0) ≡ true
 row-more bytes start at before here k l h = elim (cases_lt k at) [

@@ -16,11 +16,7 @@ use Rattle.version_text.specs.Grammar.{IsInteger, SuffixKind, SuffixText, Parts,
 use Rattle.version_text.specs.Grammar.SuffixKind.{Alpha, Beta, Pre, Rc, P}
 use Rattle.pms_version.specs.Order.{is_empty, decimal, integer_cmp, trim_zeros, later_number_cmp, rank, suffixes_cmp, version_cmp}
 use Rattle.pms_version.specs.Keys.{later_key, suffix_key, key_cmp}
-
-pub then-Equal : (o : Ordering) → ordering_then o Equal ≡ o
-then-Equal Less = refl
-then-Equal Equal = refl
-then-Equal Greater = refl
+use Rattle.basics.proofs.Texts.{then-Equal, nat_cmp-greater}
 
 then-then : (a b c : Ordering) → ordering_then (ordering_then a b) c ≡ ordering_then a (ordering_then b c)
 then-then Less b c = refl
@@ -30,9 +26,6 @@ then-then Greater b c = refl
 nat_less : (a b : ℕ) → a < b → nat_cmp a b ≡ Less
 nat_less a b h = grind (arith, nat_tests)
 
-nat_greater : (a b : ℕ) → b < a → nat_cmp a b ≡ Greater
-nat_greater a b h = grind (arith, nat_tests)
-
 -- what begins with a zero stands below what does not
 zero_below : (trimmed : Bool) (xs : List ℕ) (y : ℕ) (ys : List ℕ) → 48 < y → slice_cmp nat_cmp (if trimmed then [] else 48 ∷ xs) (y ∷ ys) ≡ Less
 zero_below true xs y ys h = refl
@@ -40,7 +33,7 @@ zero_below false xs y ys h = ap (λ o. ordering_then o (slice_cmp nat_cmp xs ys)
 
 zero_above : (trimmed : Bool) (xs : List ℕ) (x : ℕ) (ys : List ℕ) → 48 < x → slice_cmp nat_cmp (x ∷ xs) (if trimmed then [] else 48 ∷ ys) ≡ Greater
 zero_above true xs x ys h = refl
-zero_above false xs x ys h = ap (λ o. ordering_then o (slice_cmp nat_cmp xs ys)) (nat_greater x 48 h)
+zero_above false xs x ys h = ap (λ o. ordering_then o (slice_cmp nat_cmp xs ys)) (nat_cmp-greater x 48 h)
 
 Keyed : List ℕ → List ℕ → Type 0
 Keyed a b = later_number_cmp a b ≡ slice_cmp nat_cmp (later_key a) (later_key b)

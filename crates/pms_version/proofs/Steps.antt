@@ -34,7 +34,7 @@ suffix_is_no_letter : (h : ℕ) → BehindSuffix h → is_lower h ≡ false
 unfolding BehindSuffix
 suffix_is_no_letter h b = elim b [ inl k ↦ below_is_no_lower h (omega arith) | inr k ↦ below_is_no_lower h (omega arith) ]
 
-contrary : (t : Bool) → t ≡ true → t ≡ false → ⊥
+pub contrary : (t : Bool) → t ≡ true → t ≡ false → ⊥
 contrary t h k = cc
 
 pub a_letter : (bytes : List ℕ) → is_lower (get_or bytes 0 0) ≡ true → HasReadLetter bytes (get_or bytes 0 0 ∷ []) (drop 1 bytes)

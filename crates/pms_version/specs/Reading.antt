@@ -1,5 +1,5 @@
 -- The first fault of a text that is no version within the limits.
-use Rattle.std.specs.Prelude.{ℕ, ◌≡◌, ◌+◌, ◌<◌, ◌≤◌, List, length, take, drop}
+use Rattle.std.specs.Prelude.{ℕ, ◌≡◌, ◌+◌, ◌<◌, ◌≤◌, List, length, take, drop, ⊤}
 use Rattle.pms_version.specs.declared.limits.TheConstants.{MOST_BYTES, MOST_DIGITS}
 use Rattle.version_text.specs.Grammar.{BeginsVersion, StopsAt}
 use Rattle.pms_version.specs.Limits.{digit_count}
@@ -20,4 +20,4 @@ FirstFault bytes (BadChar at) =
 FirstFault bytes (TooManyDigits at) =
     (0 < length bytes) × (length bytes ≤ MOST_BYTES) × (MOST_DIGITS < digit_count (drop at bytes))
     × IsShortBefore bytes at × BeginsVersion (take (at + 1) bytes)
-FirstFault bytes Memory = Unit {0}
+FirstFault bytes Memory = ⊤

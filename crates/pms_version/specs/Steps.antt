@@ -7,7 +7,7 @@ use Rattle.version_text.specs.Grammar.{AreDigits, IsInteger, IsLetter, SuffixTex
 -- neither a number nor a further number goes on here
 pub record EndsNumbers (after : List ℕ) : Type 0 where
   pub no_digit : is_digit (slice_index after 0) ≡ false
-  pub no_dot : slice_index after 0 ≡ 46 → ⊥
+  pub no_dot : ¬ (slice_index after 0 ≡ 46)
 
 -- of the numbers that the bytes spell some are done, and what is left spells the rest
 abbrev pub ReadsNumbers : List ℕ → List (List ℕ) → List ℕ → Type 0

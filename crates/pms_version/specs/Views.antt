@@ -7,7 +7,13 @@ use Rattle.pms_version.specs.declared.version.Version.TheInside.{Inside}
 
 abbrev pub parts_of : Inside → Parts
 parts_of v =
-    record { first = v.first; more = v.more.items; letter = option_to_list v.letter; suffixes = v.suffixes.items; revision = v.revision }
+    record {
+      first = v.first;
+      more = v.more.items;
+      letter = option_to_list v.letter;
+      suffixes = v.suffixes.items;
+      revision = v.revision;
+    }
 
 -- the text is that of the parts, which are within the limits
 pub record IsRead (v : Inside) : Type 0 where

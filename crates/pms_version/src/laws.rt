@@ -36,7 +36,7 @@ pub fn each_begins_itself()
 /// A law: but for want of memory a text has one fault at most, and that of a readable version none.
 pub fn one_fault()
     ensures once { (bytes : List ℕ) (a b : VersionFault) → FirstFault bytes a → FirstFault bytes b →
-        (a ≡ Memory → ⊥) → (b ≡ Memory → ⊥) → a ≡ b }
+        (¬ (a ≡ Memory)) → (¬ (b ≡ Memory)) → a ≡ b }
     ensures none { (bytes : List ℕ) (a : VersionFault) (p : Parts) → IsReadable p →
         bytes ≡ spelling p → FirstFault bytes a → a ≡ Memory }
 {}

@@ -8,7 +8,7 @@ use Rattle.std.proofs.lemmas.Slice.Eq.{bytes_eq-Decides}
 use Rattle.pms_names.specs.Bytes.{may_contain}
 use Rattle.pms_names.specs.Names.{IsName}
 use Rattle.pms_names.specs.declared.kind.Kind.TheVariants.{Slot}
-use Rattle.slot_value.specs.Slots.{slot_value, slot_text, IsSlotValue, IsWritten, LacksSlash, IsFirstSlash}
+use Rattle.slot_value.specs.Slots.{slot_value, slot_text, IsSlotValue, IsWritten, LacksSlash, IsFirstSlash, Writes}
 
 pub name_lacks : (name : List ℕ) → IsName Slot name → LacksSlash name
 name_lacks name is k within e =
@@ -43,11 +43,15 @@ values_once (a ∷ as') (c ∷ cs) w v h k e =
     let rest : (as' ≡ cs) × (w ≡ v) = values_once as' cs w v (tail_lacks a as' h) (tail_lacks c cs k) (ap (drop 1) same) in
     (ap (λ l. a ∷ l) rest.0 ∙ ap (λ l. get_or l 0 0 ∷ cs) same, rest.1)
 
--- what a text whose slot lacks a slash says is what it is put together from
-pub says_parts : (front slot subslot : List ℕ) (w : Option (List ℕ)) → LacksSlash front → IsSlotValue (slot_value front w) slot subslot → IsName Slot front × IsWritten w
-says_parts front slot subslot w h is =
-    let once : (front ≡ slot) × (w ≡ is.written) = values_once front slot w is.written h (name_lacks slot is.named) is.spelled in
+-- what a text whose slot lacks a slash writes is what it is put together from
+pub writes_parts : (front slot : List ℕ) (w v : Option (List ℕ)) → LacksSlash front → Writes (slot_value front w) slot v → IsName Slot front × IsWritten w
+writes_parts front slot w v h is =
+    let once : (front ≡ slot) × (w ≡ v) = values_once front slot w v h (name_lacks slot is.named) is.spelled in
     (subst (IsName Slot) (sym once.0) is.named, subst IsWritten (sym once.1) is.form)
+
+-- a text writes one slot, and one subslot or none
+pub writes_once : (text a c : List ℕ) (w v : Option (List ℕ)) → Writes text a w → Writes text c v → (a ≡ c) × (w ≡ v)
+writes_once text a c w v p q = values_once a c w v (name_lacks a p.named) (name_lacks c q.named) (sym p.spelled ∙ q.spelled)
 
 pub one_value : (text a b c d : List ℕ) → IsSlotValue text a b → IsSlotValue text c d → (a ≡ c) × (b ≡ d)
 one_value text a b c d p q =

@@ -1,5 +1,5 @@
 -- The value of SLOT (PMS 7.2): a slot, and perhaps a slash and a subslot behind it.
-use Rattle.std.specs.Prelude.{◌≡◌, ◌≢◌, ℕ, ◌<◌, List, ◌∷◌, ◌++◌, length, slice_index}
+use Rattle.std.specs.Prelude.{◌≡◌, ◌≢◌, ℕ, ◌<◌, List, ◌∷◌, ◌++◌, length, slice_index, ⊤}
 use Rattle.std.specs.Prelude.{Option, Some, None, bytes_eq, if◌then◌else◌, unwrap_or}
 use Rattle.pms_names.specs.Names.{IsName}
 use Rattle.pms_names.specs.declared.kind.Kind.TheVariants.{Slot}
@@ -11,8 +11,14 @@ slot_value slot (Some written) = slot ++ (47 ∷ written)
 
 -- a subslot that is written is a name, as slots are
 abbrev pub IsWritten : Option (List ℕ) → Type 0
-IsWritten None = Unit {0}
+IsWritten None = ⊤
 IsWritten (Some written) = IsName Slot written
+
+-- the text writes this slot, and this subslot or none
+pub record Writes (text slot : List ℕ) (written : Option (List ℕ)) : Type 0 where
+  pub named : IsName Slot slot
+  pub form : IsWritten written
+  pub spelled : text ≡ slot_value slot written
 
 -- the text says this slot and this subslot; a slot without a subslot has one equal to itself
 pub record IsSlotValue (text slot subslot : List ℕ) : Type 0 where

@@ -16,4 +16,4 @@ mod laws;
 mod value;
 
 pub use laws::one_slot_value;
-pub use value::{SlotValue, print_slots};
+pub use value::{SlotValue, WrittenSlot, print_slots};

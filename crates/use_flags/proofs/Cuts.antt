@@ -1,14 +1,11 @@
 -- The words of a text that is put together.
 use Rattle.std.proofs.Common.{◌≡◌, ℕ, ◌<◌, Bool, true, false, List, [], ◌∷◌, ◌++◌, length, refl, sym, ◌∙◌, ap, subst, inl, inr, arith, append_assoc, append-nil}
-use Rattle.std.specs.Char.{is_ascii_whitespace}
 use Rattle.std.specs.List.{All, AllByRecursion, slice_split, onto_first, filter}
 use Rattle.std.proofs.lemmas.Bool.{cases_Bool}
 use Rattle.std.proofs.lemmas.List.Elements.{filter-append, All-tail}
 use Rattle.std.proofs.lemmas.List.Splits.{slice_split-cons_yes, slice_split-cons_no, slice_split_none}
 use Rattle.use_flags.specs.Words.{has_bytes, words, EachWord, EndsInBreak, IsWordBetween, IsFirstBad}
-
-abbrev white : ℕ → Bool
-white = is_ascii_whitespace
+use Rattle.basics.specs.Blanks.{is_blank}
 
 onto_first-append : (x : ℕ) (part : List ℕ) (parts more : List (List ℕ)) → onto_first x ((part ∷ parts) ++ more) ≡ onto_first x (part ∷ parts) ++ more
 onto_first-append x part parts more = refl
@@ -19,44 +16,44 @@ record Some (parts : List (List ℕ)) : Type 0 where
   others : List (List ℕ)
   is : parts ≡ first ∷ others
 
-some_part : (xs : List ℕ) → Some (slice_split white xs)
+some_part : (xs : List ℕ) → Some (slice_split is_blank xs)
 some_part [] = record { first = []; others = []; is = refl }
-some_part (x ∷ xs) = elim (cases_Bool (white x)) [
-  | inl blank ↦ record { first = []; others = slice_split white xs; is = slice_split-cons_yes white x xs blank }
+some_part (x ∷ xs) = elim (cases_Bool (is_blank x)) [
+  | inl blank ↦ record { first = []; others = slice_split is_blank xs; is = slice_split-cons_yes is_blank x xs blank }
   | inr solid ↦
       let s = some_part xs in
-      record { first = x ∷ s.first; others = s.others; is = slice_split-cons_no white x xs solid ∙ ap (onto_first x) s.is }
+      record { first = x ∷ s.first; others = s.others; is = slice_split-cons_no is_blank x xs solid ∙ ap (onto_first x) s.is }
 ]
 
-slice_split-append : (xs : List ℕ) (y : ℕ) (ys : List ℕ) → white y ≡ true → slice_split white (xs ++ y ∷ ys) ≡ slice_split white xs ++ slice_split white ys
-slice_split-append [] y ys e = slice_split-cons_yes white y ys e
-slice_split-append (x ∷ xs) y ys e = elim (cases_Bool (white x)) [
+slice_split-append : (xs : List ℕ) (y : ℕ) (ys : List ℕ) → is_blank y ≡ true → slice_split is_blank (xs ++ y ∷ ys) ≡ slice_split is_blank xs ++ slice_split is_blank ys
+slice_split-append [] y ys e = slice_split-cons_yes is_blank y ys e
+slice_split-append (x ∷ xs) y ys e = elim (cases_Bool (is_blank x)) [
   | inl blank ↦
-      rw (slice_split-cons_yes white x (xs ++ y ∷ ys) blank, slice_split-cons_yes white x xs blank, slice_split-append xs y ys e)
+      rw (slice_split-cons_yes is_blank x (xs ++ y ∷ ys) blank, slice_split-cons_yes is_blank x xs blank, slice_split-append xs y ys e)
   | inr solid ↦
       let s = some_part xs in
-      slice_split-cons_no white x (xs ++ y ∷ ys) solid ∙ ap (onto_first x) (slice_split-append xs y ys e ∙ ap (λ p. p ++ slice_split white ys) s.is) ∙ ap (λ p. p ++ slice_split white ys) (sym (slice_split-cons_no white x xs solid ∙ ap (onto_first x) s.is))
+      slice_split-cons_no is_blank x (xs ++ y ∷ ys) solid ∙ ap (onto_first x) (slice_split-append xs y ys e ∙ ap (λ p. p ++ slice_split is_blank ys) s.is) ∙ ap (λ p. p ++ slice_split is_blank ys) (sym (slice_split-cons_no is_blank x xs solid ∙ ap (onto_first x) s.is))
 ]
 
-pub words-append : (xs : List ℕ) (y : ℕ) (ys : List ℕ) → white y ≡ true → words (xs ++ y ∷ ys) ≡ words xs ++ words ys
+pub words-append : (xs : List ℕ) (y : ℕ) (ys : List ℕ) → is_blank y ≡ true → words (xs ++ y ∷ ys) ≡ words xs ++ words ys
 words-append xs y ys e =
-    ap (filter has_bytes) (slice_split-append xs y ys e) ∙ filter-append has_bytes (slice_split white xs) (slice_split white ys)
+    ap (filter has_bytes) (slice_split-append xs y ys e) ∙ filter-append has_bytes (slice_split is_blank xs) (slice_split is_blank ys)
 
-pub words-white : (gap : List ℕ) → All (λ b. white b ≡ true) gap → words gap ≡ []
+pub words-white : (gap : List ℕ) → All (λ b. is_blank b ≡ true) gap → words gap ≡ []
 words-white [] all = refl
-words-white (b ∷ gap) all = words-append [] b gap (all 0 b (omega arith)) ∙ words-white gap (All-tail (λ b. white b ≡ true) b gap all)
+words-white (b ∷ gap) all = words-append [] b gap (all 0 b (omega arith)) ∙ words-white gap (All-tail (λ b. is_blank b ≡ true) b gap all)
 
-pub words-solid : (word : List ℕ) → 0 < length word → All (λ b. white b ≡ false) word → words word ≡ word ∷ []
+pub words-solid : (word : List ℕ) → 0 < length word → All (λ b. is_blank b ≡ false) word → words word ≡ word ∷ []
 words-solid [] some all = absurd (omega arith)
-words-solid (b ∷ word) some all = ap (filter has_bytes) (slice_split_none white (b ∷ word) all)
+words-solid (b ∷ word) some all = ap (filter has_bytes) (slice_split_none is_blank (b ∷ word) all)
 
 -- a gap adds no word
-pub words-gap : (xs gap : List ℕ) → All (λ b. white b ≡ true) gap → words (xs ++ gap) ≡ words xs
+pub words-gap : (xs gap : List ℕ) → All (λ b. is_blank b ≡ true) gap → words (xs ++ gap) ≡ words xs
 words-gap xs [] all = ap words (append-nil xs)
-words-gap xs (b ∷ gap) all = words-append xs b gap (all 0 b (omega arith)) ∙ ap (λ ws. words xs ++ ws) (words-white gap (All-tail (λ b. white b ≡ true) b gap all)) ∙ append-nil (words xs)
+words-gap xs (b ∷ gap) all = words-append xs b gap (all 0 b (omega arith)) ∙ ap (λ ws. words xs ++ ws) (words-white gap (All-tail (λ b. is_blank b ≡ true) b gap all)) ∙ append-nil (words xs)
 
 -- a word behind a break is one more
-pub words-more : (xs word : List ℕ) → EndsInBreak xs → 0 < length word → All (λ b. white b ≡ false) word → words (xs ++ word) ≡ words xs ++ (word ∷ [])
+pub words-more : (xs word : List ℕ) → EndsInBreak xs → 0 < length word → All (λ b. is_blank b ≡ false) word → words (xs ++ word) ≡ words xs ++ (word ∷ [])
 words-more xs word (inl none) some solid = rw none (words-solid word some solid)
 words-more xs word (inr cut) some solid =
     let front = cut.0 in
@@ -82,7 +79,7 @@ all_good-more P [] word all good = (good, tt)
 all_good-more P (x ∷ ws) word all good = (all.0, all_good-more P ws word all.1 good)
 
 -- a text with a good word more is in form
-pub good_with : (P : List ℕ → Type 0) (before word : List ℕ) → EndsInBreak before → 0 < length word → All (λ b. white b ≡ false) word → EachWord P before → P word → EachWord P (before ++ word)
+pub good_with : (P : List ℕ → Type 0) (before word : List ℕ) → EndsInBreak before → 0 < length word → All (λ b. is_blank b ≡ false) word → EachWord P before → P word → EachWord P (before ++ word)
 good_with P before word left some solid good is =
     let Q : List (List ℕ) → Type 0 = λ ws. AllByRecursion P ws in
     subst Q (sym (words-more before word left some solid)) (all_good-more P (words before) word good is)

@@ -1,6 +1,5 @@
 -- A text goes wrong at one word.
 use Rattle.std.proofs.Common.{◌≡◌, ◌∙◌, ℕ, zero, suc, ◌+◌, ◌-◌, ◌<◌, ◌≤◌, ◌⊎◌, inl, inr, true, false, List, [], ◌∷◌, ◌++◌, length, get_or, drop, refl, sym, ap, subst, arith, length-append, append_assoc}
-use Rattle.std.specs.Char.{is_ascii_whitespace}
 use Rattle.std.specs.List.{All}
 use Rattle.std.proofs.lemmas.Bool.{both_ways, cases_lt}
 use Rattle.use_flags.specs.declared.fault.UseFault.{UseFault}
@@ -8,6 +7,7 @@ use Rattle.use_flags.specs.declared.fault.UseFault.TheVariants.{Item, Memory}
 use Rattle.use_flags.specs.Faults.{FirstFault}
 use Rattle.use_flags.specs.Words.{EachWord, EndsInBreak, BeginsWithBreak, IsWordBetween, IsFirstBad}
 use Rattle.use_flags.proofs.Cuts.{no_bad_word}
+use Rattle.basics.specs.Blanks.{is_blank}
 
 -- of two beginnings of one text the longer one goes on from the shorter one
 goes_on : (a b r s : List ℕ) → a ++ r ≡ b ++ s → length a ≤ length b → (mid : List ℕ) × (b ≡ a ++ mid) × (r ≡ mid ++ s)
@@ -19,7 +19,7 @@ goes_on (x ∷ a) (y ∷ b) r s e le =
     (on.0, ap (λ l. y ∷ l) on.1 ∙ ap (λ z. z ∷ (a ++ on.0)) (sym heads), on.2)
 
 -- a longer beginning ends in a break, so what it adds does too
-last_is_white : (a mid : List ℕ) → 0 < length mid → EndsInBreak (a ++ mid) → (front : List ℕ) × (b : ℕ) × (is_ascii_whitespace b ≡ true) × (mid ≡ front ++ (b ∷ []))
+last_is_white : (a mid : List ℕ) → 0 < length mid → EndsInBreak (a ++ mid) → (front : List ℕ) × (b : ℕ) × (is_blank b ≡ true) × (mid ≡ front ++ (b ∷ []))
 last_is_white a mid some (inl none) = absurd (omega (arith, some, length-append a mid, ap length none))
 last_is_white a mid some (inr cut) =
     let short : length a ≤ length cut.0 = omega (arith, some, length-append a mid, ap length cut.3, length-append cut.0 (cut.1 ∷ [])) in
@@ -27,9 +27,9 @@ last_is_white a mid some (inr cut) =
     (on.0, cut.1, cut.2, on.2)
 
 -- a solid word doesn't hold a piece that ends in a break
-no_white_inside : (front : List ℕ) (b : ℕ) (rest word : List ℕ) → is_ascii_whitespace b ≡ true → All (λ x. is_ascii_whitespace x ≡ false) word → word ≡ (front ++ (b ∷ [])) ++ rest → ⊥
+no_white_inside : (front : List ℕ) (b : ℕ) (rest word : List ℕ) → is_blank b ≡ true → All (λ x. is_blank x ≡ false) word → word ≡ (front ++ (b ∷ [])) ++ rest → ⊥
 no_white_inside [] b rest [] white solid e = absurd (omega (arith, ap length e))
-no_white_inside [] b rest (x ∷ word) white solid e = absurd (both_ways (is_ascii_whitespace b) (subst (λ z. is_ascii_whitespace z ≡ false) (ap (λ l. get_or l 0 0) e) (solid 0 0 (omega arith))) white)
+no_white_inside [] b rest (x ∷ word) white solid e = absurd (both_ways (is_blank b) (subst (λ z. is_blank z ≡ false) (ap (λ l. get_or l 0 0) e) (solid 0 0 (omega arith))) white)
 no_white_inside (f ∷ front) b rest [] white solid e = absurd (omega (arith, ap length e))
 no_white_inside (f ∷ front) b rest (x ∷ word) white solid e = no_white_inside front b rest word white (λ k d within. solid (suc k) d (omega (arith, within))) (ap (λ l. drop 1 l) e)
 

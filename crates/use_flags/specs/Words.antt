@@ -1,36 +1,36 @@
 -- A text as its words, and the first word that is not as words should be.
 use Rattle.std.specs.Prelude.{◌≡◌, ℕ, ◌+◌, ◌<◌, ◌≤◌, Bool, true, false, ◌⊎◌, List, [], ◌∷◌, ◌++◌, length, take, drop, filter, ⊤}
-use Rattle.std.specs.Char.{is_ascii_whitespace}
 use Rattle.std.specs.List.{All, AllByRecursion, slice_split}
+use Rattle.basics.specs.Blanks.{is_blank}
 
 abbrev pub has_bytes : List ℕ → Bool
 has_bytes [] = false
 has_bytes (b ∷ bytes) = true
 
--- the pieces between the white bytes, without those of no bytes
+-- the pieces between the blanks, without those of no bytes
 abbrev pub words : List ℕ → List (List ℕ)
-words bytes = filter has_bytes (slice_split is_ascii_whitespace bytes)
+words bytes = filter has_bytes (slice_split is_blank bytes)
 
 -- each word of the text is good
 abbrev pub EachWord : (List ℕ → Type 0) → List ℕ → Type 0
 EachWord IsGood bytes = AllByRecursion IsGood (words bytes)
 
--- the text has no bytes, or ends in a white one
+-- the text has no bytes, or ends in a blank
 abbrev pub EndsInBreak : List ℕ → Type 0
 EndsInBreak bytes =
-    (bytes ≡ []) ⊎ ((front : List ℕ) × (b : ℕ) × (is_ascii_whitespace b ≡ true) ×
+    (bytes ≡ []) ⊎ ((front : List ℕ) × (b : ℕ) × (is_blank b ≡ true) ×
     (bytes ≡ front ++ (b ∷ [])))
 
--- the text has no bytes, or begins with a white one
+-- the text has no bytes, or begins with a blank
 abbrev pub BeginsWithBreak : List ℕ → Type 0
 BeginsWithBreak [] = ⊤
-BeginsWithBreak (b ∷ bytes) = is_ascii_whitespace b ≡ true
+BeginsWithBreak (b ∷ bytes) = is_blank b ≡ true
 
 -- the text is the word with what stands on both sides of it
 pub record IsWordBetween (before word after bytes : List ℕ) : Type 0 where
   pub cut : bytes ≡ before ++ (word ++ after)
   pub some : 0 < length word
-  pub solid : All (λ b. is_ascii_whitespace b ≡ false) word
+  pub solid : All (λ b. is_blank b ≡ false) word
   pub left : EndsInBreak before
   pub right : BeginsWithBreak after
 

@@ -1,6 +1,6 @@
 //! Texts of USE flags: the items of IUSE, and changes of a set of flags.
 //!
-//! **A contract sees** a text as the words between its white space, and a set as which flags it
+//! **A contract sees** a text as the words between its blanks, and a set as which flags it
 //! has.
 //!
 //! **Proved**: a text with a word of another form is refused at the first such word, which is its

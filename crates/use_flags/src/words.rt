@@ -1,7 +1,9 @@
 ghost use Rattle.std.specs.Prelude.{◌≡◌, ◌≤◌, ◌⊎◌, length, take, drop, not, MatchOption};
-ghost use Rattle.std.specs.Char.{is_ascii_whitespace};
 ghost use Rattle.std.specs.List.{position};
+ghost use Rattle.basics.specs.Blanks.{is_blank};
 ghost use Rattle.use_flags.specs.Words.{words, BeginsWithBreak, IsNextWord};
+
+use basics::is_blank;
 
 /// A word of a text, and where in the text it begins.
 #[derive(Clone, Copy)]
@@ -23,7 +25,7 @@ pub fn next_word<'a>(bytes: &'a [u8], from: usize) -> Option<Word<'a>>
     };
     let at = from + gap;
     let (_, rest) = rest.split_at(gap);
-    match first_white(rest) {
+    match first_blank(rest) {
         Some(len) => {
             let (bytes, _) = rest.split_at(len);
             Some(Word { at, bytes })
@@ -33,13 +35,13 @@ pub fn next_word<'a>(bytes: &'a [u8], from: usize) -> Option<Word<'a>>
 }
 
 fn first_solid(bytes: &[u8]) -> Option<usize>
-    ensures { result ≡ position (λ b. not (is_ascii_whitespace b)) bytes.now }
+    ensures { result ≡ position (λ b. not (is_blank b)) bytes.now }
 {
-    bytes.iter().position(|b| !b.is_ascii_whitespace())
+    bytes.iter().position(|b| !is_blank(*b))
 }
 
-fn first_white(bytes: &[u8]) -> Option<usize>
-    ensures { result ≡ position is_ascii_whitespace bytes.now }
+fn first_blank(bytes: &[u8]) -> Option<usize>
+    ensures { result ≡ position is_blank bytes.now }
 {
-    bytes.iter().position(|b| b.is_ascii_whitespace())
+    bytes.iter().position(|b| is_blank(*b))
 }

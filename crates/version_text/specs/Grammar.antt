@@ -1,6 +1,6 @@
 -- Versions as PMS 3.2 spells them: the parts, how they are written, and which parts a version may
 -- have.
-use Rattle.std.specs.Prelude.{◌≡◌, ℕ, ◌+◌, ◌<◌, ◌≤◌, true, ◌==◌, if◌then◌else◌, slice_index, List, [], ◌∷◌, ◌++◌, length, take}
+use Rattle.std.specs.Prelude.{◌≡◌, ℕ, ◌+◌, ◌<◌, ◌≤◌, true, ◌==◌, if◌then◌else◌, slice_index, List, [], ◌∷◌, ◌++◌, length, take, ⊤}
 use Rattle.std.specs.List.{AllByRecursion, flat_map}
 use Rattle.basics.specs.Bytes.{is_digit, is_lower}
 
@@ -15,7 +15,7 @@ IsInteger (d ∷ ds) = (is_digit d ≡ true) × AreDigits ds
 
 -- one letter, or none
 abbrev pub IsLetter : List ℕ → Type 0
-IsLetter [] = Unit {0}
+IsLetter [] = ⊤
 IsLetter (b ∷ []) = is_lower b ≡ true
 IsLetter (b ∷ c ∷ bs) = ⊥
 
@@ -101,5 +101,5 @@ BeginsVersion bytes = (rest : List ℕ) × IsVersionText (bytes ++ rest)
 pub record StopsAt (bytes : List ℕ) (at : ℕ) : Type 0 where
   pub in_range : at ≤ length bytes
   pub begins : BeginsVersion (take at bytes)
-  pub stops : at < length bytes → BeginsVersion (take (at + 1) bytes) → ⊥
-  pub short : at ≡ length bytes → IsVersionText bytes → ⊥
+  pub stops : at < length bytes → ¬ BeginsVersion (take (at + 1) bytes)
+  pub short : at ≡ length bytes → ¬ IsVersionText bytes
