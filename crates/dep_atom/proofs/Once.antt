@@ -1,5 +1,5 @@
 -- What is spelled comes apart in one way.
-use Rattle.std.proofs.Common.{◌≡◌, ◌∙◌, ℕ, Bool, true, false, List, [], ◌∷◌, ◌++◌, Option, Some, None, ◌==◌, length, get_or, refl, sym, ap, arith, append_assoc}
+use Rattle.std.proofs.Common.{◌≡◌, ◌∙◌, ℕ, Bool, true, false, List, [], ◌∷◌, ◌++◌, Option, Some, None, ◌==◌, length, get_or, refl, sym, ap, arith, append_assoc, append-nil}
 use Rattle.std.proofs.lemmas.Bool.Decides.{nat_tests}
 use Rattle.version_text.specs.Grammar.{Parts, spelling}
 use Rattle.pms_version.specs.Limits.{IsReadable}
@@ -18,6 +18,7 @@ use Rattle.dep_atom.specs.Text.{name_text, version_part, star_text, subslot_text
 use Rattle.dep_atom.proofs.Cuts.{cut_once, ends_once}
 use Rattle.dep_atom.proofs.Parts.{kind_once}
 use Rattle.dep_atom.proofs.Plain.{plain_name, plain_version, lacks_plain, lacks-append}
+use Rattle.slot_value.specs.Slots.{IsWritten, Writes, slot_value}
 
 pub name_once : (text category rest : List ℕ) (n : Name) → IsNameForm n → text ≡ category ++ rest → Lacks 47 47 category → Starts 47 47 rest → text ≡ name_text n → (category ≡ n.category) × (rest ≡ 47 ∷ n.«package»)
 name_once text category rest n is e lacks starts k = cut_once 47 47 category rest n.category (47 ∷ n.«package») lacks (lacks_plain 47 47 n.category refl refl (plain_name kinds.Category n.category is.category)) starts refl (sym e ∙ k)
@@ -58,17 +59,21 @@ pub subslot_lacks : (x y : ℕ) (s : Option (List ℕ)) → is_plain x ≡ false
 subslot_lacks x y None p q slash is = refl
 subslot_lacks x y (Some s) p q slash is = rw slash (lacks_plain x y s p q (plain_name kinds.Slot s is))
 
-subslot_starts : (s : Option (List ℕ)) → Starts 47 47 (subslot_text s)
-subslot_starts None = tt
-subslot_starts (Some s) = refl
+joined : (slot : List ℕ) (s : Option (List ℕ)) → slot_value slot s ≡ slot ++ subslot_text s
+joined slot None = sym (append-nil slot)
+joined slot (Some s) = refl
 
-pub slot_once : (text front got rest : List ℕ) (p : Bool) (slot : List ℕ) (subslot : Option (List ℕ)) (equals : Bool) → IsName kinds.Slot slot → IsSubslotForm subslot → text ≡ front ++ end_text 61 p → (p ≡ false → (f : List ℕ) → text ≡ f ++ (61 ∷ []) → ⊥) → front ≡ got ++ rest → Lacks 47 47 got → Starts 47 47 rest → text ≡ slot ++ (subslot_text subslot ++ equals_text equals) → (got ≡ slot) × (rest ≡ subslot_text subslot) × (p ≡ equals)
-slot_once text front got rest p slot subslot equals named sub e none parts lacks starts k =
+written : (s : Option (List ℕ)) → IsSubslotForm s → IsWritten s
+written None is = tt
+written (Some s) is = is
+
+-- what stands before the equals sign writes the slot and the subslot
+pub slot_once : (text front : List ℕ) (p : Bool) (slot : List ℕ) (subslot : Option (List ℕ)) (equals : Bool) → IsName kinds.Slot slot → IsSubslotForm subslot → text ≡ front ++ end_text 61 p → (p ≡ false → (f : List ℕ) → text ≡ f ++ (61 ∷ []) → ⊥) → text ≡ slot ++ (subslot_text subslot ++ equals_text equals) → Writes front slot subslot × (p ≡ equals)
+slot_once text front p slot subslot equals named sub e none k =
     let whole : text ≡ (slot ++ subslot_text subslot) ++ end_text 61 equals = k ∙ sym (append_assoc slot (subslot_text subslot) (equals_text equals)) ∙ ap (λ s. (slot ++ subslot_text subslot) ++ s) (equals_end equals) in
     let plain = plain_name kinds.Slot slot named in
     let ends = ends_once 61 text front (slot ++ subslot_text subslot) p equals e none (lacks-append 61 61 slot (subslot_text subslot) (lacks_plain 61 61 slot refl refl plain) (subslot_lacks 61 61 subslot refl refl refl sub)) whole in
-    let cut = cut_once 47 47 got rest slot (subslot_text subslot) lacks (lacks_plain 47 47 slot refl refl plain) starts (subslot_starts subslot) (sym parts ∙ ends.0) in
-    (cut.0, cut.1, ends.1)
+    (record { named = named; form = written subslot sub; spelled = ends.0 ∙ sym (joined slot subslot) }, ends.1)
 
 -- an item without the signs at its end
 abbrev pub use_front : UseDep → List ℕ

@@ -25,8 +25,9 @@ use crate::naming::{begins_name_number, is_name, is_name_version, read_name, rea
 use crate::package::name_fault;
 use crate::slot::SlotPart;
 use crate::uses::{UseDep, UseKind};
-use pms_names::{Flag, Name, SlotName};
+use pms_names::{Flag, Name};
 use pms_version::Version;
+use slot_value::WrittenSlot;
 use std::alloc::Global;
 
 /// The block with which the text begins, and the rest.
@@ -192,40 +193,6 @@ fn read_unversioned(alloc: Global, text: &[u8]) -> Result<Name, AtomFault>
     }
 }
 
-fn read_slot_name(alloc: Global, text: &[u8]) -> Result<SlotName, AtomFault>
-    ensures found { IfOk result (λ slot. slot ≡ text.now) }
-    ensures form { IfOk result (λ _. IsName kinds.Slot text.now) }
-    ensures only { IsName kinds.Slot text.now → IfErr result (λ e. e ≡ Memory) }
-    ensures fault { IfErr result IsSlotFault }
-{
-    match SlotName::from_bytes(alloc, text) {
-        Ok(slot) => Ok(slot),
-        Err(fault) => match name_fault(fault) {
-            AtomFault::Memory => Err(AtomFault::Memory),
-            _ => Err(AtomFault::BadSlot),
-        },
-    }
-}
-
-// Nothing, or a slash and a subslot.
-fn read_subslot(alloc: Global, text: &[u8]) -> Result<Option<SlotName>, AtomFault>
-    ensures found { IfOk result (λ subslot. text.now ≡ subslot_text subslot) }
-    ensures form { IfOk result IsSubslotForm }
-    ensures only { ReadsBack IsSubslotForm subslot_text text.now result }
-    ensures fault { IfErr result IsSlotFault }
-{
-    if text.is_empty() {
-        return Ok(None);
-    }
-    let Some(subslot) = take_byte(text, b'/') else {
-        return Err(AtomFault::BadSlot);
-    };
-    match read_slot_name(alloc, subslot) {
-        Ok(subslot) => Ok(Some(subslot)),
-        Err(fault) => Err(fault),
-    }
-}
-
 // What stands behind the colon, where it is neither an asterisk nor an equals sign alone.
 fn read_given(alloc: Global, text: &[u8]) -> Result<SlotPart, AtomFault>
     ensures found { IfOk result (λ slot. 58 ∷ text.now ≡ slot_text slot) }
@@ -237,18 +204,14 @@ fn read_given(alloc: Global, text: &[u8]) -> Result<SlotPart, AtomFault>
     ensures fault { IfErr result IsSlotFault }
 {
     let (text, equals) = take_end(text, b'=');
-    let (slot, rest) = split_before(text, b'/', b'/');
-    let slot = match read_slot_name(alloc, slot) {
-        Ok(slot) => slot,
-        Err(fault) => return Err(fault),
-    };
-    match read_subslot(alloc, rest) {
-        Ok(subslot) => Ok(SlotPart::Given {
+    match WrittenSlot::read(alloc, text) {
+        Ok(Some(WrittenSlot { slot, subslot })) => Ok(SlotPart::Given {
             slot,
             subslot,
             equals,
         }),
-        Err(fault) => Err(fault),
+        Ok(None) => Err(AtomFault::BadSlot),
+        Err(_) => Err(AtomFault::Memory),
     }
 }
 

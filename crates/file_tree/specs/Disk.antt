@@ -21,7 +21,10 @@ with_path m p x = λ q. if bytes_eq p q then x else m q
 -- one path is changed, and touched by that
 abbrev pub write : Disk → List ℕ → Option Thing → Disk
 write d p x =
-    record { holds = with_path d.holds p x; touched = λ q. if bytes_eq p q then true else d.touched q }
+    record {
+      holds = with_path d.holds p x;
+      touched = λ q. if bytes_eq p q then true else d.touched q;
+    }
 
 -- a sync reached the disk
 abbrev pub settled : Disk → Disk

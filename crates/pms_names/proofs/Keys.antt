@@ -7,7 +7,7 @@ use Rattle.std.specs.BTreeSet.{BTreeSet, contains, Updates, UpdatesBy}
 use Rattle.std.specs.Cmp.Lexicographic.{texts_ties}
 use Rattle.std.specs.Ordering.{is_eq, ordering_then}
 use Rattle.std.specs.declared.cmp.Ordering.{Ordering}
-use Rattle.std.specs.declared.cmp.Ordering.TheVariants.{Less, Equal, Greater}
+use Rattle.std.specs.declared.cmp.Ordering.TheVariants.{Equal}
 use Rattle.std.proofs.lemmas.Cmp.{nat_list_eq_equiv}
 use Rattle.pms_names.specs.Flags.{has, byte_order, IsRising}
 use Rattle.basics.proofs.Texts.{then-Equal}

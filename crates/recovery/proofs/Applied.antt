@@ -23,7 +23,8 @@ use Rattle.merge_record.specs.declared.record.Placement.{Placement}
 use Rattle.std.proofs.Common.{drop}
 use Rattle.merge_core.proofs.Walk.{redo_walks}
 use Rattle.recovery.specs.Found.{AreApplicable}
-use Rattle.recovery.proofs.Places.{free_outside, placement_at}
+use Rattle.recovery.proofs.Places.{free_outside}
+use Rattle.merge_core.proofs.Places.{placement_at}
 
 abbrev all_good : List Content → Result (List Content) JudgeFault
 all_good rs = Ok rs

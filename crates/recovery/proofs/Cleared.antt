@@ -17,10 +17,8 @@ use Rattle.group_merge.proofs.Images.{shut_leaves}
 use Rattle.group_merge.proofs.Survives.{fixed_write, quiet_write, shut_settled}
 use Rattle.group_merge.proofs.Turns.{removed_holds}
 use Rattle.group_merge.proofs.Walk.{Before}
-use Rattle.recovery.proofs.Lists.{contains_if_has, has_if_contains}
-
-pub none_is_not_some : (x : Option Thing) → x ≡ None → IsSome x → ⊥
-none_is_not_some x e some = let s = subst IsSome e some in absurd (cc s)
+use Rattle.basics.proofs.Membership.{has-from_contains, contains-from_has}
+use Rattle.basics.proofs.Tests.{none_is_not_some}
 
 -- with no gate open, whatever stands below the journal's folder and is no gate may go
 shut_below : (m : Map) (p : List ℕ) → is_below jobs p ≡ true → ((h : ℕ) → h < 2 ^ 32 → p ≡ gate_path h → ⊥) → (d : Disk) (x : Option Thing) → IsShut m d → IsShut m (write d p x)
@@ -38,7 +36,7 @@ cleared_at_end m ps d d' all k is q = go (is_below jobs q) refl
   where
     gone : is_below jobs q ≡ true → (x : Option Thing) → d.holds q ≡ x → cond (is_in ps q) None (d.holds q) ≡ None
     gone below None e = elim (cases_Bool (is_in ps q)) [ inl has ↦ cond-true (is_in ps q) None (d.holds q) has | inr none ↦ cond-false (is_in ps q) None (d.holds q) none ∙ e ]
-    gone below (Some o) e = cond-true (is_in ps q) None (d.holds q) (in_if_has ps q (has_if_contains ps q ((all q).1 (below, subst IsSome (sym e) refl))))
+    gone below (Some o) e = cond-true (is_in ps q) None (d.holds q) (in_if_has ps q (has-from_contains ps q ((all q).1 (below, subst IsSome (sym e) refl))))
 
     go : (b : Bool) → is_below jobs q ≡ b → d'.holds q ≡ cleared m q
     go true e = ap (λ (x : Disk). x.holds q) is ∙ (removed_holds ps d q ∙ (gone e (d.holds q) refl ∙ sym (cond-true (is_below jobs q) None (m q) e)))
@@ -56,7 +54,7 @@ pub shut_cleared : (m : Map) (ps : List (List ℕ)) (s new : Story) → AreBelow
 shut_cleared m ps s new all k asked =
     runs_asked (IsShut m) (Before m) (shut_leaves m) ps s s new
     (λ p has.
-    let b = (all p).0 (contains_if_has ps p has) in
+    let b = (all p).0 (contains-from_has ps p has) in
     shut_below m p b.0 (λ h small e. none_is_not_some (s.now.holds (gate_path h)) (k.gates h small).reads (subst (λ (q : List ℕ). IsSome (s.now.holds q)) e b.1))) (shut_begins m s k) asked
 
 pub shut_synced : (m : Map) (old mid new : Story) → Runs (IsShut m) (Before m) old mid → Syncs mid new → Runs (IsShut m) (Before m) old new

@@ -17,21 +17,15 @@ use Rattle.recovery.specs.Faults.{judge_fault, tree_fault}
 use Rattle.recovery.specs.Found.{AreGates, AreOdd, HasTooManyGates, IsFound}
 use Rattle.recovery.specs.Promise.{IsFaultOf}
 use Rattle.recovery.specs.declared.limits.TheConstants.{MOST_GATES}
-use Rattle.recovery.proofs.Lists.{filter_has, has_filter, rising_filter}
+use Rattle.recovery.proofs.Lists.{rising_filter}
+use Rattle.std.proofs.lemmas.Bool.{not-true, not_from_false}
+use Rattle.basics.proofs.Membership.{has-filter_back, has-filter}
 
 abbrev pub opens_in : Map → ℕ → Bool
 opens_in a h = is_open (a (gate_path h))
 
 abbrev pub odd_in : Map → ℕ → Bool
 odd_in a h = not (is_open (a (gate_path h)))
-
-not_true : (b : Bool) → not b ≡ true → b ≡ false
-not_true true e = absurd cc
-not_true false e = refl
-
-not_false : (b : Bool) → b ≡ false → not b ≡ true
-not_false true e = absurd cc
-not_false false e = refl
 
 -- an open gate holds an object
 some_if_open : (x : Option Thing) → is_open x ≡ true → IsSome x
@@ -43,17 +37,17 @@ opened_groups a gs gates = open_groups_only a (filter (opens_in a) gs) (rising_f
   where
     each : (h : ℕ) → Has (filter (opens_in a) gs) h ↔ Opens a (2 ^ 32) h
     each h = (
-      λ has. let k = filter_has (opens_in a) gs h has in (((gates.has h).0 k.0).0, k.1),
-      λ o. has_filter (opens_in a) gs h ((gates.has h).1 (o.0, some_if_open (a (gate_path h)) o.1)) o.1,
+      λ has. let k = has-filter_back (opens_in a) gs h has in (((gates.has h).0 k.0).0, k.1),
+      λ o. has-filter (opens_in a) gs h ((gates.has h).1 (o.0, some_if_open (a (gate_path h)) o.1)) o.1,
     )
 
 pub odd_groups : (a : Map) (gs : List ℕ) → AreGates a gs → AreOdd a (filter (odd_in a) gs)
 odd_groups a gs gates h = (
   λ has.
-      let k = filter_has (odd_in a) gs h has in
+      let k = has-filter_back (odd_in a) gs h has in
       let b = (gates.has h).0 k.0 in
-      record { small = b.0; some = b.1; odd = not_true (is_open (a (gate_path h))) k.1 },
-  λ o. has_filter (odd_in a) gs h ((gates.has h).1 (o.small, o.some)) (not_false (is_open (a (gate_path h))) o.odd),
+      record { small = b.0; some = b.1; odd = not-true (is_open (a (gate_path h))) k.1 },
+  λ o. has-filter (odd_in a) gs h ((gates.has h).1 (o.small, o.some)) (not_from_false (is_open (a (gate_path h))) o.odd),
 )
 
 -- the gates of a map are one list

@@ -7,43 +7,27 @@ use Rattle.std.specs.List.Sorted.{IsPermutation, IsSorted, IsStrictlySortedBy}
 use Rattle.std.specs.Ordering.{is_eq, nat_cmp}
 use Rattle.std.specs.declared.cmp.Ordering.TheVariants.{Less}
 use Rattle.std.proofs.lemmas.Bool.{cases_eq, cond-false, cond-true, eq-eqb, ne_eqb}
-use Rattle.std.proofs.lemmas.List.{drop_all}
+use Rattle.std.proofs.lemmas.List.{drop_all, drop_more}
 use Rattle.std.proofs.lemmas.List.Kept.{AllPairs-from_increasing}
 use Rattle.std.proofs.lemmas.List.Sorted.{Contains-permutation, IsNonDecreasingBy-from_sort}
 use Rattle.std.proofs.lemmas.Map.Keys.{IsDistinct-IsPermutation, IsStrictlyIncreasing-from_distinct}
 use Rattle.std.proofs.lemmas.Map.Text.{is_eq-slice_cmp}
 use Rattle.std.proofs.lemmas.Slice.Eq.{bytes_eq-Decides}
 use Rattle.basics.specs.Members.{AreDistinct, Has}
-use Rattle.basics.proofs.Membership.{has-append_cases, has-append_left, has-append_right}
+use Rattle.basics.proofs.Membership.{has-append_cases, has-append_left, has-append_right, has-from_contains, contains-from_has, has-filter_back}
 use Rattle.merge_record.specs.Names.{gate_path}
 use Rattle.merge_record.specs.Open.{IsRising}
 use Rattle.group_merge.proofs.Walk.{has_at}
 use Rattle.recovery.proofs.Places.{gates_same}
 
-pub has_if_contains : {A : Type 0} (xs : List A) (x : A) → Contains xs x → Has xs x
-has_if_contains {A = A} xs x c = go xs c.0 c.1 c.2
-  where
-    go : (ys : List A) (k : ℕ) → k < length ys → get_or ys k x ≡ x → Has ys x
-    go [] k lt e = absurd (omega arith)
-    go (y ∷ ys) zero lt e = inl e
-    go (y ∷ ys) (suc k) lt e = inr (go ys k (omega arith) e)
-
-pub contains_if_has : {A : Type 0} (xs : List A) (x : A) → Has xs x → Contains xs x
-contains_if_has [] x has = absurd has
-contains_if_has (y ∷ ys) x (inl e) = (0, omega arith, e)
-contains_if_has (y ∷ ys) x (inr h) = let c = contains_if_has ys x h in (suc c.0, omega (arith, c.1), c.2)
-
 -- ---- a loop over a list that makes another
-
-drop_next : (gs : List ℕ) (i : ℕ) → i < length gs → drop i gs ≡ get_or gs i 0 ∷ drop (i + 1) gs
-drop_next gs i lt = rw add-one (drop-cons gs i 0 lt)
 
 pub mapped_more : {A : Type 0} (f : ℕ → A) (front : List A) (gs : List ℕ) (i : ℕ) (x : A) (total : List A) → i < length gs → x ≡ f (get_or gs i 0)
     → front ++ map f (drop i gs) ≡ total → (front ++ x ∷ []) ++ map f (drop (i + 1) gs) ≡ total
 mapped_more {A = A} f front gs i x total lt is so_far =
     append_assoc front (x ∷ []) (map f (drop (i + 1) gs))
     ∙ (ap (λ (y : A). front ++ y ∷ map f (drop (i + 1) gs)) is
-    ∙ (ap (λ (l : List ℕ). front ++ map f l) (sym (drop_next gs i lt)) ∙ so_far))
+    ∙ (ap (λ (l : List ℕ). front ++ map f l) (sym (drop_more gs i 0 lt)) ∙ so_far))
 
 pub mapped_end : {A : Type 0} (f : ℕ → A) (front : List A) (gs : List ℕ) (i : ℕ) (total : List A) → length gs ≤ i → front ++ map f (drop i gs) ≡ total → front ≡ total
 mapped_end f front gs i total le so_far = sym (append-nil front) ∙ (ap (λ (l : List ℕ). front ++ map f l) (sym (drop_all i gs le)) ∙ so_far)
@@ -54,38 +38,19 @@ kept_more p front gs i x total lt is passes so_far =
     append_assoc front (x ∷ []) (filter p (drop (i + 1) gs))
     ∙ (ap (λ (l : List ℕ). front ++ l) (sym (cond-true (p x) (x ∷ filter p (drop (i + 1) gs)) (filter p (drop (i + 1) gs)) passes))
     ∙ (ap (λ (y : ℕ). front ++ filter p (y ∷ drop (i + 1) gs)) is
-    ∙ (ap (λ (l : List ℕ). front ++ filter p l) (sym (drop_next gs i lt)) ∙ so_far)))
+    ∙ (ap (λ (l : List ℕ). front ++ filter p l) (sym (drop_more gs i 0 lt)) ∙ so_far)))
 
 pub kept_pass : (p : ℕ → Bool) (front gs : List ℕ) (i x : ℕ) (total : List ℕ) → i < length gs → x ≡ get_or gs i 0 → p x ≡ false
     → front ++ filter p (drop i gs) ≡ total → front ++ filter p (drop (i + 1) gs) ≡ total
 kept_pass p front gs i x total lt is fails so_far =
     ap (λ (l : List ℕ). front ++ l) (sym (cond-false (p x) (x ∷ filter p (drop (i + 1) gs)) (filter p (drop (i + 1) gs)) fails))
     ∙ (ap (λ (y : ℕ). front ++ filter p (y ∷ drop (i + 1) gs)) is
-    ∙ (ap (λ (l : List ℕ). front ++ filter p l) (sym (drop_next gs i lt)) ∙ so_far))
+    ∙ (ap (λ (l : List ℕ). front ++ filter p l) (sym (drop_more gs i 0 lt)) ∙ so_far))
 
 pub kept_end : (p : ℕ → Bool) (front gs : List ℕ) (i : ℕ) (total : List ℕ) → length gs ≤ i → front ++ filter p (drop i gs) ≡ total → front ≡ total
 kept_end p front gs i total le so_far = sym (append-nil front) ∙ (ap (λ (l : List ℕ). front ++ filter p l) (sym (drop_all i gs le)) ∙ so_far)
 
 -- ---- what a filter keeps
-
-pub filter_has : (p : ℕ → Bool) (gs : List ℕ) (h : ℕ) → Has (filter p gs) h → Has gs h × (p h ≡ true)
-filter_has p [] h has = absurd has
-filter_has p (g ∷ gs) h has = go (p g) refl (λ k. filter_has p gs h k) has
-  where
-    go : (b : Bool) → p g ≡ b → (Has (filter p gs) h → Has gs h × (p h ≡ true)) → Has (cond b (g ∷ filter p gs) (filter p gs)) h → Has (g ∷ gs) h × (p h ≡ true)
-    go true e further (inl same) = (inl same, ap p (sym same) ∙ e)
-    go true e further (inr k) = let rest = further k in (inr rest.0, rest.1)
-    go false e further k = let rest = further k in (inr rest.0, rest.1)
-
-pub has_filter : (p : ℕ → Bool) (gs : List ℕ) (h : ℕ) → Has gs h → p h ≡ true → Has (filter p gs) h
-has_filter p [] h has passes = absurd has
-has_filter p (g ∷ gs) h (inl same) passes =
-    subst (λ (l : List ℕ). Has l h) (sym (cond-true (p g) (g ∷ filter p gs) (filter p gs) (ap p same ∙ passes))) (inl same)
-has_filter p (g ∷ gs) h (inr k) passes = go (p g) refl (has_filter p gs h k passes)
-  where
-    go : (b : Bool) → p g ≡ b → Has (filter p gs) h → Has (filter p (g ∷ gs)) h
-    go true e rest = subst (λ (l : List ℕ). Has l h) (sym (cond-true (p g) (g ∷ filter p gs) (filter p gs) e)) (inr rest)
-    go false e rest = subst (λ (l : List ℕ). Has l h) (sym (cond-false (p g) (g ∷ filter p gs) (filter p gs) e)) rest
 
 -- ---- the front of a list, one element at a time
 
@@ -208,7 +173,7 @@ flips g h = elim (cases_eq g h) [
 rising_if_pairs : (gs : List ℕ) → AllPairs (λ g h. g < h) gs → IsRising gs
 rising_if_pairs [] pairs = tt
 rising_if_pairs (g ∷ gs) pairs = (
-  λ h has. let c = contains_if_has gs h has in subst (λ (n : ℕ). g < n) c.2 (pairs 0 (suc c.0) h (omega arith) (omega (arith, c.1))),
+  λ h has. let c = contains-from_has gs h has in subst (λ (n : ℕ). g < n) c.2 (pairs 0 (suc c.0) h (omega arith) (omega (arith, c.1))),
   rising_if_pairs gs (λ i j d lt in_it. pairs (suc i) (suc j) d (omega (arith, lt)) (omega (arith, in_it))),
 )
 
@@ -217,7 +182,7 @@ rising_if_sorted gs hs d moved sorted =
     rising_if_pairs hs (AllPairs-from_increasing hs (IsStrictlyIncreasing-from_distinct hs (IsNonDecreasingBy-from_sort (λ x. x) hs sorted) (IsDistinct-IsPermutation eqb flips gs hs moved (differ gs d))))
 
 pub has_if_moved : {A : Type 0} (xs ys : List A) (x : A) → IsPermutation xs ys → Has xs x → Has ys x
-has_if_moved xs ys x moved has = has_if_contains ys x (Contains-permutation xs ys x moved (contains_if_has xs x has))
+has_if_moved xs ys x moved has = has-from_contains ys x (Contains-permutation xs ys x moved (contains-from_has xs x has))
 
 -- some of a rising list
 pub rising_filter : (p : ℕ → Bool) (gs : List ℕ) → IsRising gs → IsRising (filter p gs)
@@ -225,7 +190,7 @@ rising_filter p [] rise = tt
 rising_filter p (g ∷ gs) rise = go (p g) refl (rising_filter p gs rise.1)
   where
     go : (b : Bool) → p g ≡ b → IsRising (filter p gs) → IsRising (filter p (g ∷ gs))
-    go true e rest = subst IsRising (sym (cond-true (p g) (g ∷ filter p gs) (filter p gs) e)) ((λ h has. rise.0 h (filter_has p gs h has).0), rest)
+    go true e rest = subst IsRising (sym (cond-true (p g) (g ∷ filter p gs) (filter p gs) e)) ((λ h has. rise.0 h (has-filter_back p gs h has).0), rest)
     go false e rest = subst IsRising (sym (cond-false (p g) (g ∷ filter p gs) (filter p gs) e)) rest
 
 -- what is known where nothing was found

@@ -30,8 +30,3 @@ placement_outside r p free has = free_outside r free p.path (has-append_right r.
 
 pub removal_outside : (r : Content) (q : List ℕ) → are_free [] (footprint r) ≡ true → Has r.removals q → is_below jobs q ≡ false
 removal_outside r q free has = free_outside r free q (has-append_left r.removals (map path_of r.placements) q has)
-
-pub placement_at : (ps : List Placement) (i : ℕ) → i < length ps → (p : Placement) × (slice_get ps i ≡ Some p)
-placement_at [] i lt = absurd (omega arith)
-placement_at (p ∷ ps) zero lt = (p, refl)
-placement_at (p ∷ ps) (suc i) lt = placement_at ps i (omega arith)

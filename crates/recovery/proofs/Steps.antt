@@ -20,6 +20,7 @@ use Rattle.group_merge.proofs.Survives.{journal_apart, part_below}
 use Rattle.group_merge.proofs.Turns.{held_here, held_there}
 use Rattle.recovery.specs.Calls.{empty_record, emptied}
 use Rattle.recovery.proofs.Places.{records_same}
+use Rattle.merge_core.proofs.Redo.{empty_length}
 
 -- calls on some paths, and then on others
 pub asked_both : (ps qs : List (List ℕ)) (old mid new : Story) → Asked ps old mid → Asked qs mid new → Asked (ps ++ qs) old new
@@ -71,19 +72,6 @@ emptied_has (g ∷ gs) d h hs small (inl e) =
 emptied_has (g ∷ gs) d h hs small (inr k) = emptied_has gs (write d (record_path g) (Some (empty_record g))) h hs (λ k has. small k (inr has)) k
 
 -- ---- a record without paths passes no limit
-
-rest_length : (g : ℕ) → length (number_text 4 g ++ (number_text 4 0 ++ ([] ++ (number_text 4 0 ++ [])))) ≡ 12
-rest_length g =
-    let a = length-number_text 4 g in
-    let b = length-number_text 4 0 in
-    let d = length-append (number_text 4 0) ([] ++ (number_text 4 0 ++ [])) in
-    let e = length-append (number_text 4 0) [] in
-    let f = length-append (number_text 4 g) (number_text 4 0 ++ ([] ++ (number_text 4 0 ++ []))) in
-    omega (arith, a, b, d, e, f)
-
-empty_length : (g : ℕ) → length (spelling (empty_content g)) ≡ 17
-unfolding number_text
-empty_length g = ap (λ (n : ℕ). suc (suc (suc (suc (suc n))))) (rest_length g)
 
 no_limit : (g : ℕ) → PassesLimit (empty_content g) → ⊥
 no_limit g (inl lt) = omega (arith, empty_length g, lt)

@@ -33,8 +33,8 @@ use Rattle.recovery.specs.Found.{AreGates, AreOdd, Found, IsFound}
 use Rattle.recovery.specs.Phases.{IsRedone}
 use Rattle.recovery.specs.Promise.{RecoversAlike}
 use Rattle.recovery.proofs.Applied.{same_asked}
-use Rattle.recovery.proofs.Cleared.{none_is_not_some}
 use Rattle.recovery.proofs.Steps.{emptied_has, emptied_outside}
+use Rattle.basics.proofs.Tests.{none_is_not_some}
 
 -- ---- the open groups are applied, and the records of the odd ones are emptied
 

@@ -18,8 +18,10 @@ use Rattle.basics.specs.Members.{Has}
 use Rattle.file_tree.specs.Disk.{HasBelow}
 use Rattle.file_tree.specs.Paths.{is_below}
 use Rattle.tree_mem.specs.Items.{Item, path_cmp, paths, held, front, AllBelow, AllAbove, NoneBelow, IsRising, GoesAt, StandsAt, StartsAt}
-use Rattle.tree_mem.proofs.Order.{AllBelow-front, AllAbove-back, less-irrefl, less-trans, same_bytes, same_path, bytes_eq-same}
-use Rattle.tree_mem.proofs.Held.{around, contains-from_has, has-from_contains, held-found, held-skip, stands}
+use Rattle.tree_mem.proofs.Order.{AllBelow-front, AllAbove-back, less-irrefl, less-trans, same_bytes, same_path}
+use Rattle.tree_mem.proofs.Held.{around, held-found, held-skip, stands}
+use Rattle.basics.proofs.Texts.{bytes_eq-same}
+use Rattle.basics.proofs.Membership.{contains-from_has, has-from_contains}
 
 -- a text that begins with another is that text and a rest
 pub parts : (q x : List ℕ) → starts_with nat_eq q x ≡ true → q ≡ x ++ drop (length x) q

@@ -6,13 +6,14 @@ use Rattle.std.specs.Ordering.{is_eq}
 use Rattle.std.proofs.lemmas.Map.Text.{is_eq-slice_cmp}
 use Rattle.std.proofs.lemmas.List.{get_or_default, set_split, take-append-drop}
 use Rattle.std.proofs.Math.Seq.{split_at}
-use Rattle.std.proofs.lemmas.List.Elements.{Contains-append_cases, Contains-append_left, Contains-append_right, Contains-push, Contains-push_cases}
 use Rattle.std.specs.Prelude.{◌↔◌, Contains}
 use Rattle.basics.specs.Members.{AreDistinct, Has}
 use Rattle.file_tree.specs.Thing.{Thing}
 use Rattle.file_tree.specs.Disk.{with_path}
 use Rattle.tree_mem.specs.Items.{Item, path_cmp, paths, held, AllBelow, AllAbove, IsRising, StandsAt, GoesAt}
-use Rattle.tree_mem.proofs.Order.{less-irrefl, same_bytes, bytes_eq-same, bytes_eq-less, bytes_eq-greater, AllBelow-front, AllAbove-back, IsRising-insert, IsRising-without}
+use Rattle.tree_mem.proofs.Order.{less-irrefl, same_bytes, bytes_eq-less, bytes_eq-greater, AllBelow-front, AllAbove-back, IsRising-insert, IsRising-without}
+use Rattle.basics.proofs.Texts.{bytes_eq-same}
+use Rattle.basics.proofs.Membership.{contains-from_has, has-from_contains}
 
 -- two choices of which at most one applies, in either order
 pub cond-swap : {A : Type 0} (a b : Bool) (x y z : A) → (a ≡ true → b ≡ true → ⊥) → cond a x (cond b y z) ≡ cond b y (cond a x z)
@@ -132,15 +133,6 @@ held-cleared m p h = λ i q. go (bytes_eq p q) q refl i
 -- the item at the place of a path is what the path holds
 pub Some-here : (es : List Item) (p : List ℕ) (at : ℕ) (d : Item) → IsRising es → StandsAt es p at → Some (get_or es at d).1 ≡ held es p
 Some-here es p at d r s = ap (λ (y : Item). Some y.1) (s.here d) ∙ sym (held-found es p at r s)
-
-pub contains-from_has : {A : Type 0} (xs : List A) (x : A) → Has xs x → Contains xs x
-contains-from_has [] x h = absurd h
-contains-from_has (y ∷ xs) x (inl e) = subst (Contains (y ∷ xs)) e (Contains-append_left (y ∷ []) xs y (Contains-push [] y))
-contains-from_has (y ∷ xs) x (inr h) = Contains-append_right (y ∷ []) xs x (contains-from_has xs x h)
-
-pub has-from_contains : {A : Type 0} (xs : List A) (x : A) → Contains xs x → Has xs x
-has-from_contains [] x h = let lt = h.1 in absurd (omega arith)
-has-from_contains (y ∷ xs) x h = elim (Contains-append_cases (y ∷ []) xs x h) [ inl a ↦ elim (Contains-push_cases [] y x a) [ inl n ↦ (let lt = n.1 in absurd (omega arith)) | inr e ↦ inl e ] | inr b ↦ inr (has-from_contains xs x b) ]
 
 -- the items of a list whose paths are distinct are what its map has
 Has-paths : (es : List Item) (p : List ℕ) (x : Thing) → Has es (p, x) → Has (paths es) p

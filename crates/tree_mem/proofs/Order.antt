@@ -1,5 +1,5 @@
 -- The byte order of paths, and lists of items in that order.
-use Rattle.std.proofs.Common.{◌≡◌, ◌∙◌, ℕ, ◌+◌, ◌<◌, suc, true, false, List, [], ◌∷◌, ◌++◌, length, take, drop, get_or, sym, refl, ap, subst}
+use Rattle.std.proofs.Common.{◌≡◌, ◌∙◌, ℕ, ◌+◌, ◌<◌, suc, true, false, List, [], ◌∷◌, ◌++◌, length, take, drop, get_or, sym, ap, subst}
 use Rattle.std.specs.Prelude.{bytes_eq}
 use Rattle.std.specs.declared.cmp.Ordering.TheVariants.{Less, Equal, Greater}
 use Rattle.std.specs.Ordering.{is_eq, ordering_reverse}
@@ -28,9 +28,6 @@ bytes_eq-greater p q h = sym (is_eq-slice_cmp q p) ∙ ap is_eq (nat_list_cmp_to
 
 pub same_bytes : (p q : List ℕ) → bytes_eq p q ≡ true → p ≡ q
 same_bytes p q h = (bytes_eq-Decides p q).0 h
-
-pub bytes_eq-same : (p : List ℕ) → bytes_eq p p ≡ true
-bytes_eq-same p = (bytes_eq-Decides p p).1 refl
 
 pub AllAbove-trans : (p q : List ℕ) (es : List Item) → path_cmp p q ≡ Less → AllAbove q es → AllAbove p es
 AllAbove-trans p q [] h a = tt

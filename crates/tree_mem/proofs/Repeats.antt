@@ -10,8 +10,10 @@ use Rattle.tree_mem.specs.declared.fault.MemFault.{MemFault}
 use Rattle.tree_mem.specs.declared.fault.MemFault.TheVariants.{Twice, Memory}
 use Rattle.tree_mem.specs.Fault.{IsFaultAt, IsMemFault}
 use Rattle.tree_mem.specs.Items.{Item, held, paths}
-use Rattle.tree_mem.proofs.Order.{bytes_eq-same, same_bytes}
-use Rattle.tree_mem.proofs.Held.{cond-swap, contains-from_has}
+use Rattle.tree_mem.proofs.Order.{same_bytes}
+use Rattle.tree_mem.proofs.Held.{cond-swap}
+use Rattle.basics.proofs.Texts.{bytes_eq-same}
+use Rattle.basics.proofs.Membership.{contains-from_has}
 
 pub paths-append : (xs ys : List Item) → paths (xs ++ ys) ≡ paths xs ++ paths ys
 paths-append [] ys = refl

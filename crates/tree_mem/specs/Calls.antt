@@ -1,5 +1,5 @@
 -- The counts of a memory tree or sink, and which of its calls fail.
-use Rattle.std.specs.Prelude.{ℕ, ◌+◌, ◌-◌, ◌^◌, ◌||◌, min, nat_le, Bool, false, cond, Option, Some, None}
+use Rattle.std.specs.Prelude.{ℕ, ◌+◌, ◌-◌, ◌^◌, ◌||◌, min, nat_le, Bool, false, Option, Some, None, if◌then◌else◌}
 use Rattle.std.specs.BTreeSet.{contains}
 use Rattle.std.specs.Ordering.{nat_cmp}
 use Rattle.tree_mem.specs.declared.calls.Calls.{Calls}
@@ -19,9 +19,8 @@ abbrev pub counted : Bool → Bool → Counts → Counts
 counted failed refused c =
     record {
       calls = one_more c.calls;
-      faults = cond failed
-          (one_more c.faults) c.faults;
-      refused = cond refused (one_more c.refused) c.refused;
+      faults = if failed then one_more c.faults else c.faults;
+      refused = if refused then one_more c.refused else c.refused;
     }
 
 -- calls from this one on

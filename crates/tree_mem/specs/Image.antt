@@ -1,5 +1,5 @@
 -- What a crash may leave of a memory tree, by a choice for some of its touched paths.
-use Rattle.std.specs.Prelude.{◌≡◌, ℕ, Bool, true, false, List, [], ◌∷◌, ◌++◌, Option}
+use Rattle.std.specs.Prelude.{◌≡◌, ℕ, Bool, true, false, List, [], ◌∷◌, ◌++◌, Option, ⊤}
 use Rattle.file_tree.specs.Thing.{Thing}
 use Rattle.file_tree.specs.Disk.{Map, with_path}
 use Rattle.tree_mem.specs.declared.fault.ImageFault.{ImageFault}
@@ -16,7 +16,7 @@ chosen (w ∷ ws) m = chosen ws (with_path m w.0 w.1)
 
 -- each path of the wishes passes the test
 abbrev pub AllTouched : (List ℕ → Bool) → List Wish → Type 0
-AllTouched touched [] = Unit {0}
+AllTouched touched [] = ⊤
 AllTouched touched (w ∷ ws) = (touched w.0 ≡ true) × AllTouched touched ws
 
 -- p is the first path of the wishes that is not touched
@@ -30,4 +30,4 @@ pub record IsFirstUntouched (touched : List ℕ → Bool) (ws : List Wish) (p : 
 
 abbrev pub IsImageFault : (List ℕ → Bool) → List Wish → ImageFault → Type 0
 IsImageFault touched ws (NotTouched p) = IsFirstUntouched touched ws p
-IsImageFault touched ws Memory = Unit {0}
+IsImageFault touched ws Memory = ⊤

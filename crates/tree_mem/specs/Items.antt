@@ -1,5 +1,5 @@
 -- Objects with their paths, in byte order, as a map.
-use Rattle.std.specs.Prelude.{◌≡◌, ℕ, cond, List, [], ◌∷◌, ◌++◌, Some, None, bytes_eq, nat_eq, Contains, ◌<◌, ◌≤◌, length, take, drop, slice_index_or}
+use Rattle.std.specs.Prelude.{◌≡◌, ℕ, List, [], ◌∷◌, ◌++◌, Some, None, bytes_eq, nat_eq, Contains, ◌<◌, ◌≤◌, length, take, drop, slice_index_or, ⊤, if◌then◌else◌}
 use Rattle.std.specs.declared.cmp.Ordering.{Ordering}
 use Rattle.std.specs.declared.cmp.Ordering.TheVariants.{Less}
 use Rattle.std.specs.Cmp.Lexicographic.{slice_cmp}
@@ -25,26 +25,26 @@ paths (e ∷ es) = e.0 ∷ paths es
 -- the map that a list of items is: what the first item with a path has
 abbrev pub held : List Item → Map
 held [] = λ q. None
-held (e ∷ es) = λ q. cond (bytes_eq e.0 q) (Some e.1) (held es q)
+held (e ∷ es) = λ q. if bytes_eq e.0 q then Some e.1 else held es q
 
 -- each path of the list comes before p
 abbrev pub AllBelow : List ℕ → List Item → Type 0
-AllBelow p [] = Unit {0}
+AllBelow p [] = ⊤
 AllBelow p (e ∷ es) = (path_cmp e.0 p ≡ Less) × AllBelow p es
 
 -- each path of the list comes after p
 abbrev pub AllAbove : List ℕ → List Item → Type 0
-AllAbove p [] = Unit {0}
+AllAbove p [] = ⊤
 AllAbove p (e ∷ es) = (path_cmp p e.0 ≡ Less) × AllAbove p es
 
 -- no path of the list comes before p
 abbrev pub NoneBelow : List ℕ → List Item → Type 0
-NoneBelow p [] = Unit {0}
-NoneBelow p (e ∷ es) = (path_cmp e.0 p ≡ Less → ⊥) × NoneBelow p es
+NoneBelow p [] = ⊤
+NoneBelow p (e ∷ es) = (¬ (path_cmp e.0 p ≡ Less)) × NoneBelow p es
 
 -- each path comes before those behind it
 abbrev pub IsRising : List Item → Type 0
-IsRising [] = Unit {0}
+IsRising [] = ⊤
 IsRising (e ∷ es) = AllAbove e.0 es × IsRising es
 
 -- a rising list rises in one way
@@ -77,7 +77,7 @@ pub record StartsAt (es : List Item) (text : List ℕ) (at : ℕ) : Type 0 where
 -- the paths at the front of a list that begin with the text
 abbrev pub front : List ℕ → List Item → List (List ℕ)
 front text [] = []
-front text (e ∷ es) = cond (starts_with nat_eq e.0 text) (e.0 ∷ front text es) []
+front text (e ∷ es) = if starts_with nat_eq e.0 text then e.0 ∷ front text es else []
 
 -- p is the first path that stands in the list a second time: those before it are distinct, and it
 -- is one of them

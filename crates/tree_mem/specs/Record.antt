@@ -1,5 +1,5 @@
 -- The record of what a disk was asked to change, from which each earlier state is read.
-use Rattle.std.specs.Prelude.{ℕ, Bool, cond, List, [], ◌∷◌, ◌++◌, bytes_eq, reverse}
+use Rattle.std.specs.Prelude.{ℕ, Bool, List, [], ◌∷◌, ◌++◌, bytes_eq, reverse, if◌then◌else◌}
 use Rattle.std.specs.List.{list_any}
 use Rattle.std.specs.BTreeMap.{is_at}
 use Rattle.file_tree.specs.Disk.{Disk, Story, with_path}
@@ -17,9 +17,9 @@ disk_of es touched = record { holds = held es; touched = is_among touched }
 -- the disk before a change
 abbrev pub undo : Change → Disk → Disk
 undo (Wrote p old was) d =
-    record { holds = with_path d.holds p old; touched = λ q. cond (bytes_eq p q) was (d.touched q) }
+    record { holds = with_path d.holds p old; touched = λ q. if bytes_eq p q then was else d.touched q }
 undo (Touched p was) d =
-    record { holds = d.holds; touched = λ q. cond (bytes_eq p q) was (d.touched q) }
+    record { holds = d.holds; touched = λ q. if bytes_eq p q then was else d.touched q }
 undo (Synced touched) d = record { holds = d.holds; touched = is_among touched.keys }
 
 -- the disks before these changes, the last of which comes first

@@ -205,7 +205,7 @@ impl Tree for MemTree {
         ensures listed { IsTrue (next_fails self.old) → IsErrOf result TreeFault.Failed }
         ensures failed { IsErrOf result TreeFault.Failed → FailsAt self.old path.now self.new }
         ensures memory { IsErrOf result TreeFault.Memory → mem_story self.new ≡ mem_story self.old }
-        ensures counts { (IsErrOf result TreeFault.Failed → ⊥) → CountsOk self.old self.new }
+        ensures counts { (¬ IsErrOf result TreeFault.Failed) → CountsOk self.old self.new }
         ensures plan { SameFailures self.old self.new }
         ensures faults { CountsFault (IsErrOf result TreeFault.Failed) (fault_count self.old)
             (fault_count self.new) }
@@ -220,7 +220,7 @@ impl Tree for MemTree {
     }
 
     fn place(&mut self, from: &Path, to: &Path) -> Result<(), Failed>
-        requires differ { from.now ≡ to.now → ⊥ }
+        requires differ { ¬ (from.now ≡ to.now) }
         requires there { IsSome (mem_holds self.old from.now) }
         ensures ok { OnOk result (mem_story self.new ≡
             with_write (mem_story self.old) to.now (mem_holds self.old from.now)) }
