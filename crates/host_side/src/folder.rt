@@ -67,7 +67,7 @@ impl Folder {
     }
 
     /// What stands at a path whose parts above are folders.
-    fn at(&self, path: &str) -> io::Result<Found> {
+    pub fn at(&self, path: &str) -> io::Result<Found> {
         match fs::symlink_metadata(&self.rt, self.name_of(path)?) {
             Ok(metadata) => Ok(found_by(&metadata)),
             Err(error) if error.kind() == io::ErrorKind::NotFound => Ok(Found::Nothing),

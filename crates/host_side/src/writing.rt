@@ -54,7 +54,7 @@ pub fn remove(folder: &Folder, changes: &mut Changes, path: &str) -> io::Result<
     prune(folder, changes, path)
 }
 
-/// Makes the folders above a path, and room for a spare object beside it.
+/// Makes the folders above a path, the highest first, and room for a spare object beside it.
 fn prepare(folder: &Folder, changes: &mut Changes, path: &str) -> io::Result<Site> {
     for (at, byte) in path.as_bytes().iter().enumerate() {
         if *byte == b'/' {
@@ -67,9 +67,10 @@ fn prepare(folder: &Folder, changes: &mut Changes, path: &str) -> io::Result<Sit
     Ok(site)
 }
 
-/// Makes a folder, if none is there. It has its mode before it has its name.
+/// Makes a folder whose parts above are folders, if none is there. It has its mode before it has its
+/// name.
 fn make_folder(folder: &Folder, changes: &mut Changes, path: &str) -> io::Result<()> {
-    match folder.find(path)? {
+    match folder.at(path)? {
         Found::Folder => return Ok(()),
         Found::Nothing => {}
         _ => return Err(not_a_folder()),

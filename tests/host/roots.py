@@ -1,0 +1,331 @@
+"""Roots with a repository and an image, runs of the program on them, and what is left there."""
+import hashlib
+import os
+import re
+import shutil
+import stat
+import struct
+import subprocess
+import tempfile
+
+# where the roots are made, and the program; set by what imports this
+WORK = PROGRAM = None
+TOP = os.path.dirname(os.path.dirname(os.path.dirname(os.path.abspath(__file__))))
+CACHE = "var/db/repos/gentoo/metadata/md5-cache"
+ENTRY = "EAPI=8\nKEYWORDS=amd64\nSLOT=0\n_md5_=d41d8cd98f00b204e9800998ecf8427e\n"
+JOURNAL = "var/lib/portage/jobs"
+HELLO = "app-misc/hello-2.12"
+HELLO_FILE = "usr/share/hello/greeting"
+HELLO_TEXT = b"Hello, world!\n"
+SPARE = ".emerge ->new"
+PLAIN, EXEC, LINK = 0, 1, 2
+MODES = {PLAIN: 0o644, EXEC: 0o755}
+LARGE = 100_000
+DONE = f"done 1 +{HELLO}\nemerge: ok 1\n"
+
+
+class Wrong(Exception):
+    """What a test found."""
+
+
+class Skipped(Exception):
+    """Why a test can't be run here."""
+
+
+def expect(fact, message):
+    if not fact:
+        raise Wrong(message)
+
+
+def write(name, data, mode=0o644):
+    os.makedirs(os.path.dirname(name), exist_ok=True)
+    with open(name, "wb") as file:
+        file.write(data)
+    os.chmod(name, mode)
+
+
+def read(name):
+    with open(name, "rb") as file:
+        return file.read()
+
+
+def md5(data):
+    return hashlib.md5(data).hexdigest()
+
+
+def hello(text=HELLO_TEXT):
+    """An image of one file."""
+    return {HELLO_FILE: (PLAIN, text)}
+
+
+def tools(size=100):
+    """An image of files, programs and links in several folders, one file of this size."""
+    return {
+        "etc/tools/tools.conf": (PLAIN, b"colour = none\n"),
+        "usr/bin/tool": (EXEC, b"#!/bin/sh\necho a tool\n"),
+        "usr/bin/tool.sh": (LINK, b"tool"),
+        "usr/bin/tool-2": (LINK, b"../../usr/bin/tool"),
+        "usr/lib/libtool.so": (LINK, b"libtool.so.2"),
+        "usr/lib/libtool.so.2": (EXEC, os.urandom(size)),
+        "usr/lib/nowhere": (LINK, b"/nowhere/at all -> it"),
+        "usr/share/doc/tool/empty": (PLAIN, b""),
+        "usr/share/doc/tool/two words": (PLAIN, b"two words\n"),
+        "usr/share/doc/tool/\u00e9t\u00e9": (PLAIN, b"a name in UTF-8\n"),
+    }
+
+
+def put(name, kind, data):
+    """Makes a file or a link."""
+    if kind == LINK:
+        os.makedirs(os.path.dirname(name), exist_ok=True)
+        os.symlink(data.decode(), name)
+    else:
+        write(name, data, MODES[kind])
+
+
+def contents(image):
+    """The list of what a package owns, as its record shall have it."""
+    lines = []
+    for path in sorted(image, key=str.encode):
+        kind, data = image[path]
+        if kind == LINK:
+            lines.append(f"sym /{path} -> {data.decode()} 0\n")
+        else:
+            lines.append(f"obj /{path} {md5(data)} 0\n")
+    return "".join(lines).encode()
+
+
+class Host:
+    """A folder with a root that has a repository, and the image of its package: of each path a kind
+    and the bytes."""
+
+    def __init__(self, image=None):
+        self.folder = tempfile.mkdtemp(prefix="emerge-host-", dir=WORK)
+        self.root = f"{self.folder}/root"
+        self.images = f"{self.folder}/images"
+        self.entries = hello() if image is None else image
+        write(f"{self.root}/{CACHE}/{HELLO}", ENTRY.encode())
+        write(f"{self.root}/etc/standing", b"stays\n", 0o600)
+        self.image(HELLO, self.entries)
+
+    def at(self, path):
+        return f"{self.root}/{path}"
+
+    def image(self, package, entries):
+        os.makedirs(f"{self.images}/{package}", exist_ok=True)
+        for path, (kind, data) in entries.items():
+            put(f"{self.images}/{package}/{path}", kind, data)
+
+    def words(self, *command, extra=()):
+        host = ["--tree", self.root, "--images", self.images, *extra]
+        return [PROGRAM, *host, *(command or ["app-misc/hello"])]
+
+    def run(self, *command, extra=(), **how):
+        return run(self.words(*command, extra=extra), **how)
+
+    def snapshot(self):
+        """What is below the root: of each name its kind, its mode and its bytes."""
+        found = {}
+        for at, folders, files in os.walk(self.root):
+            for name in folders + files:
+                path = os.path.join(at, name)
+                found[os.path.relpath(path, self.root)] = seen(path)
+        return found
+
+    def objects(self):
+        """What is below the root and is no folder."""
+        return {path: it for path, it in self.snapshot().items() if it[0] in ("file", "link")}
+
+    def check_merged(self):
+        """Fails where the root isn't just as a whole merge leaves it."""
+        self.check_owned()
+        for path, wanted in self.merged().items():
+            found = seen(self.at(path)) if os.path.lexists(self.at(path)) else None
+            expect(found == wanted, f"{path} is {found}")
+            self.check_folders(path)
+        record = set(os.listdir(self.at(f"var/db/pkg/{HELLO}")))
+        expect(record == {"CONTENTS", "EAPI", "SLOT"}, f"the record has {record}")
+        self.check_clean()
+
+    def merged(self):
+        """What the paths of the package and of its record hold after a merge."""
+        record = {"CONTENTS": contents(self.entries), "EAPI": b"8\n", "SLOT": b"0\n"}
+        paths = {f"var/db/pkg/{HELLO}/{name}": (PLAIN, data) for name, data in record.items()}
+        return {path: seen_as(*it) for path, it in {**self.entries, **paths}.items()}
+
+    def check_owned(self):
+        """Fails where a file or link isn't as the record in the tree says."""
+        for line in read(self.at(f"var/db/pkg/{HELLO}/CONTENTS")).decode().splitlines():
+            kind, rest = line.split(" ", 1)
+            if kind == "sym":
+                path, target = rest.removesuffix(" 0").split(" -> ", 1)
+                expect(os.readlink(self.root + path) == target, f"{path} leads elsewhere")
+            else:
+                path, digest, _ = rest.rsplit(" ", 2)
+                expect(md5(read(self.root + path)) == digest, f"{path} has other bytes")
+
+    def check_no_half(self):
+        """Fails where a path of the package holds anything but nothing or what it shall hold."""
+        for path, wanted in self.merged().items():
+            if os.path.lexists(self.at(path)):
+                expect(seen(self.at(path)) == wanted, f"{path} is half written")
+
+    def check_folders(self, path):
+        for above in folders_above(path):
+            if above not in ("var", "var/db"):
+                expect(mode_of(self.at(above)) == 0o755, f"{above} has another mode")
+
+    def check_clean(self):
+        """Fails where a journal or a spare object is left, or what stood there was changed. A run that
+        was killed at its very end may leave empty folders."""
+        left = [it for _, _, files in os.walk(self.at(JOURNAL)) for it in files]
+        expect(not left, f"a journal is left: {left}")
+        spares = [it for it in self.snapshot() if os.path.basename(it) == SPARE]
+        expect(not spares, f"left behind: {spares}")
+        expect(read(self.at("etc/standing")) == b"stays\n", "a file that stood there was changed")
+        expect(mode_of(self.at("etc/standing")) == 0o600, "a mode was changed")
+
+
+def seen(path):
+    mode = os.lstat(path).st_mode
+    if stat.S_ISLNK(mode):
+        return ("link", os.readlink(path))
+    if stat.S_ISREG(mode):
+        return ("file", stat.S_IMODE(mode), read(path))
+    return (stat.S_IFMT(mode), stat.S_IMODE(mode))
+
+
+def seen_as(kind, data):
+    """What is seen of an object of this kind and these bytes."""
+    return ("link", data.decode()) if kind == LINK else ("file", MODES[kind], data)
+
+
+def mode_of(path):
+    return stat.S_IMODE(os.lstat(path).st_mode)
+
+
+def folders_above(path):
+    parts = path.split("/")[:-1]
+    return ["/".join(parts[: at + 1]) for at in range(len(parts))]
+
+
+class Ran:
+    def __init__(self, status, out, err):
+        self.status, self.out, self.err = status, out, err
+
+    def expect(self, status, out=None, err=()):
+        told = f"status {self.status}, said {self.out!r} and {self.err!r}"
+        expect(self.status == status, f"{told}; status {status} is wanted")
+        expect(out is None or self.out == out, f"{told}; {out!r} is wanted")
+        for text in [err] if isinstance(err, str) else err:
+            expect(text in self.err, f"{told}; standard error lacks {text!r}")
+        return self
+
+
+def run(words, path=None, **how):
+    """Runs the words. The path is where programs are looked for first."""
+    env = dict(os.environ)
+    if path:
+        env["PATH"] = f"{path}:{env['PATH']}"
+    ran = subprocess.run(
+        words, env=env, stdin=subprocess.DEVNULL, capture_output=True, timeout=120, **how
+    )
+    return Ran(ran.returncode, ran.stdout.decode(), ran.stderr.decode())
+
+
+def programs(sync):
+    """A folder with a program `sync` of this text."""
+    folder = tempfile.mkdtemp(prefix="programs-", dir=WORK)
+    write(f"{folder}/sync", f"#!/bin/sh\n{sync}\n".encode(), 0o755)
+    return folder
+
+
+def sized(form, data):
+    return struct.pack(form, len(data)) + data
+
+
+def open_journal(host, removals, placements):
+    """Leaves the journal of a stopped run whose group 1 is open: placements are a kind, a path and
+    the bytes."""
+    record = b"EMJR\x01" + struct.pack(">II", 1, len(removals))
+    record += b"".join(sized(">H", it.encode()) for it in removals)
+    record += struct.pack(">I", len(placements))
+    folder = host.at(f"{JOURNAL}/00000001")
+    for at, (kind, path, data) in enumerate(placements):
+        record += struct.pack(">BQ", kind, len(data)) + hashlib.md5(data).digest()
+        record += sized(">H", path.encode())
+        put(f"{folder}/stage/{at:08x}", kind, data)
+    for name, data in (("record", record), ("token", b"\x01"), ("gate", b"\x01")):
+        write(f"{folder}/{name}", data)
+
+
+NAMED = r"\d+<(?P<open>.*?)>|\"(?P<name>.*?)\"(?:, \"(?P<new>.*?)\")?"
+
+
+def system_calls(host, path, names):
+    """The calls of these names that went well in a merge: of each its name and the paths in it."""
+    if not shutil.which("strace"):
+        raise Skipped("strace is not here")
+    log = f"{host.folder}/calls"
+    run(["strace", "-y", "-o", log, "-e", f"trace={names}", *host.words()], path=path).expect(0)
+    found = []
+    for line in read(log).decode().replace("\\76", ">").splitlines():
+        call = re.match(rf"(\w+)\((?:{NAMED}).* = \d+$", line)
+        if call:
+            found.append((call[1], call["open"] or call["name"], call["new"]))
+    return found
+
+
+class Disk:
+    """What of a merge is durable, call by call."""
+
+    def __init__(self):
+        self.files, self.folders = set(), set()
+
+    def take(self, call, name, new):
+        """Takes a call. Fails where a file is renamed whose bytes aren't durable."""
+        if call == "fsync":
+            self.files.discard(name)
+            self.folders.discard(name)
+        elif call in ("write", "fchmod"):
+            self.files.add(name)
+        else:
+            expect(name not in self.files, f"{name} is renamed before its bytes are durable")
+            above = {os.path.dirname(it) for it in (name, new) if it}
+            self.folders = (self.folders | above) - ({name} if call == "rmdir" else set())
+
+    def expect_durable(self, moment):
+        lost = sorted(self.folders)
+        expect(not lost, f"{moment} comes before a sync of {lost}")
+
+
+def moments_of(calls, root):
+    """The calls before which all has to be durable, each with a name: those that place and remove the
+    gate, the first change behind each, and the lines."""
+    gate = f"{root}/{JOURNAL}/00000001/gate"
+    lines, found = 0, {}
+    for at, (call, name, new) in enumerate(calls):
+        if call == "write" and not name.startswith(root):
+            lines += 1
+            found[at] = f"line {lines}"
+        elif call == "rename" and new == gate:
+            found[at] = "the gate"
+        elif call == "unlink" and name == gate:
+            found[at] = "the gate's end"
+        elif call != "fsync" and list(found.values())[-1:] in (["the gate"], ["the gate's end"]):
+            found[at] = "the change behind it"
+    return found
+
+
+def check_durable(host, wanted):
+    """Fails where a merge goes past a moment before all that it did is durable."""
+    calls = system_calls(host, programs("exit 0"), "write,fchmod,fsync,mkdir,rename,unlink,rmdir")
+    moments = moments_of(calls, host.root)
+    found = list(moments.values())
+    expect(found == wanted, f"the moments were {found}")
+    disk = Disk()
+    for at, call in enumerate(calls):
+        if at in moments:
+            disk.expect_durable(moments[at])
+        if not moments.get(at, "").startswith("line"):
+            disk.take(*call)
