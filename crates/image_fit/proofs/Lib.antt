@@ -1,3 +1,4 @@
+pub mod Blocked
 pub mod Judged
 pub mod Parts
 pub mod Ways

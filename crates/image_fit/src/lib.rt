@@ -14,12 +14,14 @@
 //! ```
 #![tactic(auto)]
 
+mod blocks;
 mod fault;
 mod judging;
 mod limits;
 mod paths;
 mod places;
 
+pub use blocks::block_of;
 pub use fault::Misfit;
 pub use judging::judge_image;
 pub use limits::MOST_ENTRIES;

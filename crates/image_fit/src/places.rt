@@ -55,7 +55,7 @@ fn way_of<T: Tree>(alloc: Global, tree: &mut T, path: &Path) -> Result<Option<Pa
 }
 
 /// The part of the path before a slash at a place, where it holds an object.
-fn held_part<T: Tree>(
+pub(crate) fn held_part<T: Tree>(
     alloc: Global,
     tree: &mut T,
     path: &Path,

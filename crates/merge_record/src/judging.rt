@@ -48,8 +48,8 @@ fn read_record<T: Tree>(alloc: Global, tree: &mut T, group: u32) -> Result<Recor
     }
 }
 
-/// Takes a path if it is free.
-fn take_free(
+/// Takes a path if it is free. The journal's folder is handed in.
+pub fn take_free(
     alloc: Global,
     journal: &Path,
     path: &Path,
@@ -65,7 +65,8 @@ fn take_free(
     taken.take(alloc, path)
 }
 
-fn take_paths(
+/// Takes the paths one after the other, until one isn't free.
+pub fn take_paths(
     alloc: Global,
     journal: &Path,
     paths: &[Path],

@@ -30,7 +30,7 @@ mod writing;
 
 pub use digest::digest_of;
 pub use fault::{JudgeFault, RecordFault};
-pub use judging::{judge, judge_all};
+pub use judging::{judge, judge_all, take_free, take_paths};
 pub use laws::{judged_in_form, one_spelling, open_groups_rise, recovered_once};
 pub use limits::{MOST_FILE_BYTES, MOST_GROUP_PATHS, MOST_RECORD_BYTES};
 pub use names::{

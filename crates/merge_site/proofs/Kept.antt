@@ -17,8 +17,8 @@ use Rattle.merge_core.specs.Trail.{Entry, machine_after}
 use Rattle.merge_core.proofs.Trails.{each_event_keeps, machine_on, trail_on}
 use Rattle.merge_site.specs.declared.group.SiteGroup.{SiteGroup}
 use Rattle.merge_core.specs.Core.{standing_in}
-use Rattle.merge_site.proofs.Placed.{IsPlacedAs, is_stage, placed_same}
-use Rattle.merge_site.specs.Site.{AreFresh, AreInStep, HavePaths, IsHeld, IsKept, IsPossible, Payload}
+use Rattle.merge_site.proofs.Placed.{IsPlacedAs, placed_same}
+use Rattle.merge_site.specs.Site.{AreFresh, AreInStep, HavePaths, IsHeld, IsKept, IsPossible, Payload, is_stage}
 
 -- a step that is taken is one that the machine admits
 pub taken_admits : (k : Keeping) (g : ℕ) (s : Step) → g < 2 ^ 32 → IsTaken k g s → Admits (machine_of k) (event_of g s)

@@ -1,4 +1,6 @@
+pub mod Booked
 pub mod Device
+pub mod Judged
 pub mod Kept
 pub mod Lines
 pub mod Opened

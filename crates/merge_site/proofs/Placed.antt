@@ -4,11 +4,7 @@ use Rattle.merge_core.specs.Event.{Abandon, Acknowledge, Admits, Begin, Claim, C
 use Rattle.merge_core.specs.Phase.{Idle}
 use Rattle.merge_core.specs.Roll.{Machine, Roll, Standing, phase_at, set}
 use Rattle.merge_core.proofs.Standings.{by_group}
-
--- an event that stages an object
-abbrev pub is_stage : Event → Bool
-is_stage (PutStage g p o) = true
-is_stage e = false
+use Rattle.merge_site.specs.Site.{is_stage}
 
 -- the standing places what it placed, and nothing where the group hasn't begun
 abbrev pub IsPlacedAs : Roll → ℕ → Standing → Type 0

@@ -1,15 +1,17 @@
 -- What a site shows, and what it promises between two calls.
-use Rattle.std.specs.Prelude.{◌≡◌, ◌⊎◌, ◌<◌, ◌≤◌, ◌-◌, ◌++◌, ◌∷◌, ℕ, zero, suc, Bool, List, [], Some, IsTrue, length, slice_get, take}
+use Rattle.std.specs.Prelude.{◌≡◌, ◌⊎◌, ◌<◌, ◌≤◌, ◌-◌, ◌++◌, ◌∷◌, ℕ, zero, suc, Bool, true, false, List, [], Some, IsTrue, length, replicate, slice_get, take}
 use Rattle.file_tree.specs.Disk.{Disk, Map, Story}
 use Rattle.file_tree.specs.Thing.{Thing}
-use Rattle.journal.specs.Group.{token}
+use Rattle.journal.specs.Group.{covers, token}
 use Rattle.merge_record.specs.Names.{gate_path, record_path, stage_path, token_path}
 use Rattle.merge_core.specs.Core.{standing_in}
-use Rattle.merge_core.specs.Event.{Event, answered, begun}
+use Rattle.owner_book.specs.Book.{Book}
+use Rattle.owner_book.specs.declared.wish.Wish.{Wish}
+use Rattle.merge_core.specs.Event.{Event, PutStage, answered, begun}
 use Rattle.merge_core.specs.Keeping.{Keeping, at_rest, machine_of}
 use Rattle.merge_core.specs.Order.{IsInOrder}
-use Rattle.merge_core.specs.Phase.{Idle}
-use Rattle.merge_core.specs.Roll.{Machine, Stands, idle}
+use Rattle.merge_core.specs.Phase.{Idle, is_live}
+use Rattle.merge_core.specs.Roll.{Machine, Roll, Stands, group_at, idle, phase_at}
 use Rattle.merge_core.specs.Trail.{Entry, Trail, machine_after}
 use Rattle.merge_site.specs.declared.group.SiteGroup.{SiteGroup}
 
@@ -26,11 +28,15 @@ abbrev pub new_payloads : ℕ → List Payload
 new_payloads zero = []
 new_payloads (suc n) = new_payloads n ++ new_payload n ∷ []
 
--- the machine, the events so far, the groups, the tree at the beginning and now, and the sink
+-- the machine, the events so far, the groups and what each wishes, the book and the tree at the
+-- beginning and now, and the sink
 pub record Account (T S : Type 0) : Type 0 where
   pub keeping : Keeping
   pub events : List Entry
   pub groups : List SiteGroup
+  pub wishes : List (List Wish)
+  pub opened_book : Book
+  pub book : Book
   pub opened : T
   pub tree : T
   pub sink : S
@@ -53,6 +59,11 @@ pub record IsPossible (keeping : Keeping) : Type 0 where
   pub opening : Map
   pub disk : Disk
   pub order : IsInOrder opening (machine_of keeping) disk
+
+-- no path is one of two groups under way
+abbrev pub AreApart : Roll → Type 0
+AreApart r = (g h : ℕ) (q : List ℕ) → is_live (phase_at r g) ≡ true → is_live (phase_at r h) ≡ true →
+    covers (group_at r g) q ≡ true → covers (group_at r h) q ≡ true → g ≡ h
 
 -- each group has its own number
 abbrev pub AreNumbered : List Payload → Type 0
@@ -85,19 +96,29 @@ pub record IsKept (tells : Bool) (keeping : Keeping) (events : List Entry) (grou
   pub possible : IsPossible keeping
   pub held : IsTrue tells → IsHeld keeping events start now
 
--- one event more: the machine goes on as it says
+-- an event that stages an object
+abbrev pub is_stage : Event → Bool
+is_stage (PutStage g p o) = true
+is_stage e = false
+
+-- one event more: the machine goes on as it says, and a group wishes more only where it stages
 pub record Adds {T S : Type 0} (old new : Account T S) (e : Event) (ok : Bool) : Type 0 where
   pub events : new.events ≡ old.events ++ (e, ok) ∷ []
   pub machine : machine_of new.keeping ≡ answered (machine_of old.keeping) e ok
   pub count : length new.keeping.standings ≡ length old.keeping.standings
   pub groups : new.groups ≡ old.groups
+  pub wishes : is_stage e ≡ false → new.wishes ≡ old.wishes
+  pub opened_book : new.opened_book ≡ old.opened_book
   pub opened : new.opened ≡ old.opened
 
--- no event came
+-- no event came, and the book is as it was
 pub record KeepsHistory {T S : Type 0} (old new : Account T S) : Type 0 where
   pub keeping : new.keeping ≡ old.keeping
   pub events : new.events ≡ old.events
   pub groups : new.groups ≡ old.groups
+  pub wishes : new.wishes ≡ old.wishes
+  pub opened_book : new.opened_book ≡ old.opened_book
+  pub book : new.book ≡ old.book
   pub opened : new.opened ≡ old.opened
 
 -- the line of a group was written, or where that failed a part of it
@@ -123,9 +144,13 @@ pub record AreFilesOf (group : ℕ) (gate changes token : List ℕ) (stages : Li
   pub of_token : token ≡ token_path group
   pub of_stages : (i : ℕ) → i < length stages → slice_get stages i ≡ Some (stage_path group i)
 
--- a site of these groups, none of which has begun
-pub record IsOpened {T S : Type 0} (a : Account T S) (groups : List SiteGroup) : Type 0 where
+-- a site over this book, of these groups, none of which has begun or wishes anything
+pub record IsOpened {T S : Type 0} (a : Account T S) (b : Book) (groups : List SiteGroup) :
+    Type 0 where
   pub keeping : a.keeping ≡ at_rest (length groups)
   pub events : a.events ≡ []
   pub brings : a.groups ≡ groups
+  pub wishes : a.wishes ≡ replicate (length groups) []
+  pub opened_book : a.opened_book ≡ b
+  pub book : a.book ≡ b
   pub opened : a.opened ≡ a.tree

@@ -10,7 +10,7 @@ use file_tree::{Failed, Sink, Tree};
 use merge_core::Step;
 
 impl<T: Tree, S: Sink> Site<T, S> {
-    /// Makes the closed gate of a group durable.
+    /// Makes the closed gate of a group durable, and its claim what is owned.
     pub fn sync_closed(&mut self, group: u32) -> Result<(), Failed>
         requires taken { IsTaken self.old.keeping group Step.SyncClosed }
         ensures event { Adds self.old self.new (SyncClosed group) (is_ok result) }
@@ -29,6 +29,9 @@ impl<T: Tree, S: Sink> Site<T, S> {
             Step::SyncClosed,
             ok,
         );
+        if ok {
+            self.book.settle(group);
+        }
         answer
     }
 

@@ -1,5 +1,7 @@
+use file_tree::Path;
+use image_fit::Misfit;
 use merge_core::Refusal;
-use owner_book::ImageBad;
+use owner_book::{ClaimFault, Collision, ImageBad};
 use std::alloc::AllocError;
 use thiserror::Error;
 
@@ -54,4 +56,64 @@ pub enum StageFault {
     Limit,
     #[error("out of memory")]
     Memory,
+}
+
+/// Why a group's claim wasn't granted.
+#[derive(Debug, Drop, Error)]
+pub enum ClaimStop {
+    #[error("the device failed")]
+    Device,
+    #[error(transparent)]
+    Collision(Collision),
+    #[error(transparent)]
+    Image(ImageBad),
+    /// The first removal of the record that no package that goes owns, or that a claim has.
+    #[error("a path may not be removed")]
+    Removal { path: Path },
+    /// A path of the record stands twice in it, or meets the journal.
+    #[error("the paths of a record overlap, or meet the journal")]
+    Overlap,
+    #[error("too many paths")]
+    Limit,
+    #[error("out of memory")]
+    Memory,
+}
+
+impl From<AllocError> for ClaimStop {
+    ghost use Rattle.std.specs.Prelude.{◌≡◌};
+    ghost use Rattle.merge_site.specs.declared.fault.ClaimStop.TheVariants as stops;
+
+    ghost from_gives = { λ _ s. s ≡ stops.Memory };
+
+    fn from(_: AllocError) -> ClaimStop {
+        ClaimStop::Memory
+    }
+}
+
+impl ClaimStop {
+    ghost use Rattle.std.specs.Prelude.{◌≡◌};
+    ghost use Rattle.image_fit.specs.Misfits.{IsFault};
+    ghost use Rattle.merge_site.specs.Stopping.{stop_of, stop_at};
+
+    /// What a refusal of the book is.
+    pub(crate) fn of(fault: ClaimFault) -> ClaimStop
+        ensures { result ≡ stop_of fault }
+    {
+        match fault {
+            ClaimFault::Image(bad) => ClaimStop::Image(bad),
+            ClaimFault::Collision(collision) => ClaimStop::Collision(collision),
+            ClaimFault::Limit => ClaimStop::Limit,
+            ClaimFault::Memory => ClaimStop::Memory,
+        }
+    }
+
+    /// What a look that failed is.
+    pub(crate) fn at(misfit: Misfit) -> ClaimStop
+        ensures { result ≡ stop_at misfit }
+    {
+        match misfit {
+            Misfit::Failed => ClaimStop::Device,
+            _ => ClaimStop::Memory,
+        }
+    }
 }

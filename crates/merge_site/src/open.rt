@@ -1,16 +1,19 @@
-ghost use Rattle.std.specs.Prelude.{◌≡◌, ◌<◌, ◌^◌, IfErr, IfOk, IsTrue, length};
+ghost use Rattle.std.specs.Prelude.{◌≡◌, ◌<◌, ◌^◌, [], IfErr, IfOk, IsTrue, length, replicate};
 ghost use Rattle.journal.specs.Group.{token};
 ghost use Rattle.merge_core.specs.Keeping.{at_rest, machine_of};
 ghost use Rattle.merge_core.specs.Roll.{idle};
 ghost use Rattle.merge_core.specs.Trail.{IsAtRest};
+ghost use Rattle.merge_site.specs.Booking.{lists_of};
 ghost use Rattle.merge_site.specs.Site.{IsOpened, new_payloads};
 
 use crate::group::SiteGroup;
 use crate::job::Job;
 use crate::site::Site;
+use crate::wishes::new_wishes;
 use file_tree::{Kind, Object, Sink, Tree};
 use http_server::Log;
 use merge_core::Core;
+use owner_book::{OwnerBook, Wish};
 use std::alloc::{AllocError, Global};
 use std::snapshot::Snapshot;
 
@@ -38,6 +41,7 @@ fn new_mark(alloc: Global) -> Result<Object, AllocError>
 struct Parts {
     core: Core,
     jobs: Vec<Job>,
+    wishes: Vec<Vec<Wish>>,
     mark: Object,
 }
 
@@ -45,26 +49,35 @@ fn new_parts(alloc: Global, count: u32) -> Result<Parts, AllocError>
     ensures rest { IfOk result (λ p. p.core ≡ at_rest count) }
     ensures machine { IfOk result (λ p. machine_of p.core ≡ idle) }
     ensures jobs { IfOk result (λ p. p.jobs.items ≡ new_payloads count) }
+    ensures wishes { IfOk result (λ p. lists_of p.wishes.items ≡ replicate count []) }
     ensures mark { IfOk result (λ p. p.mark ≡ token) }
 {
     let core = Core::new(alloc, count)?;
     let jobs = new_jobs(alloc, count)?;
+    let wishes = new_wishes(alloc, count)?;
     let mark = new_mark(alloc)?;
-    Ok(Parts { core, jobs, mark })
+    Ok(Parts {
+        core,
+        jobs,
+        wishes,
+        mark,
+    })
 }
 
 impl<T: Tree, S: Sink> Site<T, S> {
-    /// Opens a site over a tree at rest. Where memory runs out, the
+    /// Opens a site over a tree at rest and the book of its packages. Where memory runs out, the
     /// tree and the sink come back.
     pub fn open(
         alloc: Global,
         tree: T,
         sink: S,
+        book: OwnerBook,
         groups: Vec<SiteGroup>,
     ) -> Result<Site<T, S>, (AllocError, T, S)>
         requires small { length groups.items < 2 ^ 32 }
         requires rest { IsTrue T.tells → IsAtRest (T.story tree).now.holds (T.story tree).now }
-        ensures opened { IfOk result (λ s. IsOpened s groups.items) }
+        requires unclaimed { book.claims ≡ [] }
+        ensures opened { IfOk result (λ s. IsOpened s book groups.items) }
         ensures tree { IfOk result (λ s. s.tree ≡ tree) }
         ensures sink { IfOk result (λ s. s.sink ≡ sink) }
         ensures back { IfErr result (λ r. (r.1 ≡ tree) × (r.2 ≡ sink)) }
@@ -73,7 +86,13 @@ impl<T: Tree, S: Sink> Site<T, S> {
             Ok(parts) => parts,
             Err(failed) => return Err((failed, tree, sink)),
         };
-        let Parts { core, jobs, mark } = parts;
+        let Parts {
+            core,
+            jobs,
+            wishes,
+            mark,
+        } = parts;
+        let opened_book = Snapshot::of(&book);
         let opened = Snapshot::of(&tree);
         let log = Log::new();
         Ok(Site {
@@ -83,6 +102,9 @@ impl<T: Tree, S: Sink> Site<T, S> {
             core,
             groups,
             jobs,
+            wishes,
+            book,
+            opened_book,
             mark,
             opened,
             log,

@@ -4,7 +4,8 @@ ghost use Rattle.merge_core.specs.Keeping.{machine_of};
 ghost use Rattle.merge_core.specs.Phases.{phase_of};
 ghost use Rattle.merge_core.specs.Roll.{Stands, idle, phase_at};
 ghost use Rattle.merge_core.specs.Trail.{machine_after};
-ghost use Rattle.merge_site.specs.Site.{IsHeld, StoodDuring, placements_left};
+ghost use Rattle.merge_site.specs.Booking.{IsBooked};
+ghost use Rattle.merge_site.specs.Site.{AreApart, IsHeld, StoodDuring, placements_left};
 ghost use Rattle.merge_site.specs.Site.{removals_left};
 
 use crate::site::Site;
@@ -48,6 +49,9 @@ impl<T: Tree, S: Sink> Site<T, S> {
             (machine_of self.now.keeping).roll) (T.story self.now.tree).now }
         ensures moments { IsTrue T.tells → Since (StoodDuring (T.story self.now.opened).now.holds idle
             self.now.events) (T.story self.now.opened) (T.story self.now.tree) }
+        ensures apart { AreApart (machine_of self.now.keeping).roll }
+        ensures booked { IsBooked self.now.keeping self.now.events self.now.wishes
+            self.now.opened_book self.now.book }
     {
         let _groups = self.core.groups();
     }
@@ -65,6 +69,9 @@ impl<T: Tree, S: Sink> Site<T, S> {
             core,
             groups: _,
             jobs: _,
+            wishes: _,
+            book: _,
+            opened_book: _,
             mark: _,
             opened: _,
             log: _,

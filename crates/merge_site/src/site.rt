@@ -19,12 +19,14 @@ use file_tree::{Object, Path, Sink, Tree};
 use http_server::Log;
 use merge_core::{Core, Phase, Refusal, Step};
 use merge_record::Placement;
+use owner_book::{OwnerBook, Wish};
 use std::alloc::{AllocError, Global};
 use std::marker::Model;
 use std::snapshot::Snapshot;
 
 /// A tree on which groups are merged through the journal, event by event. In clauses, its account:
-/// the machine, the events so far, the tree at the beginning and now, and the sink.
+/// the machine, the events so far, what each group wishes, the book and the tree at the beginning
+/// and now, and the sink.
 #[derive(Drop)]
 pub struct Site<T: Tree, S: Sink> {
     pub(crate) alloc: Global,
@@ -33,12 +35,16 @@ pub struct Site<T: Tree, S: Sink> {
     pub(crate) core: Core,
     pub(crate) groups: Vec<SiteGroup>,
     pub(crate) jobs: Vec<Job>,
+    pub(crate) wishes: Vec<Vec<Wish>>,
+    pub(crate) book: OwnerBook,
+    pub(crate) opened_book: Snapshot<OwnerBook>,
     pub(crate) mark: Object,
     pub(crate) opened: Snapshot<T>,
     pub(crate) log: Log<Happened, bool>,
 }
 
 impl<T: Tree, S: Sink> Model for Site<T, S> {
+    ghost use Rattle.merge_site.specs.Booking.{IsBooked, lists_of};
     ghost use Rattle.merge_site.specs.Site.{Account, IsKept};
 
     ghost Value = { Account T S };
@@ -47,13 +53,17 @@ impl<T: Tree, S: Sink> Model for Site<T, S> {
       keeping = s.core;
       events = s.log.items;
       groups = s.groups.items;
+      wishes = lists_of s.wishes.items;
+      opened_book = s.opened_book.value;
+      book = s.book;
       opened = s.opened.value;
       tree = s.tree;
       sink = s.sink;
     } };
 
     ghost invariant = { λ s. IsKept T.tells s.core s.log.items s.groups.items
-        s.jobs.items (T.story s.opened.value) (T.story s.tree) s.mark };
+        s.jobs.items (T.story s.opened.value) (T.story s.tree) s.mark ×
+        IsBooked s.core s.log.items (lists_of s.wishes.items) s.opened_book.value s.book };
 }
 
 /// Takes a step that may come into the machine and the log. It takes no memory.

@@ -3,6 +3,7 @@ ghost use Rattle.std.specs.Prelude.{OnErr, OnOk, length, slice_get};
 ghost use Rattle.file_tree.specs.Disk.{CountsFault};
 ghost use Rattle.merge_core.specs.Event.{PutStage};
 ghost use Rattle.merge_core.specs.Payloads.{IsAt};
+ghost use Rattle.merge_site.specs.Booking.{wish_for, with_wish};
 ghost use Rattle.merge_site.specs.Site.{Adds, KeepsHistory, Payload};
 ghost use Rattle.merge_site.specs.Staging.{HasMore, HasPast, IsStageFault, MayStage};
 ghost use Rattle.merge_site.specs.Staging.{placement_of};
@@ -10,10 +11,11 @@ ghost use Rattle.merge_site.specs.Staging.{placement_of};
 use crate::fault::StageFault;
 use crate::job::Job;
 use crate::site::{Site, enter_stage};
+use crate::wishes::{add_wish, drop_wish};
 use file_tree::{Entry, Object, Path, Sink, Tree};
 use image_fit::{bad_by, is_good};
 use merge_core::Phase;
-use merge_record::{MOST_GROUP_PATHS, Placement, digest_of};
+use merge_record::{MOST_GROUP_PATHS, OwnerKey, Placement, digest_of};
 use std::alloc::{AllocError, Global};
 
 /// How a record tells the object that a path is to hold.
@@ -39,14 +41,24 @@ fn make_place(jobs: &mut Vec<Job>, alloc: Global, group: u32, index: u32) -> Res
 }
 
 impl<T: Tree, S: Sink> Site<T, S> {
-    /// Puts the object of an entry as the group's next stage. A rule that refuses the entry is told
-    /// before the device is asked; then, and where memory runs out, no event came.
-    pub fn stage(&mut self, group: u32, entry: Entry) -> Result<(), StageFault>
+    /// Puts the object of an entry as the group's next stage, and takes the wish for its path: who is
+    /// to own it, and whether it is a file of the package's own folder. A rule that refuses the entry is
+    /// told before the device is asked; then, and where memory runs out, no event came.
+    pub fn stage(
+        &mut self,
+        group: u32,
+        owner: OwnerKey,
+        folder: bool,
+        entry: Entry,
+    ) -> Result<(), StageFault>
         requires at { IsAt self.old.keeping group Phase.Building }
         ensures ok { OnOk result
             (Adds self.old self.new (PutStage group (placement_of entry) entry.object) true) }
         ensures failed { IsErrOf result StageFault.Device →
             Adds self.old self.new (PutStage group (placement_of entry) entry.object) false }
+        ensures wishes { OnOk result (self.new.wishes ≡
+            with_wish self.old.wishes group (wish_for owner folder entry)) }
+        ensures unwished { OnErr result (self.new.wishes ≡ self.old.wishes) }
         ensures taken { OnOk result (MayStage self.old.keeping group entry) }
         ensures refused { IfErr result (IsStageFault self.old.keeping group entry) }
         ensures kept { ¬ IsErrOf result StageFault.Device →
@@ -68,8 +80,11 @@ impl<T: Tree, S: Sink> Site<T, S> {
         if make_place(&mut self.jobs, self.alloc, group, staged as u32).is_err() {
             return Err(StageFault::Memory);
         }
-        let place = self.jobs[group as usize].stage(staged);
         let Entry { path, object } = entry;
+        if add_wish(&mut self.wishes, group, &path, owner, folder).is_err() {
+            return Err(StageFault::Memory);
+        }
+        let place = self.jobs[group as usize].stage(staged);
         let placement = placement_of(path, &object);
         let answer = enter_stage(
             &mut self.tree,
@@ -82,8 +97,14 @@ impl<T: Tree, S: Sink> Site<T, S> {
         );
         match answer {
             Ok(true) => Ok(()),
-            Ok(false) => Err(StageFault::Device),
-            Err(_) => Err(StageFault::Memory),
+            Ok(false) => {
+                drop_wish(&mut self.wishes, group);
+                Err(StageFault::Device)
+            }
+            Err(_) => {
+                drop_wish(&mut self.wishes, group);
+                Err(StageFault::Memory)
+            }
         }
     }
 }

@@ -1,16 +1,14 @@
-ghost use Rattle.std.specs.Prelude.{◌≡◌, true, is_ok, IsErr, OnErr, OnOk};
+ghost use Rattle.std.specs.Prelude.{◌≡◌, true, is_ok, IsErr};
 ghost use Rattle.file_tree.specs.Disk.{CountsFault};
-ghost use Rattle.merge_core.specs.Event.{Abandon, Begin, Claim, CloseGate, SyncGate};
+ghost use Rattle.merge_core.specs.Event.{Abandon, Begin, CloseGate, SyncGate};
 ghost use Rattle.merge_core.specs.Event.{SyncPlaced, SyncSealed};
-ghost use Rattle.merge_core.specs.Keeping.{machine_of};
-ghost use Rattle.merge_core.specs.Payloads.{IsApart, IsAt};
 ghost use Rattle.merge_core.specs.Steps.{IsTaken};
 ghost use Rattle.merge_site.specs.Site.{Adds};
 
 use crate::calls;
-use crate::site::{Site, enter, enter_claim};
+use crate::site::{Site, enter};
 use file_tree::{Failed, Sink, Tree};
-use merge_core::{Phase, Step};
+use merge_core::Step;
 
 impl<T: Tree, S: Sink> Site<T, S> {
     /// A group begins.
@@ -67,18 +65,6 @@ impl<T: Tree, S: Sink> Site<T, S> {
             ok,
         );
         answer
-    }
-
-    /// Takes the claim of a sealed group: its gate may be opened from here on. That its paths are
-    /// free is for whoever keeps the ownership book.
-    pub fn claim(&mut self, group: u32)
-        requires at { IsAt self.old.keeping group Phase.Sealed }
-        requires apart { IsApart (machine_of self.old.keeping).roll group }
-        ensures event { Adds self.old self.new (Claim group) true }
-        ensures sink { self.new.sink ≡ self.old.sink }
-        ensures tree { self.new.tree ≡ self.old.tree }
-    {
-        enter_claim(&mut self.core, &mut self.log, group);
     }
 
     /// Makes the opened gate of a group durable.

@@ -6,7 +6,9 @@ use Rattle.merge_core.specs.Keeping.{Keeping, machine_of}
 use Rattle.merge_core.specs.Payloads.{IsAt}
 use Rattle.merge_core.specs.Site.{Performs}
 use Rattle.merge_core.specs.declared.phase.Phase.TheVariants as phases
+use Rattle.merge_site.specs.Booking.{IsBooked, lists_of}
 use Rattle.merge_site.specs.Site.{IsKept}
+use Rattle.merge_site.proofs.Booked.{booked_on}
 use Rattle.merge_site.proofs.Kept.{kept_on}
 use Rattle.merge_site.proofs.site.Site.put_record.Goals as goal
 
@@ -19,14 +21,18 @@ invariant_of-self-in-Ok-answer g c =
     let removals = c.in-Ok.spelled.0.items in
     let e = PutRecord c.args.group removals in
     let same = sym c.spell_record.ensures.kept in
-    let kept = subst (λ (x : Keeping). IsKept g.T.Tree.tells x c.self.inside.log.items c.self.inside.groups.items c.self.inside.jobs.items start old c.self.inside.mark) same c.self.invariant in
+    let kept = subst (λ (x : Keeping). IsKept g.T.Tree.tells x c.self.inside.log.items c.self.inside.groups.items c.self.inside.jobs.items start old c.self.inside.mark) same c.self.invariant.0 in
     let at = subst (λ (x : Keeping). IsAt x c.args.group phases.Building) same (subst (λ a. IsAt a.keeping c.args.group phases.Building) (sym c.self.view_is) c.requires.at) in
     let spelled = subst (λ (x : Keeping). c.in-Ok.spelled.1 ≡ plain (spelling (put_content (machine_of x) c.args.group removals))) same
     (subst (λ (l : List (List ℕ)). c.in-Ok.spelled.1 ≡ plain (spelling (put_content (machine_of c.self.inside.core) c.args.group l))) (sym c.in-Ok.ensures.removals) c.in-Ok.ensures.object) in
-    kept_on g.T.Tree.tells k c.enter_record.new.core c.self.inside.log.items c.enter_record.new.log.items c.self.inside.groups.items c.self.inside.jobs.items
-    start old new c.self.inside.mark e c.is_ok-ok.result refl kept (inl at.running.1) c.enter_record.ensures.admitted
-    (λ t. subst (λ b. Performs (machine_of k) e b old new) (sym c.is_ok-ok.ensures.value) (c.put_record-answer.ensures.performs t (machine_of k) removals spelled))
-    c.enter_record.ensures.machine c.enter_record.ensures.groups c.enter_record.ensures.log
+    let booked = subst (λ (x : Keeping). IsBooked x c.self.inside.log.items (lists_of c.self.inside.wishes.items) c.self.inside.opened_book.value c.self.inside.book) same c.self.invariant.1 in (
+      kept_on g.T.Tree.tells k c.enter_record.new.core c.self.inside.log.items c.enter_record.new.log.items c.self.inside.groups.items c.self.inside.jobs.items
+          start old new c.self.inside.mark e c.is_ok-ok.result refl kept (inl at.running.1) c.enter_record.ensures.admitted
+          (λ t. subst (λ b. Performs (machine_of k) e b old new) (sym c.is_ok-ok.ensures.value) (c.put_record-answer.ensures.performs t (machine_of k) removals spelled))
+          c.enter_record.ensures.machine c.enter_record.ensures.groups c.enter_record.ensures.log,
+      booked_on k c.enter_record.new.core c.self.inside.log.items c.enter_record.new.log.items (lists_of c.self.inside.wishes.items) c.self.inside.opened_book.value c.self.inside.book e c.is_ok-ok.result refl
+          kept.step.fresh booked c.enter_record.ensures.admitted c.enter_record.ensures.machine c.enter_record.ensures.groups c.enter_record.ensures.log,
+    )
 
 pub invariant_of-self-2 : goal.invariant_of-self-2
 invariant_of-self-2 g c =
@@ -37,11 +43,15 @@ invariant_of-self-2 g c =
     let removals = c.in-Ok.spelled.0.items in
     let e = PutRecord c.args.group removals in
     let same = sym c.spell_record.ensures.kept in
-    let kept = subst (λ (x : Keeping). IsKept g.T.Tree.tells x c.self.inside.log.items c.self.inside.groups.items c.self.inside.jobs.items start old c.self.inside.mark) same c.self.invariant in
+    let kept = subst (λ (x : Keeping). IsKept g.T.Tree.tells x c.self.inside.log.items c.self.inside.groups.items c.self.inside.jobs.items start old c.self.inside.mark) same c.self.invariant.0 in
     let at = subst (λ (x : Keeping). IsAt x c.args.group phases.Building) same (subst (λ a. IsAt a.keeping c.args.group phases.Building) (sym c.self.view_is) c.requires.at) in
     let spelled = subst (λ (x : Keeping). c.in-Ok.spelled.1 ≡ plain (spelling (put_content (machine_of x) c.args.group removals))) same
     (subst (λ (l : List (List ℕ)). c.in-Ok.spelled.1 ≡ plain (spelling (put_content (machine_of c.self.inside.core) c.args.group l))) (sym c.in-Ok.ensures.removals) c.in-Ok.ensures.object) in
-    kept_on g.T.Tree.tells k c.enter_record.new.core c.self.inside.log.items c.enter_record.new.log.items c.self.inside.groups.items c.self.inside.jobs.items
-    start old new c.self.inside.mark e c.is_ok-ok.result refl kept (inl at.running.1) c.enter_record.ensures.admitted
-    (λ t. subst (λ b. Performs (machine_of k) e b old new) (sym c.is_ok-ok.ensures.value) (c.put_record-answer.ensures.performs t (machine_of k) removals spelled))
-    c.enter_record.ensures.machine c.enter_record.ensures.groups c.enter_record.ensures.log
+    let booked = subst (λ (x : Keeping). IsBooked x c.self.inside.log.items (lists_of c.self.inside.wishes.items) c.self.inside.opened_book.value c.self.inside.book) same c.self.invariant.1 in (
+      kept_on g.T.Tree.tells k c.enter_record.new.core c.self.inside.log.items c.enter_record.new.log.items c.self.inside.groups.items c.self.inside.jobs.items
+          start old new c.self.inside.mark e c.is_ok-ok.result refl kept (inl at.running.1) c.enter_record.ensures.admitted
+          (λ t. subst (λ b. Performs (machine_of k) e b old new) (sym c.is_ok-ok.ensures.value) (c.put_record-answer.ensures.performs t (machine_of k) removals spelled))
+          c.enter_record.ensures.machine c.enter_record.ensures.groups c.enter_record.ensures.log,
+      booked_on k c.enter_record.new.core c.self.inside.log.items c.enter_record.new.log.items (lists_of c.self.inside.wishes.items) c.self.inside.opened_book.value c.self.inside.book e c.is_ok-ok.result refl
+          kept.step.fresh booked c.enter_record.ensures.admitted c.enter_record.ensures.machine c.enter_record.ensures.groups c.enter_record.ensures.log,
+    )

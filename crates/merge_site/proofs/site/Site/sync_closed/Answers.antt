@@ -1,8 +1,12 @@
-use Rattle.std.proofs.Common.{◌<◌, ◌^◌, arith, subst, sym}
+use Rattle.std.proofs.Common.{◌≡◌, ◌<◌, ◌++◌, ◌∷◌, ◌^◌, [], Bool, List, not, true, ap, arith, subst, sym}
 use Rattle.merge_core.specs.Keeping.{machine_of}
 use Rattle.merge_core.specs.Steps.{IsTaken, event_of}
 use Rattle.merge_core.specs.declared.step.Step.TheVariants as steps
-use Rattle.merge_site.proofs.Kept.{kept_step}
+use Rattle.merge_site.specs.Booking.{lists_of}
+use Rattle.merge_site.proofs.Booked.{booked_on, booked_settle}
+use Rattle.merge_site.proofs.Kept.{kept_step, taken_admits}
+use Rattle.merge_core.specs.Event.{SyncClosed, answered}
+use Rattle.merge_core.specs.Trail as trails
 use Rattle.merge_core.specs.Site.{Performs}
 use Rattle.merge_site.proofs.site.Site.sync_closed.Goals as goal
 
@@ -10,8 +14,25 @@ pub invariant_of-self : goal.invariant_of-self
 invariant_of-self g c =
     let k = c.self.inside.core in
     let small : c.args.group < 2 ^ 32 = omega arith in
-    let taken : IsTaken k c.args.group steps.SyncClosed = subst (λ a. IsTaken a.keeping c.args.group steps.SyncClosed) (sym c.self.view_is) c.requires.taken in
-    kept_step g.T.Tree.tells k c.enter.new.core c.self.inside.log.items c.enter.new.log.items c.self.inside.groups.items c.self.inside.jobs.items
-    (g.T.Tree.story c.self.inside.opened.value) (g.T.Tree.story c.self.inside.tree) (g.T.Tree.story c.sync_group-answer.new.tree) c.self.inside.mark c.args.group steps.SyncClosed c.is_ok-ok.result small c.self.invariant taken
-    (λ t. subst (λ b. Performs (machine_of k) (event_of c.args.group steps.SyncClosed) b (g.T.Tree.story c.self.inside.tree) (g.T.Tree.story c.sync_group-answer.new.tree)) (sym c.is_ok-ok.ensures.value) (c.sync_group-answer.ensures.closed t (machine_of k) (sym (c.needs_sync-needs.ensures.there taken.comes.0))))
-    c.enter.ensures.machine c.enter.ensures.groups c.enter.ensures.log
+    let taken : IsTaken k c.args.group steps.SyncClosed = subst (λ a. IsTaken a.keeping c.args.group steps.SyncClosed) (sym c.self.view_is) c.requires.taken in (
+      kept_step g.T.Tree.tells k c.enter.new.core c.self.inside.log.items c.enter.new.log.items c.self.inside.groups.items c.self.inside.jobs.items
+          (g.T.Tree.story c.self.inside.opened.value) (g.T.Tree.story c.self.inside.tree) (g.T.Tree.story c.sync_group-answer.new.tree) c.self.inside.mark c.args.group steps.SyncClosed c.is_ok-ok.result small c.self.invariant.0 taken
+          (λ t. subst (λ b. Performs (machine_of k) (event_of c.args.group steps.SyncClosed) b (g.T.Tree.story c.self.inside.tree) (g.T.Tree.story c.sync_group-answer.new.tree)) (sym c.is_ok-ok.ensures.value) (c.sync_group-answer.ensures.closed t (machine_of k) (sym (c.needs_sync-needs.ensures.there taken.comes.0))))
+          c.enter.ensures.machine c.enter.ensures.groups c.enter.ensures.log,
+      booked_settle k c.enter.new.core c.self.inside.log.items c.enter.new.log.items (lists_of c.self.inside.wishes.items) c.self.inside.opened_book.value c.self.inside.book c.settle.new.self c.args.group c.self.invariant.1 taken.phase
+          (subst (λ (b : Bool). machine_of c.enter.new.core ≡ answered (machine_of k) (SyncClosed c.args.group) b) c.if-ok.true c.enter.ensures.machine) c.enter.ensures.groups
+          (subst (λ (b : Bool). c.enter.new.log.items ≡ c.self.inside.log.items ++ (SyncClosed c.args.group, b) ∷ []) c.if-ok.true c.enter.ensures.log) c.settle.ensures.owners c.settle.ensures.claims,
+    )
+
+pub invariant_of-self-else-ok : goal.invariant_of-self-else-ok
+invariant_of-self-else-ok g c =
+    let k = c.self.inside.core in
+    let small : c.args.group < 2 ^ 32 = omega arith in
+    let taken : IsTaken k c.args.group steps.SyncClosed = subst (λ a. IsTaken a.keeping c.args.group steps.SyncClosed) (sym c.self.view_is) c.requires.taken in (
+      kept_step g.T.Tree.tells k c.enter.new.core c.self.inside.log.items c.enter.new.log.items c.self.inside.groups.items c.self.inside.jobs.items
+          (g.T.Tree.story c.self.inside.opened.value) (g.T.Tree.story c.self.inside.tree) (g.T.Tree.story c.sync_group-answer.new.tree) c.self.inside.mark c.args.group steps.SyncClosed c.is_ok-ok.result small c.self.invariant.0 taken
+          (λ t. subst (λ b. Performs (machine_of k) (event_of c.args.group steps.SyncClosed) b (g.T.Tree.story c.self.inside.tree) (g.T.Tree.story c.sync_group-answer.new.tree)) (sym c.is_ok-ok.ensures.value) (c.sync_group-answer.ensures.closed t (machine_of k) (sym (c.needs_sync-needs.ensures.there taken.comes.0))))
+          c.enter.ensures.machine c.enter.ensures.groups c.enter.ensures.log,
+      booked_on k c.enter.new.core c.self.inside.log.items c.enter.new.log.items (lists_of c.self.inside.wishes.items) c.self.inside.opened_book.value c.self.inside.book (SyncClosed c.args.group) c.is_ok-ok.result (ap not c.if-ok.false)
+          c.self.invariant.0.step.fresh c.self.invariant.1 (taken_admits k c.args.group steps.SyncClosed small taken) c.enter.ensures.machine c.enter.ensures.groups c.enter.ensures.log,
+    )

@@ -1,0 +1,41 @@
+-- What the book's refusals and a look's failures are to a claim.
+use Rattle.std.specs.Prelude.{◌≡◌, true, false, [], List, ℕ}
+use Rattle.image_fit.specs.declared.fault.Misfit.{Misfit}
+use Rattle.image_fit.specs.declared.fault.Misfit.TheVariants as misfits
+use Rattle.merge_record.specs.Judging.{are_free}
+use Rattle.owner_book.specs.declared.fault.ClaimFault.{ClaimFault}
+use Rattle.owner_book.specs.declared.fault.ClaimFault.TheVariants as claims
+use Rattle.owner_book.specs.declared.fault.Collision.TheVariants as collisions
+use Rattle.merge_site.specs.declared.fault.ClaimStop.{ClaimStop}
+use Rattle.merge_site.specs.declared.fault.ClaimStop.TheVariants as stops
+
+abbrev pub stop_of : ClaimFault → ClaimStop
+stop_of (claims.Image b) = stops.Image b
+stop_of (claims.Collision c) = stops.Collision c
+stop_of claims.Limit = stops.Limit
+stop_of claims.Memory = stops.Memory
+
+abbrev pub stop_at : Misfit → ClaimStop
+stop_at misfits.Failed = stops.Device
+stop_at m = stops.Memory
+
+-- how a claim is stopped that the book has taken: by the paths of the record, else by the tree
+abbrev pub LateStops : List (List ℕ) → ClaimStop → Type 0
+LateStops ps stops.Overlap = are_free [] ps ≡ false
+LateStops ps stops.Device = are_free [] ps ≡ true
+LateStops ps (stops.Collision (collisions.Unowned p)) = are_free [] ps ≡ true
+LateStops ps stops.Memory = Unit {0}
+LateStops ps s = ⊥
+
+-- how the book stops one
+abbrev pub EarlyStops : ClaimStop → Type 0
+EarlyStops stops.Device = ⊥
+EarlyStops (stops.Collision (collisions.Unowned p)) = ⊥
+EarlyStops s = Unit {0}
+
+-- how a look stops one
+abbrev pub LookStops : ClaimStop → Type 0
+LookStops stops.Device = Unit {0}
+LookStops (stops.Collision (collisions.Unowned p)) = Unit {0}
+LookStops stops.Memory = Unit {0}
+LookStops s = ⊥
