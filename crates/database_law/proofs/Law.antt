@@ -11,7 +11,7 @@ use Rattle.merge_record.specs.Judging.{is_in, meets_jobs}
 use Rattle.merge_record.specs.Names.{jobs}
 use Rattle.merge_record.specs.declared.record.Placement.{Placement}
 use Rattle.merge_record.proofs.Form.{has_if_in, in_if_has}
-use Rattle.database_law.specs.Contents.{is_dropped, meets}
+use Rattle.contents_text.specs.Contents.{is_dropped, meets, path_of}
 use Rattle.database_law.specs.Database.{Holds, IsCounted, IsDatabase, IsKept, IsOf, folder}
 use Rattle.database_law.specs.Fields.{Folder, Says}
 use Rattle.dep_atom.specs.Ids.{IsId, id_text}
@@ -20,7 +20,10 @@ use Rattle.dep_atom.proofs.Joined.{ComesApart}
 use Rattle.vdb_text.specs.Files.{database_path, record_path}
 use Rattle.vdb_text.proofs.Packages.{OneSpelling, one_id}
 use Rattle.journal.specs.Group.{Group, applied, with_group, with_groups, with_placements}
-use Rattle.database_law.specs.Packages.{Content, Installed, Owned, file, id_of, link, path_of, paths}
+use Rattle.contents_text.specs.declared.owned.Content.{Content}
+use Rattle.contents_text.specs.declared.owned.Content.TheVariants.{File, Link}
+use Rattle.contents_text.specs.declared.owned.Owned.{Owned}
+use Rattle.database_law.specs.Packages.{Installed, id_of, paths}
 use Rattle.database_law.specs.Step.{GroupKeepsDatabase, GroupsKeepDatabase, IsAfter, IsApart, IsStep, Puts, Removes, Stays, groups_of, put}
 use Rattle.database_law.proofs.Places.{cases_option, counted_below, counted_dropped, counted_of, counted_outside, mark, none_is_not_some, one_of_rising, path_free, says_mark, some_is}
 
@@ -75,8 +78,8 @@ dropped_if_jobs q h =
     (or_parts (is_below jobs q) (is_below q jobs) rest).0
 
 holds_some : (x : Option Thing) (c : Content) → Holds x c → IsSome x
-holds_some x (file digest) h = some_is x h.0 h.1
-holds_some x (link target) h = some_is x _ h
+holds_some x (File digest) h = some_is x h.0 h.1
+holds_some x (Link target) h = some_is x _ h
 
 module _ (comes : ComesApart) (spells : OneSpelling) (m : Map) (ps added qs : List Installed) (gone : Installed → Bool) (does : Group)
     (db : IsDatabase m ps) (kept : IsKept m ps) (removes : Removes m ps gone does) (puts : Puts added does) (free : IsApart m ps gone added does) (after : IsAfter ps gone added qs) where

@@ -13,7 +13,7 @@ use Rattle.file_tree.specs.Paths.{is_below}
 use Rattle.file_tree.specs.Thing.{Thing}
 use Rattle.merge_record.specs.Names.{jobs}
 use Rattle.pms_names.specs.Flags.{IsRising, byte_order}
-use Rattle.database_law.specs.Contents.{TellsOwned, Line, is_dropped, obj, sym as link_line, dir, owned_by, owned_in, unless_dropped}
+use Rattle.contents_text.specs.Contents.{TellsOwned, Line, is_dropped, obj, sym as link_line, dir, owned_by, owned_in, path_of, unless_dropped}
 use Rattle.database_law.specs.Database.{IsCounted, IsFolderName, folder_name, has_slash, is_skipped}
 use Rattle.database_law.specs.Fields.{Folder, Says, contents, field_text, name_of, text_of}
 use Rattle.dep_atom.specs.Ids.{IsId, name_and_version}
@@ -25,7 +25,9 @@ use Rattle.pms_names.specs.Names.{IsName}
 use Rattle.pms_names.specs.declared.kind.Kind.TheVariants.{Category, Package}
 use Rattle.version_text.specs.Grammar.{spelling}
 use Rattle.vdb_text.specs.Files.{database_path, record_path}
-use Rattle.database_law.specs.Packages.{Installed, Owned, file, link, path_of, paths}
+use Rattle.contents_text.specs.declared.owned.Content.TheVariants.{File, Link}
+use Rattle.contents_text.specs.declared.owned.Owned.{Owned}
+use Rattle.database_law.specs.Packages.{Installed, paths}
 
 pub cases_option : {A : Type 0} (o : Option A) → (o ≡ None) ⊎ ((x : A) × (o ≡ Some x))
 cases_option None = inl refl
@@ -109,8 +111,8 @@ unless_free x o false e has =
     elim h [ inl same ↦ ap (λ (y : Owned). is_dropped y.path) (sym same) ∙ e | inr none ↦ absurd none ]
 
 line_free : (l : Line) (o : Owned) → Has (owned_by l) o → is_dropped o.path ≡ false
-line_free (obj path digest time) o has = unless_free (record { path = path; content = file digest }) o (is_dropped path) refl has
-line_free (link_line path target time) o has = unless_free (record { path = path; content = link target }) o (is_dropped path) refl has
+line_free (obj path digest time) o has = unless_free (record { path = path; content = File digest }) o (is_dropped path) refl has
+line_free (link_line path target time) o has = unless_free (record { path = path; content = Link target }) o (is_dropped path) refl has
 line_free (dir path) o has = absurd has
 
 lines_free : (ls : List Line) (o : Owned) → Has (owned_in ls) o → is_dropped o.path ≡ false

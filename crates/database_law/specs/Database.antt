@@ -9,10 +9,13 @@ use Rattle.dep_atom.specs.declared.package.PackageId.{PackageId}
 use Rattle.file_tree.specs.Disk.{Map}
 use Rattle.file_tree.specs.Paths.{is_below}
 use Rattle.file_tree.specs.Thing.{Thing}
-use Rattle.file_tree.specs.declared.objects.Kind.TheVariants.{Link}
+use Rattle.file_tree.specs.declared.objects.Kind.TheVariants as kinds
 use Rattle.vdb_text.specs.Files.{record_path}
 use Rattle.database_law.specs.Fields.{Folder, Says, is_file}
-use Rattle.database_law.specs.Packages.{Content, Installed, Owned, file, id_of, link, paths}
+use Rattle.contents_text.specs.declared.owned.Content.{Content}
+use Rattle.contents_text.specs.declared.owned.Content.TheVariants.{File, Link}
+use Rattle.contents_text.specs.declared.owned.Owned.{Owned}
+use Rattle.database_law.specs.Packages.{Installed, id_of, paths}
 
 -- the package's own folder
 abbrev pub folder : Map → PackageId → Folder
@@ -56,9 +59,9 @@ pub record IsDatabase (m : Map) (ps : List Installed) : Type 0 where
 
 -- an object is as it was recorded
 abbrev pub Holds : Option Thing → Content → Type 0
-Holds x (file digest) =
+Holds x (File digest) =
     (t : Thing) × (x ≡ Some t) × ((is_file t.kind ≡ true) × (md5 t.bytes ≡ digest))
-Holds x (link target) = x ≡ Some (record { kind = Link; bytes = target })
+Holds x (Link target) = x ≡ Some (record { kind = kinds.Link; bytes = target })
 
 -- no path has two owners, and none is above another
 pub record IsTidy (ps : List Installed) : Type 0 where

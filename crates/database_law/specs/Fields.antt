@@ -20,7 +20,7 @@ use Rattle.file_tree.specs.declared.objects.Kind.TheVariants.{Exec, Link, Plain}
 use Rattle.pkg_state.specs.Package.{tree_of}
 use Rattle.pkg_state.specs.declared.class.Class.{Class}
 use Rattle.pkg_state.specs.declared.class.Class.TheVariants.{Bdepend, Depend, Idepend, Pdepend, Rdepend}
-use Rattle.database_law.specs.Contents.{TellsOwned}
+use Rattle.contents_text.specs.Contents.{TellsOwned}
 use Rattle.database_law.specs.Packages.{Installed}
 
 -- what the files of a folder hold, by what is written behind the folder's slash

@@ -1,5 +1,4 @@
 pub mod Packages
-pub mod Contents
 pub mod Fields
 pub mod Database
 pub mod Step

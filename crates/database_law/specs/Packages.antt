@@ -2,18 +2,8 @@
 use Rattle.std.specs.Prelude.{ℕ, List, map}
 use Rattle.dep_atom.specs.declared.package.PackageId.{PackageId}
 use Rattle.pkg_state.specs.Package.{Package}
-
--- what a package recorded of one of its paths: the MD5 of a file, or the target of a link
-pub data Content : Type 0 where
-  file : List ℕ → Content
-  link : List ℕ → Content
-
-pub record Owned : Type 0 where
-  pub path : List ℕ
-  pub content : Content
-
-abbrev pub path_of : Owned → List ℕ
-path_of o = o.path
+use Rattle.contents_text.specs.Contents.{path_of}
+use Rattle.contents_text.specs.declared.owned.Owned.{Owned}
 
 pub record Installed : Type 0 where
   pub package_is : Package

@@ -9,7 +9,8 @@ use Rattle.journal.specs.Group.{Group, applied, with_placements}
 use Rattle.vdb_text.specs.Files.{database_path}
 use Rattle.database_law.specs.Database.{Holds, IsDatabase, IsKept, IsOf, folder, folder_name}
 use Rattle.database_law.specs.Fields.{Says}
-use Rattle.database_law.specs.Packages.{Installed, Owned, id_of, paths}
+use Rattle.contents_text.specs.declared.owned.Owned.{Owned}
+use Rattle.database_law.specs.Packages.{Installed, id_of, paths}
 
 -- what the group puts at each path
 abbrev pub put : Group → Map

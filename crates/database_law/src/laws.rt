@@ -1,5 +1,3 @@
-ghost use Rattle.database_law.specs.Contents.{ContentsAreReadBack, GoodHasNoFault, OneContents};
-ghost use Rattle.database_law.specs.Contents.{OneFault};
 ghost use Rattle.database_law.specs.Step.{GroupKeepsDatabase, GroupsKeepDatabase, SomeAfter};
 
 /// A law: groups that are steps take a kept tree with a database to a kept tree with the database
@@ -12,12 +10,3 @@ pub fn groups_keep_the_database()
     version_text::one_name_and_version();
     version_text::one_spelling();
 }
-
-/// A law on CONTENTS: what is written is read back, a text says one list, and its first faulty line
-/// is one.
-pub fn contents_are_read_back()
-    ensures back { ContentsAreReadBack }
-    ensures one { OneContents }
-    ensures good { GoodHasNoFault }
-    ensures fault { OneFault }
-{}

@@ -5,10 +5,9 @@
 //! the paths that it recorded, and a group as the journal does.
 //!
 //! **Proved**: a group that is a fitting step takes a kept tree with a database to a kept tree with
-//! the database after it, and so does any number of them. What is written into CONTENTS is read
-//! back, a text of it tells one list of paths, and at most one line is its first faulty one.
+//! the database after it, and so does any number of them.
 #![tactic(auto)]
 
 mod laws;
 
-pub use laws::{contents_are_read_back, groups_keep_the_database};
+pub use laws::groups_keep_the_database;

@@ -15,8 +15,11 @@ use Rattle.file_tree.proofs.Grammar.{form_of_path}
 use Rattle.std.specs.Str.{is_utf8}
 use Rattle.link_target.specs.Targets.{is_target, is_target_byte, most_bytes}
 use Rattle.merge_record.specs.Spelling.{IsPathText}
-use Rattle.database_law.specs.Contents.{AreLines, GoodHasNoFault, OneFault, ContentsAreReadBack, OneContents, IsContent, IsFaultyLine, IsLine, IsOwnable, Line, Repeats, before_lines, contents_text, dir, is_dropped, line_of, line_text, lines, obj, owned_by, owned_in, sym as link_line, unless_dropped, written_line}
-use Rattle.database_law.specs.Packages.{Content, Owned, file, link, path_of}
+use Rattle.contents_text.specs.Contents.{AreLines, GoodHasNoFault, OneFault, ContentsAreReadBack, OneContents, IsContent, IsFaultyLine, IsLine, IsOwnable, Line, Repeats, before_lines, contents_text, dir, is_dropped, is_time, line_of, line_text, lines, obj, owned_by, owned_in, sym as link_line, path_of, unless_dropped, written_line}
+use Rattle.contents_text.specs.Cuts.{HasNoSpace}
+use Rattle.contents_text.specs.declared.owned.Content.{Content}
+use Rattle.contents_text.specs.declared.owned.Content.TheVariants.{File, Link}
+use Rattle.contents_text.specs.declared.owned.Owned.{Owned}
 
 -- no arrow begins anywhere in the text
 abbrev pub LacksArrow : List ℕ → Type 0
@@ -52,10 +55,7 @@ one_line-append (x ∷ a) b h k =
 digit_lacks : (b : ℕ) → is_digit b ≡ true → ((b == 10) ≡ false) × ((b == 32) ≡ false)
 digit_lacks b h = (grind (arith, nat_tests), grind (arith, nat_tests))
 
-abbrev pub HasNoSpace : List ℕ → Type 0
-HasNoSpace l = list_any (λ b. b == 32) l ≡ false
-
-digits_lack : (t : List ℕ) → list_all is_digit t ≡ true → IsOneLine t × HasNoSpace t
+pub digits_lack : (t : List ℕ) → list_all is_digit t ≡ true → IsOneLine t × HasNoSpace t
 digits_lack [] h = (refl, refl)
 digits_lack (b ∷ t) h =
     let both = and_parts (is_digit b) (list_all is_digit t) h in
@@ -63,7 +63,10 @@ digits_lack (b ∷ t) h =
     let later = digits_lack t both.1 in
     (or_from (b == 10) (list_any (λ c. c == 10) t) here.0 later.0, or_from (b == 32) (list_any (λ c. c == 32) t) here.1 later.1)
 
-has_space : (b u : List ℕ) → HasNoSpace (b ++ (32 ∷ u)) → ⊥
+pub time_lacks : (t : List ℕ) → is_time t ≡ true → IsOneLine t × HasNoSpace t
+time_lacks t is = digits_lack t (and_parts (nat_lt 0 (length t)) (list_all is_digit t) is).1
+
+pub has_space : (b u : List ℕ) → HasNoSpace (b ++ (32 ∷ u)) → ⊥
 has_space [] u h = cc h
 has_space (x ∷ b) u h = has_space b u (or_parts (x == 32) (list_any (λ c. c == 32) (b ++ (32 ∷ u))) h).1
 
@@ -129,7 +132,7 @@ table_lacks [] n h k = (refl, refl)
 table_lacks (b ∷ t) zero h k = ((or_parts (b == 10) (list_any (λ c. c == 10) t) h).0, (or_parts (b == 32) (list_any (λ c. c == 32) t) k).0)
 table_lacks (b ∷ t) (suc n) h k = table_lacks t n (or_parts (b == 10) (list_any (λ c. c == 10) t) h).1 (or_parts (b == 32) (list_any (λ c. c == 32) t) k).1
 
-hex_lacks : (d : List ℕ) → IsOneLine (encode_lower d) × HasNoSpace (encode_lower d)
+pub hex_lacks : (d : List ℕ) → IsOneLine (encode_lower d) × HasNoSpace (encode_lower d)
 unfolding encode_with
 hex_lacks [] = (refl, refl)
 hex_lacks (b ∷ d) =
@@ -157,25 +160,31 @@ target_lacks t h =
     let clean = (and_parts (nat_le (length t) most_bytes) (list_all is_target_byte t && is_utf8 t) behind).1 in
     bytes_lack t (and_parts (list_all is_target_byte t) (is_utf8 t) clean).0
 
+pub target_is_text : (t : List ℕ) → is_target t ≡ true → is_utf8 t ≡ true
+target_is_text t h =
+    let behind = (and_parts (nat_lt 0 (length t)) (nat_le (length t) most_bytes && (list_all is_target_byte t && is_utf8 t)) h).1 in
+    let clean = (and_parts (nat_le (length t) most_bytes) (list_all is_target_byte t && is_utf8 t) behind).1 in
+    (and_parts (list_all is_target_byte t) (is_utf8 t) clean).1
+
 -- no line has a newline in it
 line_is_one : (l : Line) → IsLine l → IsOneLine (line_text l)
 line_is_one (obj path digest time) is =
     one_line-append (codes "obj /") (path ++ (32 ∷ (encode_lower digest ++ (32 ∷ time)))) refl
     (one_line-append path (32 ∷ (encode_lower digest ++ (32 ∷ time))) (path_lacks path is.0).1
-    (one_line-append (encode_lower digest) (32 ∷ time) (hex_lacks digest).0 (digits_lack time is.1.1.digits).0))
+    (one_line-append (encode_lower digest) (32 ∷ time) (hex_lacks digest).0 (time_lacks time is.1.1).0))
 line_is_one (link_line path target time) is =
     one_line-append (codes "sym /") (path ++ (codes " -> " ++ (target ++ (32 ∷ time)))) refl
     (one_line-append path (codes " -> " ++ (target ++ (32 ∷ time))) (path_lacks path is.0).1
-    (one_line-append target (32 ∷ time) (target_lacks target is.1.0) (digits_lack time is.1.1.digits).0))
+    (one_line-append target (32 ∷ time) (target_lacks target is.1.0) (time_lacks time is.1.1).0))
 line_is_one (dir path) is = one_line-append (codes "dir /") path refl (path_lacks path is).1
 
 line_good : (path : List ℕ) (c : Content) → IsPathText path → IsContent c → IsLine (line_of path c)
-line_good path (file digest) is good = (is, (good, record { some = omega arith; digits = refl }))
-line_good path (link target) is good = (is, (good, record { some = omega arith; digits = refl }))
+line_good path (File digest) is good = (is, (good, refl))
+line_good path (Link target) is good = (is, (good, refl))
 
 owned_again : (path : List ℕ) (c : Content) → is_dropped path ≡ false → owned_by (line_of path c) ≡ record { path = path; content = c } ∷ []
-owned_again path (file digest) free = let o : Owned = record { path = path; content = file digest } in ap (λ (b : Bool). cond b [] (o ∷ [])) free
-owned_again path (link target) free = let o : Owned = record { path = path; content = link target } in ap (λ (b : Bool). cond b [] (o ∷ [])) free
+owned_again path (File digest) free = let o : Owned = record { path = path; content = File digest } in ap (λ (b : Bool). cond b [] (o ∷ [])) free
+owned_again path (Link target) free = let o : Owned = record { path = path; content = Link target } in ap (λ (b : Bool). cond b [] (o ∷ [])) free
 
 all_owned_again : (os : List Owned) → AllByRecursion IsOwnable os → owned_in (map written_line os) ≡ os
 all_owned_again [] h = refl
@@ -201,19 +210,19 @@ read_back os good once =
     record { ls = map written_line os; are = are; means = sym again }
 
 -- a line's text says one line
-line_once : (l k : Line) → IsLine l → IsLine k → line_text l ≡ line_text k → owned_by l ≡ owned_by k
+pub line_once : (l k : Line) → IsLine l → IsLine k → line_text l ≡ line_text k → owned_by l ≡ owned_by k
 line_once (obj p d t) (obj q e u) a b same =
     let rest = append_cancel_left (codes "obj /") (p ++ (32 ∷ (encode_lower d ++ (32 ∷ t)))) (q ++ (32 ∷ (encode_lower e ++ (32 ∷ u)))) same in
-    let ends = cut_last (p ++ (32 ∷ encode_lower d)) (q ++ (32 ∷ encode_lower e)) t u (digits_lack t a.1.1.digits).1 (digits_lack u b.1.1.digits).1
+    let ends = cut_last (p ++ (32 ∷ encode_lower d)) (q ++ (32 ∷ encode_lower e)) t u (time_lacks t a.1.1).1 (time_lacks u b.1.1).1
     (append_assoc p (32 ∷ encode_lower d) (32 ∷ t) ∙ rest ∙ sym (append_assoc q (32 ∷ encode_lower e) (32 ∷ u))) in
     let middles = cut_last p q (encode_lower d) (encode_lower e) (hex_lacks d).1 (hex_lacks e).1 ends.0 in
     let digests : d ≡ e = (let f : ◌≡◌ {A = Result (List ℕ) _} (Ok d) (Ok e) = sym (decode_of-encode_lower d a.1.0.bytes) ∙ ap decode_of middles.1 ∙ decode_of-encode_lower e b.1.0.bytes in cc) in
-    ap (λ (path : List ℕ). unless_dropped (record { path = path; content = file d })) middles.0 ∙ ap (λ (x : List ℕ). unless_dropped (record { path = q; content = file x })) digests
+    ap (λ (path : List ℕ). unless_dropped (record { path = path; content = File d })) middles.0 ∙ ap (λ (x : List ℕ). unless_dropped (record { path = q; content = File x })) digests
 line_once (link_line p d t) (link_line q e u) a b same =
     let rest = append_cancel_left (codes "sym /") (p ++ (codes " -> " ++ (d ++ (32 ∷ t)))) (q ++ (codes " -> " ++ (e ++ (32 ∷ u)))) same in
     let fronts = cut_arrow p q (d ++ (32 ∷ t)) (e ++ (32 ∷ u)) (path_lacks p a.0).0 (path_lacks q b.0).0 rest in
-    let ends = cut_last d e t u (digits_lack t a.1.1.digits).1 (digits_lack u b.1.1.digits).1 fronts.1 in
-    ap (λ (path : List ℕ). unless_dropped (record { path = path; content = link d })) fronts.0 ∙ ap (λ (x : List ℕ). unless_dropped (record { path = q; content = link x })) ends.0
+    let ends = cut_last d e t u (time_lacks t a.1.1).1 (time_lacks u b.1.1).1 fronts.1 in
+    ap (λ (path : List ℕ). unless_dropped (record { path = path; content = Link d })) fronts.0 ∙ ap (λ (x : List ℕ). unless_dropped (record { path = q; content = Link x })) ends.0
 line_once (dir p) (dir q) a b same = refl
 line_once (obj p d t) (link_line q e u) a b same = let f : 111 ≡ 115 = ap (λ (l : List ℕ). get_or l 0 0) same in absurd (omega (arith, f))
 line_once (obj p d t) (dir q) a b same = let f : 111 ≡ 100 = ap (λ (l : List ℕ). get_or l 0 0) same in absurd (omega (arith, f))
@@ -256,7 +265,7 @@ split_good (l ∷ ls) (t ∷ texts) (suc at) x e good there =
       (rest.4.0, (rest.4.1.0, (ap (λ (y : List ℕ). y ∷ take at texts) heads.0 ∙ ap (λ (xs : List (List ℕ)). line_text l ∷ xs) rest.4.1.1.0, (good.0, rest.4.1.1.1)))),
     )
 
-owned_in-append : (a b : List Line) → owned_in (a ++ b) ≡ owned_in a ++ owned_in b
+pub owned_in-append : (a b : List Line) → owned_in (a ++ b) ≡ owned_in a ++ owned_in b
 owned_in-append [] b = refl
 owned_in-append (l ∷ a) b = ap (λ (xs : List Owned). owned_by l ++ xs) (owned_in-append a b) ∙ sym (append_assoc (owned_by l) (owned_in a) (owned_in b))
 

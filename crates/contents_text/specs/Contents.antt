@@ -1,5 +1,5 @@
 -- The text of CONTENTS: a line for each file, link and folder of a package.
-use Rattle.std.specs.Prelude.{◌≡◌, ◌==◌, ◌<◌, ◌||◌, ℕ, Bool, true, false, List, [], ◌∷◌, ◌++◌, codes, length, map, take, Some, slice_get, bytes_eq, if◌then◌else◌}
+use Rattle.std.specs.Prelude.{◌≡◌, suc, ⊤, ◌==◌, ◌&&◌, ◌||◌, nat_lt, ℕ, Bool, true, false, List, [], ◌∷◌, ◌++◌, codes, length, map, take, Some, slice_get, bytes_eq, if◌then◌else◌}
 use Rattle.std.specs.List.{AllByRecursion, flat_map, list_all}
 use Rattle.hex.specs.Hex.{IsBytes, encode_lower}
 use Rattle.basics.specs.Bytes.{is_digit}
@@ -9,7 +9,11 @@ use Rattle.merge_record.specs.Judging.{meets_jobs}
 use Rattle.merge_record.specs.Spelling.{IsPathText}
 use Rattle.vdb_text.specs.Files.{database_path}
 use Rattle.link_target.specs.Targets.{is_target}
-use Rattle.database_law.specs.Packages.{Content, Owned, file, link, path_of}
+use Rattle.contents_text.specs.declared.fault.ContentsFault.{ContentsFault}
+use Rattle.contents_text.specs.declared.fault.ContentsFault.TheVariants as faults
+use Rattle.contents_text.specs.declared.owned.Content.{Content}
+use Rattle.contents_text.specs.declared.owned.Content.TheVariants.{File, Link}
+use Rattle.contents_text.specs.declared.owned.Owned.{Owned}
 
 pub data Line : Type 0 where
   obj : (path digest time : List ℕ) → Line
@@ -25,18 +29,20 @@ line_text (sym path target time) =
 line_text (dir path) = codes "dir /" ++ path
 
 -- some digits
-pub record IsTime (time : List ℕ) : Type 0 where
-  pub some : 0 < length time
-  pub digits : list_all is_digit time ≡ true
+abbrev pub is_time : List ℕ → Bool
+is_time time = nat_lt 0 (length time) && list_all is_digit time
 
 pub record IsDigest (digest : List ℕ) : Type 0 where
   pub long : length digest ≡ 16
   pub bytes : IsBytes digest
 
 abbrev pub IsLine : Line → Type 0
-IsLine (obj path digest time) = IsPathText path × (IsDigest digest × IsTime time)
-IsLine (sym path target time) = IsPathText path × ((is_target target ≡ true) × IsTime time)
+IsLine (obj path digest time) = IsPathText path × (IsDigest digest × (is_time time ≡ true))
+IsLine (sym path target time) = IsPathText path × ((is_target target ≡ true) × (is_time time ≡ true))
 IsLine (dir path) = IsPathText path
+
+abbrev pub path_of : Owned → List ℕ
+path_of o = o.path
 
 -- one path is the other, or above or below it
 abbrev pub meets : List ℕ → List ℕ → Bool
@@ -51,8 +57,8 @@ unless_dropped o = if is_dropped o.path then [] else o ∷ []
 
 -- what a line gives to the package
 abbrev pub owned_by : Line → List Owned
-owned_by (obj path digest time) = unless_dropped (record { path = path; content = file digest })
-owned_by (sym path target time) = unless_dropped (record { path = path; content = link target })
+owned_by (obj path digest time) = unless_dropped (record { path = path; content = File digest })
+owned_by (sym path target time) = unless_dropped (record { path = path; content = Link target })
 owned_by (dir path) = []
 
 -- a byte in front of a text that is parted into lines
@@ -94,10 +100,15 @@ pub record IsFaultyLine (texts : List (List ℕ)) (at : ℕ) : Type 0 where
   pub there : slice_get texts at ≡ Some here
   pub bad : (l : Line) → IsLine l → here ≡ line_text l → Repeats before l
 
+-- the fault is the first faulty line, counted from 1; memory may run out on any text
+abbrev pub FirstFault : List ℕ → ContentsFault → Type 0
+FirstFault text (faults.Line number) = (at : ℕ) × (number ≡ suc at) × IsFaultyLine (lines text) at
+FirstFault text faults.Memory = ⊤
+
 -- how an owned path is written
 abbrev pub line_of : List ℕ → Content → Line
-line_of path (file digest) = obj path digest (codes "0")
-line_of path (link target) = sym path target (codes "0")
+line_of path (File digest) = obj path digest (codes "0")
+line_of path (Link target) = sym path target (codes "0")
 
 abbrev pub written_line : Owned → Line
 written_line o = line_of o.path o.content
@@ -111,8 +122,8 @@ contents_text owned = flat_map (λ o. ended (line_text (written_line o))) owned
 
 -- what can be read back
 abbrev pub IsContent : Content → Type 0
-IsContent (file digest) = IsDigest digest
-IsContent (link target) = is_target target ≡ true
+IsContent (File digest) = IsDigest digest
+IsContent (Link target) = is_target target ≡ true
 
 pub record IsOwnable (o : Owned) : Type 0 where
   pub path : IsPathText o.path

@@ -1,5 +1,5 @@
-use Rattle.database_law.proofs.Lines.{good_has_no_fault, one_contents, one_fault, read_back}
-use Rattle.database_law.proofs.laws.contents_are_read_back.Goals as goal
+use Rattle.contents_text.proofs.Lines.{good_has_no_fault, one_contents, one_fault, read_back}
+use Rattle.contents_text.proofs.laws.contents_are_read_back.Goals as goal
 
 pub returns-clause-back : goal.returns-clause-back
 returns-clause-back c = read_back

@@ -1,0 +1,4 @@
+mod Lines
+mod Pieces
+mod Progress
+mod Said

@@ -1,0 +1,3 @@
+pub mod Contents
+pub mod Cuts
+pub mod Reading
