@@ -6,9 +6,22 @@ use Rattle.pms_names.specs.Names.{IsName}
 use Rattle.pms_names.specs.declared.kind.Kind.TheVariants as kinds
 use Rattle.dep_group.specs.Words.{Spot, place, texts, words, words_of}
 use Rattle.use_flags.specs.Items.{flag_of}
-use Rattle.database_law.specs.Fields.{AreFlags, AreSlots}
+use Rattle.dep_tree.specs.Faults.{IsMemory}
+use Rattle.dep_tree.specs.Faults as trees
+use Rattle.dep_tree.specs.Texts.{Dependencies, Writes}
+use Rattle.dep_tree.specs.declared.fault.TreeTextFault.{TreeTextFault}
+use Rattle.database_law.specs.Fields.{AreFlags, AreSlots, all_bound}
 use Rattle.record_values.specs.declared.fault.FlagFault.{FlagFault}
 use Rattle.record_values.specs.declared.fault.FlagFault.TheVariants as faults
+
+-- the text writes dependencies that are these, once each equals operator that is bound to no
+-- subslot is dropped
+abbrev pub Needs : List ℕ → Dependencies → Type 0
+Needs text needs = (x : Dependencies) × Writes text x × (needs ≡ all_bound x)
+
+-- but for want of memory the fault is the text's first one
+abbrev pub IsFirstFault : List ℕ → TreeTextFault → Type 0
+IsFirstFault text fault = ¬ IsMemory fault → trees.FirstFault text fault
 
 -- the text has this word and no other
 abbrev pub IsAlone : List ℕ → List ℕ → Type 0
