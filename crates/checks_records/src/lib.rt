@@ -8,3 +8,5 @@
 mod answers;
 #[cfg(test)]
 mod contents;
+#[cfg(test)]
+mod values;

@@ -1,0 +1,2 @@
+pub mod BadBytes
+pub mod Counting
