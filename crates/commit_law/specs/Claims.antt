@@ -63,7 +63,8 @@ GrantsWell opening change ps m e ok = ⊤
 abbrev pub GrantsWellAllAlong : Map → (ℕ → Change) → List Installed → Machine → List Entry → Type 0
 GrantsWellAllAlong opening change ps m [] = ⊤
 GrantsWellAllAlong opening change ps m (e ∷ es) =
-    GrantsWell opening change ps m e.0 e.1 × GrantsWellAllAlong opening change ps (answered m e.0 e.1) es
+    GrantsWell opening change ps m e.0 e.1 ×
+    GrantsWellAllAlong opening change ps (answered m e.0 e.1) es
 
 -- Where only good claims are granted, what a crash commits at any moment are steps one after
 -- another, in whatever order the groups come.
