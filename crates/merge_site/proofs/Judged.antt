@@ -1,5 +1,5 @@
 -- How a claim is judged behind the book, and what becomes of the wishes.
-use Rattle.std.proofs.Common.{◌≡◌, ◌<◌, ◌+◌, ◌++◌, ◌∷◌, ◌∙◌, ℕ, zero, suc, Bool, true, false, List, [], Option, Some, None, Result, Ok, Err, Vec, ap, refl, subst, sym, length, length-append, map, get_or, MatchOption, arith}
+use Rattle.std.proofs.Common.{◌≡◌, ◌<◌, ◌+◌, ◌++◌, ◌∷◌, ◌∙◌, ℕ, zero, suc, true, false, List, [], Option, Some, None, Result, Ok, Err, Vec, ap, refl, subst, sym, length, length-append, map, get_or, MatchOption, arith}
 use Rattle.std.specs.Prelude.{IfErr, IsErrOf, OnErr, OnOk, is_err, is_ok, option_to_list, replicate, slice_index_or, slice_set}
 use Rattle.std.specs.Global.{Global}
 use Rattle.std.proofs.lemmas.List.{map-set}
@@ -14,7 +14,7 @@ use Rattle.owner_book.specs.declared.wish.Wish.{Wish}
 use Rattle.merge_record.specs.declared.record.OwnerKey.{OwnerKey}
 use Rattle.merge_site.specs.Booking.{lists_of, wishes_at, with_wish}
 use Rattle.file_tree.specs.Disk.{Map}
-use Rattle.merge_site.specs.Claiming.{IsTakenIn, MayClaim, Stops, StopsAt, record_paths}
+use Rattle.merge_site.specs.Claiming.{IsTakenIn, Stops, StopsAt, record_paths}
 use Rattle.merge_site.specs.Stopping.{EarlyStops, LateStops, stop_of}
 use Rattle.merge_site.specs.declared.fault.ClaimStop.{ClaimStop}
 use Rattle.merge_site.specs.declared.fault.ClaimStop.TheVariants as stops
