@@ -1,10 +1,9 @@
 -- What blocks a path, by its parts and by how it looks.
-use Rattle.std.proofs.Common.{◌≡◌, ◌⊎◌, ◌<◌, ◌≤◌, ℕ, Bool, true, false, List, length, take, get_or, Option, Some, None, refl, ap, sym, ◌∙◌, subst, inl, inr, arith}
+use Rattle.std.proofs.Common.{◌≡◌, ◌⊎◌, ◌<◌, ◌≤◌, ℕ, Bool, true, false, List, length, take, None, ap, sym, ◌∙◌, subst, inl, inr, arith}
 use Rattle.std.specs.Prelude.{IsSome, is_some}
 use Rattle.std.proofs.lemmas.Bool.{cases_lt, false≢true, true≢false}
 use Rattle.std.proofs.lemmas.List.{length-take-le}
-use Rattle.file_tree.specs.Disk.{HasBelow, Looks, Map}
-use Rattle.file_tree.specs.Paths.{is_below}
+use Rattle.file_tree.specs.Disk.{Looks, Map}
 use Rattle.file_tree.specs.declared.objects.Look.{Look}
 use Rattle.file_tree.specs.declared.objects.Look.TheVariants.{Folder, Item, Nothing}
 use Rattle.image_fit.specs.Images.{HoldsPart, IsBlock, IsClear, IsFirstBlock, IsFirstInWay, IsFolder, IsInWay, is_passed}

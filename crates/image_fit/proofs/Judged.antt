@@ -1,5 +1,5 @@
 -- How an image is refused, by the stage that refuses it.
-use Rattle.std.proofs.Common.{◌≡◌, ◌∙◌, ◌<◌, ◌≤◌, ℕ, true, false, List, [], ◌∷◌, ◌++◌, map, length, Result, Ok, Err, refl, ap, sym, subst, arith}
+use Rattle.std.proofs.Common.{◌≡◌, ◌∙◌, ◌≤◌, ℕ, List, map, length, Result, Ok, Err, sym, subst, arith}
 use Rattle.std.specs.Prelude.{OnOk, bytes_eq}
 use Rattle.std.specs.Set.{distinct_count}
 use Rattle.std.proofs.lemmas.List.{length-map}
@@ -14,7 +14,6 @@ use Rattle.owner_book.specs.declared.fault.ClaimFault.TheVariants as claims
 use Rattle.owner_book.specs.declared.fault.Collision.TheVariants as collisions
 use Rattle.owner_book.specs.declared.fault.ImageBad.{ImageBad}
 use Rattle.owner_book.specs.declared.fault.ImageBad.TheVariants as bad
-use Rattle.owner_book.specs.declared.limits.TheConstants.{MOST_PATHS}
 use Rattle.image_fit.specs.Images.{IsImage}
 use Rattle.image_fit.specs.Misfits.{AreGood, IsFirstBad, Refuses, RefusesObjects, RefusesPaths, RefusesPlaces, TakesPaths, bad_by, empty_book, misfit_of, wish_of}
 use Rattle.image_fit.specs.declared.fault.Misfit.{Misfit}

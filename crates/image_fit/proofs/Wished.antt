@@ -1,13 +1,12 @@
 -- Wishes that an empty book takes are for paths that are apart.
-use Rattle.std.proofs.Common.{◌≡◌, ◌∙◌, ◌<◌, ◌≤◌, ◌||◌, ℕ, zero, suc, Bool, true, false, cond, List, [], ◌∷◌, ◌++◌, map, length, take, get_or, Option, Some, None, Result, Ok, Err, refl, ap, sym, subst, inl, inr, arith, append_assoc, append-nil}
+use Rattle.std.proofs.Common.{◌≡◌, ◌∙◌, ◌≤◌, ◌||◌, ℕ, suc, Bool, true, false, List, [], ◌∷◌, ◌++◌, map, length, take, Some, None, Result, Ok, Err, refl, ap, sym, subst, inl, inr, arith, append_assoc, append-nil}
 use Rattle.std.specs.Prelude.{IfErr, IfOk, OnOk, bytes_eq, is_some, slice_get}
 use Rattle.std.specs.List.{AllByRecursion}
 use Rattle.std.proofs.lemmas.Bool.{cases_Bool, cond-false, cond-true}
 use Rattle.std.proofs.lemmas.Option.{slice_get_within}
 use Rattle.std.proofs.lemmas.Slice.Eq.{bytes_eq-Decides}
 use Rattle.std.proofs.Math.ListN.{get_or-eq_default}
-use Rattle.basics.specs.Members.{AreDistinct, Has}
-use Rattle.basics.proofs.Membership.{has-append_left, has-append_right}
+use Rattle.basics.specs.Members.{Has}
 use Rattle.file_tree.specs.Paths.{is_below}
 use Rattle.file_tree.specs.declared.objects.Entry.{Entry}
 use Rattle.merge_record.specs.declared.record.OwnerKey.{OwnerKey}

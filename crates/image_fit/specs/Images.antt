@@ -1,5 +1,5 @@
 -- Which images a tree takes, and what each rule says.
-use Rattle.std.specs.Prelude.{◌≡◌, ◌⊎◌, ◌≤◌, ℕ, Bool, true, false, List, ◌∷◌, ◌++◌, Option, None, length, map, nat_le, slice_index, take, IsSome}
+use Rattle.std.specs.Prelude.{◌≡◌, ◌⊎◌, ◌≤◌, ℕ, Bool, true, false, List, ◌∷◌, ◌++◌, None, length, map, nat_le, slice_index, take, IsSome}
 use Rattle.std.specs.List.{AllByRecursion}
 use Rattle.basics.specs.Members.{AreDistinct, Has}
 use Rattle.file_tree.specs.Disk.{HasBelow, Map}

@@ -10,7 +10,6 @@ use Rattle.owner_book.specs.Rules.{is_dying}
 use Rattle.owner_book.specs.Whole.{AreFree, IsRefused}
 use Rattle.owner_book.specs.declared.fault.ClaimFault.{ClaimFault}
 use Rattle.owner_book.specs.declared.fault.ClaimFault.TheVariants as claims
-use Rattle.owner_book.specs.declared.fault.Collision.{Collision}
 use Rattle.owner_book.specs.declared.fault.Collision.TheVariants as collisions
 use Rattle.owner_book.specs.declared.fault.ImageBad.{ImageBad}
 use Rattle.owner_book.specs.declared.fault.ImageBad.TheVariants as bad

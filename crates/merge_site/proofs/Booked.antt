@@ -1,10 +1,10 @@
 -- The book goes along with the groups' events.
 use Rattle.std.proofs.Common.{◌≡◌, ◌⊎◌, ◌<◌, ◌++◌, ◌||◌, ◌==◌, ◌∷◌, ◌∙◌, ℕ, zero, suc, Bool, true, false, not, cond, List, [], Option, Some, None, ap, inl, inr, refl, subst, sym, length, map, is_some, arith, append_assoc}
-use Rattle.std.specs.Prelude.{bytes_eq, replicate, slice_index_or, slice_set}
-use Rattle.std.proofs.lemmas.Bool.{cases_Bool, cases_eq, cond-false, cond-true, eq-eqb, false≢true, ne_eqb, or_cases, or_left, or_right, true≢false}
+use Rattle.std.specs.Prelude.{bytes_eq, replicate, slice_set}
+use Rattle.std.proofs.lemmas.Bool.{cases_Bool, cases_eq, cond-false, cond-true, eq-eqb, false≢true, ne_eqb, or_left, or_right, true≢false}
 use Rattle.basics.specs.Members.{Has}
 use Rattle.file_tree.specs.Thing.{Thing}
-use Rattle.merge_record.specs.Judging.{are_free, footprint, is_in, path_of}
+use Rattle.merge_record.specs.Judging.{are_free, is_in, path_of}
 use Rattle.merge_record.specs.declared.record.OwnerKey.{OwnerKey}
 use Rattle.merge_record.specs.declared.record.Placement.{Placement}
 use Rattle.owner_book.specs.Book as books

@@ -1,5 +1,5 @@
 -- How a claim is judged behind the book, and what becomes of the wishes.
-use Rattle.std.proofs.Common.{◌≡◌, ◌<◌, ◌+◌, ◌++◌, ◌∷◌, ◌∙◌, ℕ, zero, suc, Bool, true, false, List, [], Option, Some, None, Result, Ok, Err, Vec, ap, refl, subst, sym, length, length-append, map, get_or, MatchOption, arith}
+use Rattle.std.proofs.Common.{◌≡◌, ◌<◌, ◌+◌, ◌++◌, ◌∷◌, ◌∙◌, ℕ, zero, suc, true, false, List, [], Option, Some, None, Result, Ok, Err, Vec, ap, refl, subst, sym, length, length-append, map, get_or, MatchOption, arith}
 use Rattle.std.specs.Prelude.{IfErr, IsErrOf, OnErr, OnOk, is_err, is_ok, option_to_list, replicate, slice_index_or, slice_set}
 use Rattle.std.specs.Global.{Global}
 use Rattle.std.proofs.lemmas.List.{map-set}
@@ -14,7 +14,7 @@ use Rattle.owner_book.specs.declared.wish.Wish.{Wish}
 use Rattle.merge_record.specs.declared.record.OwnerKey.{OwnerKey}
 use Rattle.merge_site.specs.Booking.{lists_of, wishes_at, with_wish}
 use Rattle.file_tree.specs.Disk.{Map}
-use Rattle.merge_site.specs.Claiming.{IsTaken, MayClaim, Stops, StopsAt, record_paths}
+use Rattle.merge_site.specs.Claiming.{IsTakenIn, Stops, StopsAt, record_paths}
 use Rattle.merge_site.specs.Stopping.{EarlyStops, LateStops, stop_of}
 use Rattle.merge_site.specs.declared.fault.ClaimStop.{ClaimStop}
 use Rattle.merge_site.specs.declared.fault.ClaimStop.TheVariants as stops
@@ -25,7 +25,7 @@ path_at (x ∷ ws) zero w lt is = ap path_of is
 path_at (x ∷ ws) (suc i) w lt is = path_at ws i w (omega (arith, lt)) is
 
 -- what stops a claim that the book has taken stops the claim
-pub late_stop : (b : Book) (dying : List OwnerKey) (ws : List Wish) (rs : List (List ℕ)) (s : ClaimStop) → IsTaken b dying ws rs → LateStops (record_paths rs ws) s → Stops b dying ws rs s
+pub late_stop : (b : Book) (dying : List OwnerKey) (ws : List Wish) (rs : List (List ℕ)) (s : ClaimStop) → IsTakenIn b dying ws rs → LateStops (record_paths rs ws) s → Stops b dying ws rs s
 late_stop b dying ws rs stops.Overlap taken late = (taken, late)
 late_stop b dying ws rs stops.Device taken late = record { taken = taken; apart = late }
 late_stop b dying ws rs (stops.Collision (collisions.Unowned p)) taken late = record { taken = taken; apart = late }

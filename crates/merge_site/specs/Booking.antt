@@ -1,5 +1,5 @@
 -- What a site keeps of the ownership book: who owns what, and which group claims what.
-use Rattle.std.specs.Prelude.{◌≡◌, ◌++◌, ◌∷◌, ℕ, Bool, true, false, not, cond, List, [], Option, Some, None, Vec, length, map, slice_get, slice_index_or, slice_set}
+use Rattle.std.specs.Prelude.{◌≡◌, ◌++◌, ◌∷◌, ℕ, Bool, true, false, cond, List, [], Option, Some, None, Vec, length, map, slice_get, slice_index_or, slice_set}
 use Rattle.std.specs.Global.{Global}
 use Rattle.basics.specs.Members.{Has}
 use Rattle.file_tree.specs.declared.objects.Entry.{Entry}
@@ -9,7 +9,7 @@ use Rattle.owner_book.specs.Book as books
 use Rattle.owner_book.specs.Book.{Book, Parts, claim_in, owner_in, settled_owner}
 use Rattle.owner_book.specs.declared.wish.Wish.{Wish}
 use Rattle.merge_core.specs.Core.{standing_in}
-use Rattle.merge_core.specs.Event.{Abandon, Acknowledge, Claim, Event, PutStage, SyncClosed}
+use Rattle.merge_core.specs.Event.{Abandon, Acknowledge, Event, SyncClosed}
 use Rattle.merge_core.specs.Keeping.{Keeping}
 use Rattle.merge_core.specs.Phase.{Done, Phase, Told, is_live}
 use Rattle.merge_core.specs.Trail as trails

@@ -33,7 +33,7 @@ IsFirstMet m own ws q =
     IsFirst (IsClearFor m own) (λ w. IsFirstBlock m (may_hold own w) w.path q) ws
 
 -- the book takes the claim: the removed paths may go, the placed ones are free, and not too many
-pub record IsTaken (b : Book) (dying : List OwnerKey) (wishes : List Wish)
+pub record IsTakenIn (b : Book) (dying : List OwnerKey) (wishes : List Wish)
     (removals : List (List ℕ)) : Type 0 where
   pub removable : AreRemovable b (is_dying dying) removals
   pub free : AreFree b (is_dying dying) wishes
@@ -46,7 +46,7 @@ record_paths removals wishes = removals ++ map path_of wishes
 -- the claim is taken, and the paths are different and outside the journal
 pub record MayClaim (b : Book) (dying : List OwnerKey) (wishes : List Wish)
     (removals : List (List ℕ)) : Type 0 where
-  pub taken : IsTaken b dying wishes removals
+  pub taken : IsTakenIn b dying wishes removals
   pub apart : are_free [] (record_paths removals wishes) ≡ true
 
 -- why the book or the record's paths stop a claim; what stands in the tree, a failed device and
@@ -61,7 +61,7 @@ Stops b dying ws rs (stops.Collision c) =
 Stops b dying ws rs stops.Limit =
     AreRemovable b (is_dying dying) rs × IsRefused b (is_dying dying) ws claims.Limit
 Stops b dying ws rs stops.Overlap =
-    IsTaken b dying ws rs × (are_free [] (record_paths rs ws) ≡ false)
+    IsTakenIn b dying ws rs × (are_free [] (record_paths rs ws) ≡ false)
 Stops b dying ws rs stops.Device = MayClaim b dying ws rs
 Stops b dying ws rs stops.Memory = Unit {0}
 

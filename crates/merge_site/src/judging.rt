@@ -6,7 +6,7 @@ ghost use Rattle.merge_record.specs.Judging.{are_free};
 ghost use Rattle.merge_record.specs.Names.{jobs};
 ghost use Rattle.owner_book.specs.Book.{ChangesClaim, HasOwnersOf, claim_in, owner_in, path_of};
 ghost use Rattle.owner_book.specs.Removing.{IsIndexed};
-ghost use Rattle.merge_site.specs.Claiming.{IsClearFor, IsTaken, MayClaim, Stops, StopsAt, may_hold};
+ghost use Rattle.merge_site.specs.Claiming.{IsClearFor, IsTakenIn, MayClaim, Stops, StopsAt, may_hold};
 ghost use Rattle.merge_site.specs.Claiming.{record_paths};
 ghost use Rattle.merge_site.specs.Stopping.{EarlyStops, LateStops, LookStops};
 
@@ -52,7 +52,7 @@ fn claim_paths(
     dying: &[OwnerKey],
 ) -> Result<(), ClaimStop>
     requires new { claim_in book.old.claims group ≡ None }
-    ensures taken { OnOk result (IsTaken book.old dying.now wishes.now removals.now) }
+    ensures taken { OnOk result (IsTakenIn book.old dying.now wishes.now removals.now) }
     ensures owners { OnOk result (HasOwnersOf book.old book.new) }
     ensures claims { OnOk result (ChangesClaim book.old book.new group
         (Some (record { placed = wishes.now; removed = removals.now }))) }

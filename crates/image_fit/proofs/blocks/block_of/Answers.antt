@@ -1,7 +1,6 @@
 use Rattle.std.proofs.Common.{◌≡◌, ◌∙◌, ap, arith, length, subst, sym}
 use Rattle.file_tree.specs.Disk.{Looks, Map, Story}
 use Rattle.image_fit.proofs.Blocked.{clear_if}
-use Rattle.image_fit.proofs.Ways.{NoneBefore}
 use Rattle.image_fit.proofs.blocks.block_of.Goals as goal
 
 pub returns-then-is_passed-clause-block : goal.returns-then-is_passed-clause-block

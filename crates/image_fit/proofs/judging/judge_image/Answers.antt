@@ -1,6 +1,6 @@
-use Rattle.std.proofs.Common.{◌≡◌, arith, subst, sym}
+use Rattle.std.proofs.Common.{arith, subst, sym}
 use Rattle.std.proofs.lemmas.Result.{on_ok_weaker}
-use Rattle.image_fit.specs.Images.{Fits, IsImage}
+use Rattle.image_fit.specs.Images.{IsImage}
 use Rattle.image_fit.specs.Misfits.{Refuses}
 use Rattle.image_fit.specs.declared.fault.Misfit.{Misfit}
 use Rattle.image_fit.proofs.Judged.{is_image, paths_refused, told_ok}

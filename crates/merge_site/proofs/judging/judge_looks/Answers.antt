@@ -1,4 +1,4 @@
-use Rattle.std.proofs.Common.{◌≡◌, Bool, List, ℕ, Option, Some, MatchOption, ap, subst}
+use Rattle.std.proofs.Common.{Bool, List, ℕ, Option, MatchOption, ap, subst}
 use Rattle.file_tree.specs.Disk.{Map, Story}
 use Rattle.image_fit.specs.Images.{IsClear, IsFirstBlock}
 use Rattle.image_fit.proofs.Ways.{first_at}

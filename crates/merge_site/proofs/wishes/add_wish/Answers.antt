@@ -1,7 +1,4 @@
-use Rattle.std.proofs.Common.{◌∷◌, ◌++◌, ◌∙◌, [], List, Result, Ok, Err, ap, sym, subst}
-use Rattle.std.specs.Prelude.{OnErr}
-use Rattle.owner_book.specs.declared.wish.Wish.{Wish}
-use Rattle.merge_site.specs.Booking.{lists_of, with_wish}
+use Rattle.std.proofs.Common.{◌∷◌, ◌++◌, ◌∙◌, [], List, ap}
 use Rattle.merge_site.proofs.Judged.{err_then, wish_added, wish_unmade}
 use Rattle.merge_site.proofs.wishes.add_wish.Goals as goal
 

@@ -1,6 +1,4 @@
-use Rattle.std.proofs.Common.{◌≡◌, ◌∷◌, ◌++◌, ◌∙◌, [], ap, sym, subst, suc, List, replicate, arith}
-use Rattle.std.specs.Prelude.{Vec}
-use Rattle.std.specs.Global.{Global}
+use Rattle.std.proofs.Common.{◌∙◌, ap}
 use Rattle.merge_site.specs.Booking.{lists_of}
 use Rattle.merge_site.proofs.Judged.{none_more}
 use Rattle.merge_site.proofs.wishes.new_wishes.Goals as goal

@@ -1,4 +1,4 @@
-use Rattle.std.proofs.Common.{◌≡◌, ◌<◌, ◌++◌, ◌∷◌, ◌^◌, [], Bool, List, not, true, ap, arith, subst, sym}
+use Rattle.std.proofs.Common.{◌≡◌, ◌<◌, ◌++◌, ◌∷◌, ◌^◌, [], Bool, not, ap, arith, subst, sym}
 use Rattle.merge_core.specs.Keeping.{machine_of}
 use Rattle.merge_core.specs.Steps.{IsTaken, event_of}
 use Rattle.merge_core.specs.declared.step.Step.TheVariants as steps
@@ -6,7 +6,6 @@ use Rattle.merge_site.specs.Booking.{lists_of}
 use Rattle.merge_site.proofs.Booked.{booked_on, booked_settle}
 use Rattle.merge_site.proofs.Kept.{kept_step, taken_admits}
 use Rattle.merge_core.specs.Event.{SyncClosed, answered}
-use Rattle.merge_core.specs.Trail as trails
 use Rattle.merge_core.specs.Site.{Performs}
 use Rattle.merge_site.proofs.site.Site.sync_closed.Goals as goal
 
