@@ -1,0 +1,4 @@
+pub mod Lists
+pub mod Granted
+pub mod Settled
+pub mod Turns

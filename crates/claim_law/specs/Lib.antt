@@ -1,0 +1,4 @@
+pub mod Granted
+pub mod Owners
+pub mod Settled
+pub mod Turns

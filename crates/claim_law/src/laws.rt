@@ -1,0 +1,23 @@
+ghost use Rattle.claim_law.specs.Granted.{GrantedClaimsAreGood};
+ghost use Rattle.claim_law.specs.Settled.{SettledOwnersAre};
+ghost use Rattle.claim_law.specs.Turns.{GrantedLinesAreApart};
+
+/// A law: a claim that the book takes is a good one, over the packages that its owners are, and
+/// beside the claims that it has.
+pub fn granted_claims_are_good()
+    ensures { GrantedClaimsAreGood }
+{}
+
+/// A law: no line of an accepted plan is changed by two groups whose claims are granted at a time.
+pub fn granted_lines_are_apart()
+    ensures { GrantedLinesAreApart }
+{}
+
+/// A law: once a group's claim is settled, the book's owners are the packages of the tree with the
+/// group.
+pub fn settled_owners_are()
+    ensures { SettledOwnersAre }
+{
+    version_text::one_name_and_version();
+    version_text::one_spelling();
+}

@@ -1,0 +1,14 @@
+//! What the ownership book's claims say of packages: laws, and no code.
+//!
+//! **A contract sees** the book as `owner_book` has it, and the changes of groups, the packages of a
+//! tree and good claims as `database_law` and `commit_law` do.
+//!
+//! **Proved**: where the book's owners are those of a tree's packages, and a group wishes and removes
+//! what its change brings and takes away, a claim that the book takes is a good one: the change may
+//! come now, and has nothing to do with the groups whose claims were taken before. Once a claim is
+//! settled, the book's owners are the packages of the tree with its group.
+#![tactic(auto)]
+
+mod laws;
+
+pub use laws::{granted_claims_are_good, granted_lines_are_apart, settled_owners_are};
