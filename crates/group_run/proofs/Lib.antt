@@ -1,0 +1,9 @@
+pub mod Caused
+pub mod Cleared
+pub mod Drove
+pub mod Rest
+pub mod Staged
+pub mod Stopped
+pub mod Told
+pub mod Went
+pub mod Worked

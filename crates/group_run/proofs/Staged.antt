@@ -1,0 +1,121 @@
+-- A stage of a group that is being built, by what its call answered.
+use Rattle.std.proofs.Common.{◌≡◌, ◌++◌, ℕ, Bool, true, false, List, [], ◌∷◌, Result, Ok, Err, refl, sym, ap, ◌∙◌, map}
+use Rattle.std.specs.Prelude.{IsErrOf, OnErr, OnOk, is_ok}
+use Rattle.std.proofs.lemmas.List.{map-append}
+use Rattle.file_tree.specs.declared.objects.Entry.{Entry}
+use Rattle.merge_core.specs.Event.{Claim, Event, PutRecord, PutStage, PutToken}
+use Rattle.merge_core.specs.Core.{standing_in}
+use Rattle.merge_core.specs.Keeping.{machine_of}
+use Rattle.merge_core.specs.Payloads.{IsAt}
+use Rattle.merge_core.specs.Phase.{may_end, was_opened}
+use Rattle.merge_core.specs.Roll.{Standing, group_of}
+use Rattle.merge_core.specs.declared.phase.Phase.TheVariants as phases
+use Rattle.merge_core.proofs.Standings.{set_here}
+use Rattle.merge_site.specs.Site.{Account, Adds, KeepsHistory}
+use Rattle.merge_site.specs.Staging.{placement_of}
+use Rattle.file_tree.specs.Thing.{Thing}
+use Rattle.file_tree.specs.declared.fault.TreeFault.{TreeFault}
+use Rattle.file_tree.specs.declared.fault.TreeFault.TheVariants as trees
+use Rattle.merge_record.specs.declared.record.Placement.{Placement}
+use Rattle.merge_site.specs.declared.fault.ClaimStop.{ClaimStop}
+use Rattle.merge_site.specs.declared.fault.SiteFault.{SiteFault}
+use Rattle.merge_site.specs.declared.fault.SiteFault.TheVariants as sites
+use Rattle.merge_site.specs.declared.fault.StageFault.{StageFault}
+use Rattle.merge_site.specs.declared.fault.StageFault.TheVariants as faults
+use Rattle.group_run.specs.Working.{HasStaged, IsInTurn, Works, group_in, is_shut, object_of, placing, standing_at}
+use Rattle.group_run.proofs.Worked.{at_after, early_on, group_kept, group_of_event, is_early, order_kept, settles, standing_after, worked, works_same}
+
+-- what holds of a group behind a call that may have been its event
+pub record Early {T S : Type 0} (g : ℕ) (old new : Account T S) : Type 0 where
+  pub works : Works g old new
+  pub order : new.keeping.order ≡ old.keeping.order
+  pub early : may_end (standing_at new g).phase ≡ true
+
+pub early_event : {T S : Type 0} (old new : Account T S) (e : Event) (ok : Bool) → IsInTurn (machine_of old.keeping) e → is_early e ≡ true → settles e ≡ false → Adds old new e ok → Early (group_of_event e) old new
+early_event old new e ok turn early settled adds = record {
+  works = worked old new e ok adds turn;
+  order = order_kept old new e ok adds settled;
+  early = early_on old new e ok adds turn early;
+}
+
+pub early_same : {T S : Type 0} (old new : Account T S) (g : ℕ) → may_end (standing_at old g).phase ≡ true → KeepsHistory old new → Early g old new
+early_same old new g early kept = record {
+  works = works_same g old new kept;
+  order = ap (λ k. k.order) kept.keeping;
+  early = ap (λ k. may_end (standing_in k.standings g).phase) kept.keeping ∙ early;
+}
+
+pub early_stage : {A T S : Type 0} (r : Result A StageFault) (old new : Account T S) (f : Entry) (g : ℕ) → IsAt old.keeping g phases.Building → OnOk r (Adds old new (PutStage g (placement_of f) f.object) true)
+    → (IsErrOf r faults.Device → Adds old new (PutStage g (placement_of f) f.object) false) → (¬ IsErrOf r faults.Device → OnErr r (KeepsHistory old new)) → Early g old new
+early_stage (Ok a) old new f g at adds failed kept = early_event old new (PutStage g (placement_of f) f.object) true at.phase refl refl adds
+early_stage (Err faults.Device) old new f g at adds failed kept = early_event old new (PutStage g (placement_of f) f.object) false at.phase refl refl (failed refl)
+early_stage (Err (faults.Image bad)) old new f g at adds failed kept = early_same old new g (ap may_end at.phase) (kept (λ e. cc e))
+early_stage (Err faults.Limit) old new f g at adds failed kept = early_same old new g (ap may_end at.phase) (kept (λ e. cc e))
+early_stage (Err faults.Memory) old new f g at adds failed kept = early_same old new g (ap may_end at.phase) (kept (λ e. cc e))
+
+-- the record of a group that is being built
+pub early_record : {A T S : Type 0} (r : Result A SiteFault) (old new : Account T S) (g : ℕ) (removals : List (List ℕ)) → IsAt old.keeping g phases.Building → OnOk r (Adds old new (PutRecord g removals) true)
+    → (IsErrOf r sites.Device → Adds old new (PutRecord g removals) false) → ((IsErrOf r sites.Device → ⊥) → OnErr r (KeepsHistory old new)) → Early g old new
+early_record (Ok a) old new g removals at adds failed kept = early_event old new (PutRecord g removals) true at.phase refl refl adds
+early_record (Err sites.Device) old new g removals at adds failed kept = early_event old new (PutRecord g removals) false at.phase refl refl (failed refl)
+early_record (Err sites.Limit) old new g removals at adds failed kept = early_same old new g (ap may_end at.phase) (kept (λ e. cc e))
+early_record (Err sites.Memory) old new g removals at adds failed kept = early_same old new g (ap may_end at.phase) (kept (λ e. cc e))
+
+-- the group that has its record
+pub recorded_is : {T S : Type 0} (old new : Account T S) (files : List Entry) (g : ℕ) (removals : List (List ℕ)) → removals ≡ [] → HasStaged files (standing_at old g) → Adds old new (PutRecord g removals) true → group_in new g ≡ placing g files
+recorded_is old new files g removals none has adds =
+    let s = standing_after old new g (PutRecord g removals) _ adds (set_here (machine_of old.keeping).roll g _) in
+    ap (group_of g) s
+    ∙ (ap (λ (l : List (List ℕ)). record { content = record { group = g; removals = l; placements = (standing_at old g).placements }; objects = (standing_at old g).objects }) none
+    ∙ (ap (λ (l : List Placement). record { content = record { group = g; removals = []; placements = l }; objects = (standing_at old g).objects }) has.placements
+    ∙ ap (λ (l : List Thing). record { content = record { group = g; removals = []; placements = map placement_of files }; objects = l }) has.objects))
+
+-- the token of a group that has its record, and the group as it was
+pub record EarlyKept {T S : Type 0} (g : ℕ) (old new : Account T S) : Type 0 where
+  pub early : Early g old new
+  pub group : group_in new g ≡ group_in old g
+
+pub early_token : {A T S : Type 0} (r : Result A TreeFault) (old new : Account T S) (g : ℕ) → IsAt old.keeping g phases.Recorded → ((IsErrOf r trees.Memory → ⊥) → Adds old new (PutToken g) (is_ok r)) → (IsErrOf r trees.Memory → KeepsHistory old new) → EarlyKept g old new
+early_token (Ok a) old new g at adds kept = let e = adds (λ x. cc x) in record { early = early_event old new (PutToken g) true at.phase refl refl e; group = group_kept old new (PutToken g) true e refl }
+early_token (Err trees.Failed) old new g at adds kept = let e = adds (λ x. cc x) in record { early = early_event old new (PutToken g) false at.phase refl refl e; group = group_kept old new (PutToken g) false e refl }
+early_token (Err trees.Memory) old new g at adds kept = let k = kept refl in record { early = early_same old new g (ap may_end at.phase) k; group = ap (λ x. group_of g (standing_in x.standings g)) k.keeping }
+
+-- what holds of a group behind its claim, granted or not: its gate wasn't opened
+pub record Claims {T S : Type 0} (g : ℕ) (old new : Account T S) : Type 0 where
+  pub works : Works g old new
+  pub order : new.keeping.order ≡ old.keeping.order
+  pub group : group_in new g ≡ group_in old g
+  pub shut : is_shut (standing_at new g).phase ≡ true
+  pub unopened : was_opened (standing_at new g).phase ≡ false
+
+pub claims_on : {A T S : Type 0} (r : Result A ClaimStop) (old new : Account T S) (g : ℕ) → IsAt old.keeping g phases.Sealed → OnOk r (Adds old new (Claim g) true) → OnErr r (KeepsHistory old new) → Claims g old new
+claims_on (Ok a) old new g at adds kept =
+    let s = standing_after old new g (Claim g) _ adds (set_here (machine_of old.keeping).roll g _) in
+    record {
+      works = worked old new (Claim g) true adds at.phase;
+      order = order_kept old new (Claim g) true adds refl;
+      group = group_kept old new (Claim g) true adds refl;
+      shut = ap (λ (x : Standing). is_shut x.phase) s;
+      unopened = ap (λ (x : Standing). was_opened x.phase) s;
+    }
+claims_on (Err e) old new g at adds kept = record {
+  works = works_same g old new kept;
+  order = ap (λ k. k.order) kept.keeping;
+  group = ap (λ k. group_of g (standing_in k.standings g)) kept.keeping;
+  shut = ap (λ k. is_shut (standing_in k.standings g).phase) kept.keeping ∙ ap is_shut at.phase;
+  unopened = ap (λ k. was_opened (standing_in k.standings g).phase) kept.keeping ∙ ap was_opened at.phase;
+}
+
+-- one more file is staged
+pub staged_on : {T S : Type 0} (old new : Account T S) (files : List Entry) (f : Entry) (g : ℕ) → HasStaged files (standing_at old g) → Adds old new (PutStage g (placement_of f) f.object) true → HasStaged (files ++ f ∷ []) (standing_at new g)
+staged_on old new files f g has adds =
+    let s = standing_after old new g (PutStage g (placement_of f) f.object) _ adds (set_here (machine_of old.keeping).roll g _) in
+    record {
+      removals = ap (λ (x : Standing). x.removals) s ∙ has.removals;
+      placements = ap (λ (x : Standing). x.placements) s ∙ (ap (λ l. l ++ placement_of f ∷ []) has.placements ∙ sym (map-append placement_of files (f ∷ [])));
+      objects = ap (λ (x : Standing). x.objects) s ∙ (ap (λ l. l ++ f.object ∷ []) has.objects ∙ sym (map-append object_of files (f ∷ [])));
+    }
+
+pub building_on : {T S : Type 0} (old new : Account T S) (f : Entry) (g : ℕ) → IsAt old.keeping g phases.Building → Adds old new (PutStage g (placement_of f) f.object) true → IsAt new.keeping g phases.Building
+building_on old new f g at adds =
+    at_after old new g (PutStage g (placement_of f) f.object) phases.Building _ adds at.running refl (set_here (machine_of old.keeping).roll g _) at.phase

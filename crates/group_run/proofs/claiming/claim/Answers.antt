@@ -1,0 +1,86 @@
+use Rattle.std.proofs.Common.{◌≡◌, ◌∙◌, ap, refl, sym, subst}
+use Rattle.std.specs.Prelude.{IfErr}
+use Rattle.std.proofs.lemmas.Result.{err_from_is_err_and}
+use Rattle.merge_core.specs.Event.{Claim}
+use Rattle.merge_core.specs.Keeping.{machine_of}
+use Rattle.merge_core.specs.declared.phase.Phase.TheVariants as phases
+use Rattle.merge_core.proofs.Standings.{set_here}
+use Rattle.group_run.specs.declared.stop.Stop.TheVariants as stops
+use Rattle.group_run.proofs.Staged.{claims_on}
+use Rattle.group_run.proofs.Stopped.{claim_quiet}
+use Rattle.group_run.proofs.Worked.{at_after}
+use Rattle.file_tree.specs.Disk.{Story}
+use Rattle.merge_site.specs.Booking.{wishes_at}
+use Rattle.merge_site.specs.Claiming.{IsUnownedStop}
+use Rattle.group_run.proofs.Caused.{claim_cause, met_kept, stop_kept}
+use Rattle.group_run.proofs.claiming.claim.Goals as goal
+
+pub returns-in_err-claim-clause-works : goal.returns-in_err-claim-clause-works
+returns-in_err-claim-clause-works g c =
+    let one = claims_on c.claim.result c.args.site.now c.claim.new.self c.args.group c.requires.at c.claim.ensures.event c.claim.ensures.kept in
+    one.works
+
+pub returns-in_err-claim-clause-order : goal.returns-in_err-claim-clause-order
+returns-in_err-claim-clause-order g c =
+    let one = claims_on c.claim.result c.args.site.now c.claim.new.self c.args.group c.requires.at c.claim.ensures.event c.claim.ensures.kept in
+    one.order
+
+pub returns-in_err-claim-clause-group : goal.returns-in_err-claim-clause-group
+returns-in_err-claim-clause-group g c =
+    let one = claims_on c.claim.result c.args.site.now c.claim.new.self c.args.group c.requires.at c.claim.ensures.event c.claim.ensures.kept in
+    one.group
+
+pub returns-in_err-claim-clause-shut : goal.returns-in_err-claim-clause-shut
+returns-in_err-claim-clause-shut g c =
+    let one = claims_on c.claim.result c.args.site.now c.claim.new.self c.args.group c.requires.at c.claim.ensures.event c.claim.ensures.kept in
+    one.shut
+
+pub returns-in_err-claim-clause-unopened : goal.returns-in_err-claim-clause-unopened
+returns-in_err-claim-clause-unopened g c =
+    let one = claims_on c.claim.result c.args.site.now c.claim.new.self c.args.group c.requires.at c.claim.ensures.event c.claim.ensures.kept in
+    one.unopened
+
+pub returns-clause-works : goal.returns-clause-works
+returns-clause-works g c =
+    let one = claims_on c.claim.result c.args.site.now c.claim.new.self c.args.group c.requires.at c.claim.ensures.event c.claim.ensures.kept in
+    one.works
+
+pub returns-clause-order : goal.returns-clause-order
+returns-clause-order g c =
+    let one = claims_on c.claim.result c.args.site.now c.claim.new.self c.args.group c.requires.at c.claim.ensures.event c.claim.ensures.kept in
+    one.order
+
+pub returns-clause-group : goal.returns-clause-group
+returns-clause-group g c =
+    let one = claims_on c.claim.result c.args.site.now c.claim.new.self c.args.group c.requires.at c.claim.ensures.event c.claim.ensures.kept in
+    one.group
+
+pub returns-clause-shut : goal.returns-clause-shut
+returns-clause-shut g c =
+    let one = claims_on c.claim.result c.args.site.now c.claim.new.self c.args.group c.requires.at c.claim.ensures.event c.claim.ensures.kept in
+    one.shut
+
+pub returns-clause-unopened : goal.returns-clause-unopened
+returns-clause-unopened g c =
+    let one = claims_on c.claim.result c.args.site.now c.claim.new.self c.args.group c.requires.at c.claim.ensures.event c.claim.ensures.kept in
+    one.unopened
+
+pub returns-clause-at : goal.returns-clause-at
+returns-clause-at g c =
+    at_after c.args.site.now c.claim.new.self c.args.group (Claim c.args.group) phases.Claimed _ c.in_ok-claim.ensures.event c.requires.at.running refl (set_here (machine_of c.args.site.now.keeping).roll c.args.group _) refl
+
+pub returns-in_err-claim-clause-quiet : goal.returns-in_err-claim-clause-quiet
+returns-in_err-claim-clause-quiet g c =
+    let p = err_from_is_err_and c.from_residual.result c.from_residual.ensures.1 in
+    subst (λ r. IfErr r (λ e. e ≡ stops.Output → ⊥)) (sym p.1) (λ x. claim_quiet _ (sym p.2 ∙ x))
+
+pub returns-in_err-claim-clause-cause : goal.returns-in_err-claim-clause-cause
+returns-in_err-claim-clause-cause g c files placed wished =
+    let p = err_from_is_err_and c.from_residual.result c.from_residual.ensures.1 in
+    let old = c.args.site.now in
+    let new = c.claim.new.self in
+    let s = c.in_err-claim.field-0.0 in
+    let e = c.in_err-claim.ensures in
+    let group = (claims_on c.claim.result old new c.args.group c.requires.at c.claim.ensures.event c.claim.ensures.kept).group in
+    rw (p.1, p.2) (claim_cause g.T.Tree.tells (g.T.Tree.story new.tree).now.holds files new c.args.group s (group ∙ placed) (ap (λ l. wishes_at l c.args.group) e.kept.wishes ∙ wished) (stop_kept old new c.args.group s e.kept e.stopped)
+    (λ t. met_kept (g.T.Tree.story new.tree).now.holds old new c.args.group s e.kept (subst (λ (x : Story). IsUnownedStop x.now.holds old c.args.group s) (sym (e.same t)) (e.unowned t))))

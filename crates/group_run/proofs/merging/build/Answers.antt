@@ -1,0 +1,78 @@
+use Rattle.std.proofs.Common.{◌<◌, ◌∙◌, ap, length, subst, sym}
+use Rattle.merge_site.specs.Booking.{wishes_at}
+use Rattle.group_run.specs.Working.{all_in}
+use Rattle.group_run.proofs.Rest.{ends_shut, ok_if}
+use Rattle.group_run.proofs.Went.{not_opened}
+use Rattle.group_run.proofs.Worked.{works_then}
+use Rattle.std.proofs.lemmas.Result.{err_from_is_err_and}
+use Rattle.group_run.proofs.Caused.{plain_cause, staged_cause}
+use Rattle.group_run.proofs.merging.build.Goals as goal
+
+pub returns-in_err-stage_files-clause-works : goal.returns-in_err-stage_files-clause-works
+returns-in_err-stage_files-clause-works g c = works_then c.args.group c.args.site.now c.begin.new.site c.stage_files.new.site c.begin.ensures.works c.stage_files.ensures.works
+
+pub returns-in_err-record-clause-works : goal.returns-in_err-record-clause-works
+returns-in_err-record-clause-works g c =
+    let one = works_then c.args.group c.args.site.now c.begin.new.site c.stage_files.new.site c.begin.ensures.works c.stage_files.ensures.works in
+    works_then c.args.group c.args.site.now c.stage_files.new.site c.record.new.site one c.record.ensures.works
+
+pub returns-in_err-mark-clause-works : goal.returns-in_err-mark-clause-works
+returns-in_err-mark-clause-works g c =
+    let one = works_then c.args.group c.args.site.now c.begin.new.site c.stage_files.new.site c.begin.ensures.works c.stage_files.ensures.works in
+    let two = works_then c.args.group c.args.site.now c.stage_files.new.site c.record.new.site one c.record.ensures.works in
+    works_then c.args.group c.args.site.now c.record.new.site c.mark.new.site two c.mark.ensures.works
+
+pub returns-clause-works : goal.returns-clause-works
+returns-clause-works g c =
+    let one = works_then c.args.group c.args.site.now c.begin.new.site c.stage_files.new.site c.begin.ensures.works c.stage_files.ensures.works in
+    let two = works_then c.args.group c.args.site.now c.stage_files.new.site c.record.new.site one c.record.ensures.works in
+    let three = works_then c.args.group c.args.site.now c.record.new.site c.mark.new.site two c.mark.ensures.works in
+    works_then c.args.group c.args.site.now c.mark.new.site c.claim.new.site three c.claim.ensures.works
+
+pub returns-clause-group : goal.returns-clause-group
+returns-clause-group g c =
+    ok_if c.claim.result (c.claim.ensures.group ∙ (c.mark.ensures.group ∙ c.in_ok-record.ensures.group (all_in c.args.files) c.in_ok-stage_files.ensures.staged))
+
+pub returns-in_err-stage_files-clause-shut : goal.returns-in_err-stage_files-clause-shut
+returns-in_err-stage_files-clause-shut g c = ends_shut _ c.stage_files.ensures.early
+
+pub returns-in_err-stage_files-clause-unopened : goal.returns-in_err-stage_files-clause-unopened
+returns-in_err-stage_files-clause-unopened g c = not_opened _ c.stage_files.ensures.early
+
+pub returns-in_err-record-clause-shut : goal.returns-in_err-record-clause-shut
+returns-in_err-record-clause-shut g c = ends_shut _ c.record.ensures.early
+
+pub returns-in_err-record-clause-unopened : goal.returns-in_err-record-clause-unopened
+returns-in_err-record-clause-unopened g c = not_opened _ c.record.ensures.early
+
+pub returns-in_err-mark-clause-shut : goal.returns-in_err-mark-clause-shut
+returns-in_err-mark-clause-shut g c = ends_shut _ c.mark.ensures.early
+
+pub returns-in_err-mark-clause-unopened : goal.returns-in_err-mark-clause-unopened
+returns-in_err-mark-clause-unopened g c = not_opened _ c.mark.ensures.early
+
+pub returns-clause-cause : goal.returns-clause-cause
+returns-clause-cause g c =
+    c.claim.ensures.cause c.args.files (c.mark.ensures.group ∙ c.in_ok-record.ensures.group (all_in c.args.files) c.in_ok-stage_files.ensures.staged)
+    (ap (λ l. wishes_at l c.args.group) (c.in_ok-mark.ensures.wishes ∙ c.in_ok-record.ensures.wishes) ∙ c.in_ok-stage_files.ensures.wishes)
+
+pub stage_files-requires-clause-row : goal.stage_files-requires-clause-row
+stage_files-requires-clause-row g c = subst (λ l. c.args.group < length l) (sym c.begin.ensures.wishes) c.requires.row
+
+pub stage_files-requires-clause-unwished : goal.stage_files-requires-clause-unwished
+stage_files-requires-clause-unwished g c = ap (λ l. wishes_at l c.args.group) c.begin.ensures.wishes ∙ c.requires.unwished
+
+pub returns-in_err-stage_files-clause-cause : goal.returns-in_err-stage_files-clause-cause
+returns-in_err-stage_files-clause-cause g c =
+    let p = err_from_is_err_and c.from_residual.result c.from_residual.ensures.1 in
+    rw (p.1, p.2) (staged_cause g.T.Tree.tells (g.T.Tree.story c.stage_files.new.site.tree).now.holds c.args.files c.stage_files.new.site c.args.group _ c.in_err-stage_files.ensures.cause)
+
+pub returns-in_err-record-clause-cause : goal.returns-in_err-record-clause-cause
+returns-in_err-record-clause-cause g c =
+    let p = err_from_is_err_and c.from_residual-in_err-record.result c.from_residual-in_err-record.ensures.1 in
+    rw (p.1, p.2) (plain_cause g.T.Tree.tells (g.T.Tree.story c.record.new.site.tree).now.holds c.args.files c.record.new.site c.args.group _ c.in_err-record.ensures.plain)
+
+pub returns-in_err-mark-clause-cause : goal.returns-in_err-mark-clause-cause
+returns-in_err-mark-clause-cause g c =
+    let p = err_from_is_err_and c.from_residual-in_err-mark.result c.from_residual-in_err-mark.ensures.1 in
+    rw (p.1, p.2) (plain_cause g.T.Tree.tells (g.T.Tree.story c.mark.new.site.tree).now.holds c.args.files c.mark.new.site c.args.group _ c.in_err-mark.ensures.plain)

@@ -1,0 +1,48 @@
+use Rattle.std.proofs.Common.{◌∙◌, ◌++◌, ◌∷◌, [], ap, map, sym}
+use Rattle.std.proofs.lemmas.List.{map-append}
+use Rattle.journal.specs.Group.{Group}
+use Rattle.std.proofs.lemmas.Result.{err_from_is_err_and}
+use Rattle.group_run.specs.Applied.{number}
+use Rattle.group_run.specs.Working.{group_in}
+use Rattle.group_run.proofs.Rest.{done_shut}
+use Rattle.group_run.proofs.Worked.{works_then}
+use Rattle.group_run.specs.Causes.{IsCause}
+use Rattle.group_run.specs.declared.stop.Stop.TheVariants as stops
+use Rattle.group_run.proofs.Caused.{only_err}
+use Rattle.group_run.proofs.running.merge.Goals as goal
+
+pub commit-requires-clause-none : goal.commit-requires-clause-none
+commit-requires-clause-none g c = ap (λ (x : Group). x.content.removals) c.in_ok-build.ensures.group
+
+pub returns-in_err-build-clause-placing : goal.returns-in_err-build-clause-placing
+returns-in_err-build-clause-placing g c opened = absurd (cc (c.build.ensures.unopened, opened))
+
+pub returns-in_err-commit-clause-works : goal.returns-in_err-commit-clause-works
+returns-in_err-commit-clause-works g c = works_then c.args.group c.args.site.now c.build.new.site c.commit.new.site c.build.ensures.works c.commit.ensures.works
+
+pub returns-clause-works : goal.returns-clause-works
+returns-clause-works g c =
+    works_then c.args.group c.args.site.now c.commit.new.site c.close.new.site (works_then c.args.group c.args.site.now c.build.new.site c.commit.new.site c.build.ensures.works c.commit.ensures.works) c.close.ensures.works
+
+pub returns-in_err-commit-clause-placing : goal.returns-in_err-commit-clause-placing
+returns-in_err-commit-clause-placing g c opened = c.commit.ensures.group ∙ c.in_ok-build.ensures.group
+
+pub returns-clause-placing : goal.returns-clause-placing
+returns-clause-placing g c opened = c.close.ensures.group ∙ (c.commit.ensures.group ∙ c.in_ok-build.ensures.group)
+
+pub returns-clause-history : goal.returns-clause-history
+returns-clause-history g c =
+    c.add.ensures ∙ (ap (λ l. l ++ c.args.group ∷ []) (c.requires.history ∙ ap (map number) (sym c.build.ensures.order))
+    ∙ (sym (map-append number c.build.new.site.keeping.order (group_in c.build.new.site c.args.group ∷ [])) ∙ ap (map number) (sym (c.close.ensures.order ∙ c.in_ok-commit.ensures.settled))))
+
+pub returns-clause-shut : goal.returns-clause-shut
+returns-clause-shut g c healthy = done_shut c.close.result c.close.new.site c.args.group healthy c.close.ensures.only c.close.ensures.at
+
+pub returns-in_err-commit-clause-cause : goal.returns-in_err-commit-clause-cause
+returns-in_err-commit-clause-cause g c =
+    let p = err_from_is_err_and c.from_residual-in_err-commit.result c.from_residual-in_err-commit.ensures.1 in
+    rw (p.1, p.2, c.in_err-commit.ensures.only) tt
+
+pub returns-clause-cause : goal.returns-clause-cause
+returns-clause-cause g c =
+    only_err (IsCause g.T.Tree.tells (g.T.Tree.story c.close.new.site.tree).now.holds c.args.files c.close.new.site c.args.group) stops.Device tt c.close.result c.close.ensures.only

@@ -1,0 +1,55 @@
+use Rattle.std.proofs.Common.{◌≡◌, ◌∙◌, refl, sym, subst}
+use Rattle.std.specs.Prelude.{IfErr}
+use Rattle.std.proofs.lemmas.Result.{err_from_is_err_and}
+use Rattle.group_run.specs.declared.stop.Stop.TheVariants as stops
+use Rattle.group_run.proofs.Stopped.{site_quiet}
+use Rattle.merge_core.specs.Event.{PutRecord}
+use Rattle.merge_core.specs.Keeping.{machine_of}
+use Rattle.merge_core.specs.declared.phase.Phase.TheVariants as phases
+use Rattle.merge_core.proofs.Standings.{set_here}
+use Rattle.group_run.proofs.Staged.{early_record, recorded_is}
+use Rattle.group_run.proofs.Worked.{at_after}
+use Rattle.group_run.specs.Causes.{IsPlain}
+use Rattle.group_run.proofs.Caused.{site_plain}
+use Rattle.group_run.proofs.sealing.record.Goals as goal
+
+pub returns-in_err-put_record-clause-works : goal.returns-in_err-put_record-clause-works
+returns-in_err-put_record-clause-works g c =
+    let one = early_record c.put_record.result c.args.site.now c.put_record.new.self c.args.group c.new.result.items c.requires.at c.put_record.ensures.ok c.put_record.ensures.failed c.put_record.ensures.refused in
+    one.works
+
+pub returns-in_err-put_record-clause-early : goal.returns-in_err-put_record-clause-early
+returns-in_err-put_record-clause-early g c =
+    let one = early_record c.put_record.result c.args.site.now c.put_record.new.self c.args.group c.new.result.items c.requires.at c.put_record.ensures.ok c.put_record.ensures.failed c.put_record.ensures.refused in
+    one.early
+
+pub returns-clause-works : goal.returns-clause-works
+returns-clause-works g c =
+    let one = early_record c.put_record.result c.args.site.now c.put_record.new.self c.args.group c.new.result.items c.requires.at c.put_record.ensures.ok c.put_record.ensures.failed c.put_record.ensures.refused in
+    one.works
+
+pub returns-clause-early : goal.returns-clause-early
+returns-clause-early g c =
+    let one = early_record c.put_record.result c.args.site.now c.put_record.new.self c.args.group c.new.result.items c.requires.at c.put_record.ensures.ok c.put_record.ensures.failed c.put_record.ensures.refused in
+    one.early
+
+pub returns-clause-at : goal.returns-clause-at
+returns-clause-at g c =
+    at_after c.args.site.now c.put_record.new.self c.args.group (PutRecord c.args.group c.new.result.items) phases.Recorded _ c.in_ok-put_record.ensures.ok c.requires.at.running refl (set_here (machine_of c.args.site.now.keeping).roll c.args.group _) refl
+
+pub returns-clause-group : goal.returns-clause-group
+returns-clause-group g c =
+    λ files has. recorded_is c.args.site.now c.put_record.new.self files c.args.group c.new.result.items c.new.ensures.items has c.in_ok-put_record.ensures.ok
+
+pub returns-in_err-put_record-clause-quiet : goal.returns-in_err-put_record-clause-quiet
+returns-in_err-put_record-clause-quiet g c =
+    let p = err_from_is_err_and c.from_residual.result c.from_residual.ensures.1 in
+    subst (λ r. IfErr r (λ e. e ≡ stops.Output → ⊥)) (sym p.1) (λ x. site_quiet _ (sym p.2 ∙ x))
+
+pub returns-in_err-put_record-clause-plain : goal.returns-in_err-put_record-clause-plain
+returns-in_err-put_record-clause-plain g c =
+    let p = err_from_is_err_and c.from_residual.result c.from_residual.ensures.1 in
+    subst (λ r. IfErr r IsPlain) (sym p.1) (subst IsPlain (sym p.2) (site_plain _))
+
+pub returns-clause-wishes : goal.returns-clause-wishes
+returns-clause-wishes g c = c.in_ok-put_record.ensures.ok.wishes refl

@@ -1,0 +1,38 @@
+-- What a tree at rest holds, and what a crash leaves of it, while groups are merged into it.
+use Rattle.std.specs.Prelude.{◌≡◌, ℕ, List, map}
+use Rattle.basics.specs.Members.{Has}
+use Rattle.file_tree.specs.Disk.{Disk, IsUntouched, Map}
+use Rattle.file_tree.specs.Moments.{Leaves}
+use Rattle.journal.specs.Group.{Group, applied}
+use Rattle.merge_record.specs.Recovered.{IsRecovered}
+
+-- the number under which a group is merged
+abbrev pub number : Group → ℕ
+number g = g.content.group
+
+-- all of these groups are of a run
+abbrev pub AreOf : (Group → Type 0) → List Group → Type 0
+AreOf Of groups = (x : Group) → Has groups x → Of x
+
+-- a map recovers to m with some groups of the run applied, those with these numbers among them
+pub record Recovers (Of : Group → Type 0) (m : Map) (among : List ℕ) (c : Map) : Type 0 where
+  pub groups : List Group
+  pub of : AreOf Of groups
+  pub has : (n : ℕ) → Has among n → Has (map number groups) n
+  pub is : IsRecovered c (applied m groups)
+
+-- a crash leaves what recovers to m with just the groups of the history applied, in this order
+pub record LeavesHistory (Of : Group → Type 0) (m : Map) (history : List ℕ) (d : Disk) : Type 0 where
+  pub groups : List Group
+  pub of : AreOf Of groups
+  pub are : map number groups ≡ history
+  pub each : Leaves (λ c. IsRecovered c (applied m groups)) d
+
+-- the disk reads as m with just the groups of the history applied, in this order, with nothing
+-- below the journal's folder, and a crash leaves just that
+pub record HasHistory (Of : Group → Type 0) (m : Map) (history : List ℕ) (d : Disk) : Type 0 where
+  pub groups : List Group
+  pub of : AreOf Of groups
+  pub are : map number groups ≡ history
+  pub reads : (q : List ℕ) → d.holds q ≡ applied m groups q
+  pub untouched : IsUntouched d

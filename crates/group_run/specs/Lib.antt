@@ -1,0 +1,6 @@
+pub mod Applied
+pub mod Causes
+pub mod Lines
+pub mod Stops
+pub mod Went
+pub mod Working

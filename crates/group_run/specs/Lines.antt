@@ -1,0 +1,29 @@
+-- What is written for groups.
+use Rattle.std.specs.Prelude.{◌≡◌, ◌++◌, ℕ, List, [], Option, Some, None, slice_get, take}
+use Rattle.std.specs.List.{flat_map}
+use Rattle.merge_site.specs.declared.group.SiteGroup.{SiteGroup}
+
+-- what was written since then has P
+abbrev pub Wrote : (List ℕ → Type 0) → List ℕ → List ℕ → Type 0
+Wrote P old new = (text : List ℕ) × P text × (new ≡ old ++ text)
+
+-- some beginning of a text
+abbrev pub IsBeginning : List ℕ → List ℕ → Type 0
+IsBeginning whole text = (n : ℕ) × (text ≡ take n whole)
+
+-- the lines of the acknowledged groups, in order, and then some beginning of the lines of the
+-- groups of the history that are not acknowledged
+pub record AreLines (line : ℕ → List ℕ) (history acknowledged text : List ℕ) : Type 0 where
+  pub rest : List ℕ
+  pub order : history ≡ acknowledged ++ rest
+  pub cut : List ℕ
+  pub begun : IsBeginning (flat_map line rest) cut
+  pub whole : text ≡ flat_map line acknowledged ++ cut
+
+abbrev pub line_or_none : Option SiteGroup → List ℕ
+line_or_none None = []
+line_or_none (Some x) = x.line.items
+
+-- the line that a site writes for the group
+abbrev pub line_in : List SiteGroup → ℕ → List ℕ
+line_in groups g = line_or_none (slice_get groups g)

@@ -1,0 +1,92 @@
+-- One group of a site on its way, step by step.
+use Rattle.std.specs.Prelude.{◌≡◌, ◌++◌, ℕ, Bool, true, false, List, [], ◌∷◌, length, map}
+use Rattle.file_tree.specs.Thing.{Thing}
+use Rattle.file_tree.specs.declared.objects.Entry.{Entry}
+use Rattle.journal.specs.Group.{Group}
+use Rattle.merge_core.specs.Core.{standing_in}
+use Rattle.merge_core.specs.Event.{Abandon, Acknowledge, Begin, Claim, CloseGate, Event, OpenGate, PlacePath, PutRecord, PutStage, PutToken, RemovePath, SyncClosed, SyncGate, SyncPlaced, SyncSealed, answered}
+use Rattle.merge_core.specs.Keeping.{machine_of}
+use Rattle.merge_core.specs.Phase.{Phase, Building, Claimed, Done, Emptied, GatePut, GateTaken, Idle, Marked, Odd, Open, Placed, Recorded, Redo, Redone, Sealed, may_end}
+use Rattle.merge_core.specs.Roll.{Machine, Standing, group_of, idle, phase_at}
+use Rattle.merge_core.specs.Trail as trail
+use Rattle.merge_core.specs.Trail.{machine_after}
+use Rattle.group_run.specs.declared.files.Files.{Files}
+use Rattle.merge_site.specs.Site.{Account}
+use Rattle.merge_site.specs.Staging.{placement_of}
+
+-- the group of the event stands at the phase that the event asks for
+abbrev pub IsInTurn : Machine → Event → Type 0
+IsInTurn m (Begin g) = phase_at m.roll g ≡ Idle
+IsInTurn m (PutStage g p o) = phase_at m.roll g ≡ Building
+IsInTurn m (PutRecord g removals) = phase_at m.roll g ≡ Building
+IsInTurn m (PutToken g) = phase_at m.roll g ≡ Recorded
+IsInTurn m (SyncSealed g) = phase_at m.roll g ≡ Marked
+IsInTurn m (Claim g) = phase_at m.roll g ≡ Sealed
+IsInTurn m (OpenGate g) = phase_at m.roll g ≡ Claimed
+IsInTurn m (SyncGate g) = phase_at m.roll g ≡ GatePut
+IsInTurn m (PlacePath g) = phase_at m.roll g ≡ Open
+IsInTurn m (RemovePath g) = phase_at m.roll g ≡ Open
+IsInTurn m (SyncPlaced g) = phase_at m.roll g ≡ Open
+IsInTurn m (CloseGate g) = phase_at m.roll g ≡ Placed
+IsInTurn m (SyncClosed g) = phase_at m.roll g ≡ GateTaken
+IsInTurn m (Acknowledge g) = phase_at m.roll g ≡ Done
+IsInTurn m (Abandon g) = may_end (phase_at m.roll g) ≡ true
+
+-- each event came in its group's turn
+abbrev pub AreInTurn : Machine → List trail.Entry → Type 0
+AreInTurn m [] = Unit {0}
+AreInTurn m (e ∷ es) = IsInTurn m e.0 × AreInTurn (answered m e.0 e.1) es
+
+-- the events of a site led to its machine, each in its group's turn
+pub record IsRun {T S : Type 0} (a : Account T S) : Type 0 where
+  pub leads : machine_after idle a.events ≡ machine_of a.keeping
+  pub turns : AreInTurn idle a.events
+
+-- how far a group of a site has come
+abbrev pub standing_at : {T S : Type 0} → Account T S → ℕ → Standing
+standing_at a g = standing_in a.keeping.standings g
+
+-- a stretch of events of one group
+pub record Works {T S : Type 0} (g : ℕ) (old new : Account T S) : Type 0 where
+  pub run : IsRun old → IsRun new
+  pub others : (h : ℕ) → (h ≡ g → ⊥) → standing_at new h ≡ standing_at old h
+  pub count : length new.keeping.standings ≡ length old.keeping.standings
+  pub groups : new.groups ≡ old.groups
+  pub opened_book : new.opened_book ≡ old.opened_book
+  pub opened : new.opened ≡ old.opened
+
+abbrev pub object_of : Entry → Thing
+object_of e = e.object
+
+-- the group with this number that places these files and removes nothing
+abbrev pub placing : ℕ → List Entry → Group
+placing g files = record {
+  content = record { group = g; removals = []; placements = map placement_of files };
+  objects = map object_of files;
+}
+
+-- all that a package places, in the order in which it is staged
+abbrev pub all_in : Files → List Entry
+all_in files = files.image.items ++ files.folder.items
+
+-- the standing has staged these files, and removes nothing
+pub record HasStaged (files : List Entry) (s : Standing) : Type 0 where
+  pub removals : s.removals ≡ []
+  pub placements : s.placements ≡ map placement_of files
+  pub objects : s.objects ≡ map object_of files
+
+-- what the group of a site does so far
+abbrev pub group_in : {T S : Type 0} → Account T S → ℕ → Group
+group_in a g = group_of g (standing_at a g)
+
+-- no gate of a group in this phase may hold anything, and none of its paths is being changed
+abbrev pub is_shut : Phase → Bool
+is_shut GatePut = false
+is_shut Open = false
+is_shut Placed = false
+is_shut GateTaken = false
+is_shut Redo = false
+is_shut Redone = false
+is_shut Odd = false
+is_shut Emptied = false
+is_shut p = true

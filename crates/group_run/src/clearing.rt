@@ -1,0 +1,42 @@
+ghost use Rattle.std.specs.Prelude.{◌≡◌, ◌≤◌, ◌⊎◌, ℕ, List, Err, IfErr, IsErrOf, IsOk, IsTrue, OnOk};
+ghost use Rattle.file_tree.specs.Disk.{IsUntouched, Map, Rose};
+ghost use Rattle.file_tree.specs.Moments.{Since};
+ghost use Rattle.group_merge.specs.Group.{cleared};
+ghost use Rattle.group_merge.specs.Phases.{IsShut};
+ghost use Rattle.merge_record.specs.Recovered.{IsRecovered};
+
+use crate::stop::Stop;
+use file_tree::{Tree, TreeFault};
+use recovery::clear_journal;
+use std::alloc::Global;
+
+/// Clears the journal behind its closed gates, unless the device failed, and tells how the run
+/// ended then.
+pub(crate) fn clear<T: Tree>(alloc: Global, tree: &mut T, end: Result<(), Stop>) -> Result<(), Stop>
+    ensures failed { IsTrue T.tells → IsErrOf end Stop.Device →
+        T.story tree.new ≡ T.story tree.old }
+    ensures moments { IsTrue T.tells → (IsErrOf end Stop.Device → ⊥) → (m : Map) →
+        IsShut m (T.story tree.old).now →
+        Since (λ c. IsRecovered c (cleared m)) (T.story tree.old) (T.story tree.new) }
+    ensures cleared { IsTrue T.tells → (IsErrOf result Stop.Device → ⊥) →
+        (IsErrOf result Stop.Memory → ⊥) → (m : Map) → IsShut m (T.story tree.old).now →
+        (q : List ℕ) → (T.story tree.new).now.holds q ≡ cleared m q }
+    ensures settled { IsTrue T.tells → (IsErrOf result Stop.Device → ⊥) →
+        (IsErrOf result Stop.Memory → ⊥) → IsUntouched (T.story tree.new).now }
+    ensures ok { OnOk result (IsOk end) }
+    ensures told { IfErr result (λ e. (e ≡ Stop.Device) ⊎ ((e ≡ Stop.Memory) ⊎ (end ≡ Err e))) }
+    ensures output { IsErrOf result Stop.Output → IsErrOf end Stop.Output }
+    ensures device { IsErrOf end Stop.Device → IsErrOf result Stop.Device }
+    ensures count { T.faults tree.old ≤ T.faults tree.new }
+    ensures rose { IsErrOf result Stop.Device → (IsErrOf end Stop.Device → ⊥) →
+        Rose (T.faults tree.old) (T.faults tree.new) }
+{
+    if let Err(Stop::Device) = end {
+        return end;
+    }
+    match clear_journal(alloc, tree) {
+        Ok(()) => end,
+        Err(TreeFault::Failed) => Err(Stop::Device),
+        Err(TreeFault::Memory) => Err(Stop::Memory),
+    }
+}

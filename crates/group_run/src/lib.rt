@@ -1,0 +1,34 @@
+//! A group merged into a tree at rest through a site, from its beginning to the cleared journal.
+//!
+//! **A contract sees** the tree as its story, the groups that a crash leaves and the tree holds
+//! (`Went`), the sink as the bytes that it took, and the machine as its standings and its order.
+//!
+//! **Proved**: each crash image of each moment recovers to the tree from before with some groups of
+//! the run applied, at the end all of the history among them; unless the device failed just these;
+//! unless memory ran out either, the tree reads so, with no journal and nothing unsynced. The
+//! history is the machine's order, whatever failed. What was written is the line of a group that
+//! was acknowledged, or some beginning of it. A run that a file or the claim stopped has its cause
+//! (`HasCause`).
+//!
+//! **Only tested**: nothing so far.
+//!
+//! ```
+//! let merged = merge_group(alloc, tree, sink, task);
+//! ```
+#![tactic(auto)]
+
+mod claiming;
+mod clearing;
+mod files;
+mod merging;
+mod opening;
+mod run;
+mod running;
+mod sealing;
+mod staging;
+mod stop;
+mod telling;
+
+pub use files::Files;
+pub use run::{Merged, Task, merge_group};
+pub use stop::Stop;

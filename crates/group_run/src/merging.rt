@@ -1,0 +1,71 @@
+ghost use Rattle.std.specs.Prelude.{◌≡◌, ◌++◌, ◌∷◌, ◌<◌, [], true, false, IfErr, IsErrOf, OnErr, OnOk, length};
+ghost use Rattle.file_tree.specs.Disk.{CountsFault};
+ghost use Rattle.merge_core.specs.Payloads.{IsAt};
+ghost use Rattle.merge_core.specs.Phase.{was_opened};
+ghost use Rattle.merge_core.specs.Steps.{IsTaken};
+ghost use Rattle.merge_core.specs.declared.phase.Phase.TheVariants as phases;
+ghost use Rattle.merge_core.specs.declared.step.Step.TheVariants as steps;
+ghost use Rattle.merge_site.specs.Booking.{wishes_at};
+ghost use Rattle.group_run.specs.Causes.{IsCause};
+ghost use Rattle.group_run.specs.Working.{Works, all_in, group_in, is_shut, placing};
+ghost use Rattle.group_run.specs.Working.{standing_at};
+
+use crate::claiming::claim;
+use crate::files::Files;
+use crate::opening::{close, open, place_paths, settle};
+use crate::sealing::{mark, record};
+use crate::staging::{begin, stage_files};
+use crate::stop::Stop;
+use file_tree::{Sink, Tree};
+use merge_site::Site;
+use std::alloc::Global;
+
+/// Begins a group, makes all that it needs in the journal durable, and claims its paths.
+pub(crate) fn build<T: Tree, S: Sink>(
+    alloc: Global,
+    site: &mut Site<T, S>,
+    group: u32,
+    files: Files,
+) -> Result<(), Stop>
+    requires taken { IsTaken site.old.keeping group steps.Begin }
+    requires row { group < length site.old.wishes }
+    requires unwished { wishes_at site.old.wishes group ≡ [] }
+    ensures works { Works group site.old site.new }
+    ensures order { site.new.keeping.order ≡ site.old.keeping.order }
+    ensures at { OnOk result (IsAt site.new.keeping group phases.Claimed) }
+    ensures group { OnOk result (group_in site.new group ≡ placing group (all_in files)) }
+    ensures shut { is_shut (standing_at site.new group).phase ≡ true }
+    ensures unopened { was_opened (standing_at site.new group).phase ≡ false }
+    ensures quiet { IfErr result (λ e. ¬ (e ≡ Stop.Output)) }
+    ensures cause { IfErr result (IsCause T.tells (T.story site.new.tree).now.holds files
+        site.new group) }
+    ensures sink { site.new.sink ≡ site.old.sink }
+    ensures faults { CountsFault (IsErrOf result Stop.Device) (T.faults site.old.tree)
+        (T.faults site.new.tree) }
+{
+    begin(site, group);
+    stage_files(site, group, files)?;
+    record(alloc, site, group)?;
+    mark(site, group)?;
+    claim(site, group)
+}
+
+/// Brings a claimed group into the tree for good.
+pub(crate) fn commit<T: Tree, S: Sink>(site: &mut Site<T, S>, group: u32) -> Result<(), Stop>
+    requires at { IsAt site.old.keeping group phases.Claimed }
+    requires none { (standing_at site.old group).removals ≡ [] }
+    ensures works { Works group site.old site.new }
+    ensures settled { OnOk result
+        (site.new.keeping.order ≡ site.old.keeping.order ++ group_in site.old group ∷ []) }
+    ensures order { OnErr result (site.new.keeping.order ≡ site.old.keeping.order) }
+    ensures at { OnOk result (IsAt site.new.keeping group phases.Placed) }
+    ensures group { group_in site.new group ≡ group_in site.old group }
+    ensures only { IfErr result (λ e. e ≡ Stop.Device) }
+    ensures sink { site.new.sink ≡ site.old.sink }
+    ensures faults { CountsFault (IsErrOf result Stop.Device) (T.faults site.old.tree)
+        (T.faults site.new.tree) }
+{
+    open(site, group)?;
+    place_paths(site, group)?;
+    settle(site, group)
+}

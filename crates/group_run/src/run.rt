@@ -1,0 +1,113 @@
+ghost use Rattle.std.specs.Prelude.{◌≡◌, ◌∷◌, ◌<◌, ◌^◌, [], ℕ, true, length, map};
+ghost use Rattle.std.specs.Prelude.{IfErr, IsErrOf, IsTrue, MatchOption, OnErr, OnOk, vec_capacity, vec_len};
+ghost use Rattle.file_tree.specs.Disk.{CountsFault};
+ghost use Rattle.merge_core.specs.Trail.{IsAtRest};
+ghost use Rattle.group_run.specs.Applied.{number};
+ghost use Rattle.group_run.specs.Causes.{HasCause};
+ghost use Rattle.group_run.specs.Lines.{AreLines, Wrote, line_in};
+ghost use Rattle.group_run.specs.Went.{Went};
+ghost use Rattle.group_run.specs.Working.{all_in, placing};
+
+use crate::clearing::clear;
+use crate::files::Files;
+use crate::running::drive;
+use crate::stop::Stop;
+use file_tree::{Sink, Tree};
+use merge_core::Core;
+use merge_site::{Site, SiteGroup};
+use owner_book::OwnerBook;
+use std::alloc::Global;
+
+/// A group that is to be merged, and what its run takes, made before the first change of the tree.
+#[derive(Drop)]
+pub struct Task {
+    pub group: u32,
+    pub files: Files,
+    /// Who owns what; nothing is claimed.
+    pub book: OwnerBook,
+    /// What the site is opened for.
+    pub groups: Vec<SiteGroup>,
+    pub history: Vec<u32>,
+    pub acknowledged: Vec<u32>,
+}
+
+/// What a run of groups gives back.
+#[derive(Drop)]
+pub struct Merged<T, S> {
+    pub tree: T,
+    pub sink: S,
+    /// The machine as the run left it, where its site was opened.
+    pub machine: Option<Core>,
+    pub end: Result<(), Stop>,
+    /// The groups that are in the tree for good, in order.
+    pub history: Vec<u32>,
+    /// The groups whose line was written, in order.
+    pub acknowledged: Vec<u32>,
+}
+
+/// Merges a group into a tree at rest through a site, writes its line, and clears the journal.
+pub fn merge_group<T: Tree, S: Sink>(alloc: Global, tree: T, sink: S, task: Task) -> Merged<T, S>
+    requires rest { IsTrue T.tells → IsAtRest (T.story tree).now.holds (T.story tree).now }
+    requires small { length task.groups.items < 2 ^ 32 }
+    requires there { task.group < length task.groups.items }
+    requires unclaimed { task.book.claims ≡ [] }
+    requires none { task.history.items ≡ [] }
+    requires untold { task.acknowledged.items ≡ [] }
+    requires room { vec_len task.history < vec_capacity task.history }
+    requires more { vec_len task.acknowledged < vec_capacity task.acknowledged }
+    ensures went { IsTrue T.tells → Went (λ x. x ≡ placing task.group (all_in task.files))
+        (T.story tree) (T.story result.tree) result.history.items result.end }
+    ensures machine { MatchOption result.machine (result.history.items ≡ [])
+        (λ k. result.history.items ≡ map number k.order) }
+    ensures told { OnOk result.end ((result.history.items ≡ task.group ∷ []) ×
+        (result.acknowledged.items ≡ task.group ∷ [])) }
+    ensures written { IsTrue S.tells → Wrote
+        (AreLines (line_in task.groups.items) result.history.items result.acknowledged.items)
+        (S.written sink) (S.written result.sink) }
+    ensures cause { IfErr result.end (HasCause T.tells (T.story tree).now.holds task.book
+        task.groups.items task.files task.group result.machine) }
+    ensures device { CountsFault (IsErrOf result.end Stop.Device) (T.faults tree)
+        (T.faults result.tree) }
+    ensures output { CountsFault (IsErrOf result.end Stop.Output) (S.faults sink)
+        (S.faults result.sink) }
+{
+    let Task {
+        group,
+        files,
+        book,
+        groups,
+        mut history,
+        mut acknowledged,
+    } = task;
+    let mut site = match Site::open(alloc, tree, sink, book, groups) {
+        Ok(site) => site,
+        Err((_, tree, sink)) => {
+            return Merged {
+                tree,
+                sink,
+                machine: None,
+                end: Err(Stop::Memory),
+                history,
+                acknowledged,
+            };
+        }
+    };
+    let end = drive(
+        alloc,
+        &mut site,
+        group,
+        files,
+        &mut history,
+        &mut acknowledged,
+    );
+    let (mut tree, sink, machine) = site.into_parts();
+    let end = clear(alloc, &mut tree, end);
+    Merged {
+        tree,
+        sink,
+        machine: Some(machine),
+        end,
+        history,
+        acknowledged,
+    }
+}

@@ -1,0 +1,57 @@
+ghost use Rattle.std.specs.Prelude.{◌≡◌, List, true, IfErr, IsErrOf, OnOk};
+ghost use Rattle.file_tree.specs.Disk.{CountsFault};
+ghost use Rattle.file_tree.specs.declared.objects.Entry.{Entry};
+ghost use Rattle.merge_core.specs.Payloads.{IsAt};
+ghost use Rattle.merge_core.specs.Phase.{may_end};
+ghost use Rattle.merge_core.specs.declared.phase.Phase.TheVariants as phases;
+ghost use Rattle.group_run.specs.Causes.{IsPlain};
+ghost use Rattle.group_run.specs.Working.{HasStaged, Works, group_in, placing, standing_at};
+
+use crate::stop::Stop;
+use file_tree::{Sink, Tree};
+use merge_site::Site;
+use std::alloc::Global;
+
+/// Puts the record of a group that removes nothing.
+pub(crate) fn record<T: Tree, S: Sink>(
+    alloc: Global,
+    site: &mut Site<T, S>,
+    group: u32,
+) -> Result<(), Stop>
+    requires at { IsAt site.old.keeping group phases.Building }
+    ensures works { Works group site.old site.new }
+    ensures order { site.new.keeping.order ≡ site.old.keeping.order }
+    ensures at { OnOk result (IsAt site.new.keeping group phases.Recorded) }
+    ensures group { (files : List Entry) → HasStaged files (standing_at site.old group) →
+        OnOk result (group_in site.new group ≡ placing group files) }
+    ensures early { may_end (standing_at site.new group).phase ≡ true }
+    ensures quiet { IfErr result (λ e. ¬ (e ≡ Stop.Output)) }
+    ensures plain { IfErr result IsPlain }
+    ensures wishes { OnOk result (site.new.wishes ≡ site.old.wishes) }
+    ensures sink { site.new.sink ≡ site.old.sink }
+    ensures faults { CountsFault (IsErrOf result Stop.Device) (T.faults site.old.tree)
+        (T.faults site.new.tree) }
+{
+    site.put_record(group, Vec::new(alloc))?;
+    Ok(())
+}
+
+/// Puts the token of a group, and makes its files durable.
+pub(crate) fn mark<T: Tree, S: Sink>(site: &mut Site<T, S>, group: u32) -> Result<(), Stop>
+    requires at { IsAt site.old.keeping group phases.Recorded }
+    ensures works { Works group site.old site.new }
+    ensures order { site.new.keeping.order ≡ site.old.keeping.order }
+    ensures at { OnOk result (IsAt site.new.keeping group phases.Sealed) }
+    ensures group { group_in site.new group ≡ group_in site.old group }
+    ensures early { may_end (standing_at site.new group).phase ≡ true }
+    ensures quiet { IfErr result (λ e. ¬ (e ≡ Stop.Output)) }
+    ensures plain { IfErr result IsPlain }
+    ensures wishes { OnOk result (site.new.wishes ≡ site.old.wishes) }
+    ensures sink { site.new.sink ≡ site.old.sink }
+    ensures faults { CountsFault (IsErrOf result Stop.Device) (T.faults site.old.tree)
+        (T.faults site.new.tree) }
+{
+    site.put_token(group)?;
+    site.sync_sealed(group)?;
+    Ok(())
+}
