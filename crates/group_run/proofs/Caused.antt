@@ -1,37 +1,35 @@
 -- Why the run of a group was stopped, by what its calls said.
-use Rattle.std.proofs.Common.{◌≡◌, ◌⊎◌, ◌<◌, ◌++◌, ◌∙◌, ℕ, zero, suc, Bool, true, List, [], ◌∷◌, Result, Ok, Err, inl, inr, refl, ap, subst, sym, length, take, get_or, append_assoc, arith}
-use Rattle.std.specs.Prelude.{IfErr, IsTrue, replicate, slice_set}
+use Rattle.std.proofs.Common.{◌≡◌, ◌⊎◌, ◌<◌, ◌++◌, ◌∙◌, ℕ, zero, suc, Bool, true, List, [], ◌∷◌, Result, Ok, Err, inl, inr, refl, ap, subst, sym, length, take, get_or, map, append_assoc, arith}
+use Rattle.std.specs.Prelude.{IfErr, replicate}
 use Rattle.std.specs.List.{AllByRecursion}
-use Rattle.std.proofs.lemmas.List.{length-replicate, length_push, map-append, take_more}
-use Rattle.file_tree.specs.Disk.{Disk, Map}
+use Rattle.std.proofs.lemmas.List.{get_or-set_same, length-append, length-map, length-replicate, length-set, length_push, map-append, take_more}
+use Rattle.file_tree.specs.Disk.{Map}
 use Rattle.file_tree.specs.declared.fault.TreeFault.{TreeFault}
 use Rattle.file_tree.specs.declared.fault.TreeFault.TheVariants as trees
 use Rattle.file_tree.specs.declared.objects.Entry.{Entry}
 use Rattle.image_fit.specs.Images.{IsFirst, is_good}
 use Rattle.image_fit.specs.Misfits.{AreGood, IsBad}
 use Rattle.image_fit.proofs.Ways.{first_at}
-use Rattle.journal.specs.Group.{Group}
 use Rattle.merge_record.specs.declared.record.OwnerKey.{OwnerKey}
-use Rattle.owner_book.specs.Book.{Book, owner_in}
+use Rattle.owner_book.specs.Book.{Book}
 use Rattle.owner_book.specs.declared.wish.Wish.{Wish}
-use Rattle.merge_core.specs.Core.{standing_in}
-use Rattle.merge_core.specs.Keeping.{Keeping, machine_of}
-use Rattle.merge_core.specs.Order.{IsInOrder}
-use Rattle.merge_site.specs.Booking.{IsBooked, dying_at, wish_for, wishes_at, with_wish}
-use Rattle.merge_site.specs.Claiming.{IsStop, IsUnownedStop, Stops, StopsAt, removals_at}
-use Rattle.merge_site.specs.Site.{Account, KeepsHistory}
-use Rattle.merge_site.specs.Staging.{IsStageFault}
-use Rattle.merge_site.specs.declared.fault.ClaimStop.{ClaimStop}
-use Rattle.merge_site.specs.declared.fault.ClaimStop.TheVariants as claims
+use Rattle.merge_record.specs.Spelling.{PassesLimit}
+use Rattle.merge_record.specs.declared.record.Placement.{Placement}
+use Rattle.merge_core.specs.Event.{put_content}
+use Rattle.merge_core.specs.Keeping.{machine_of}
+use Rattle.merge_site.specs.Booking.{wish_for, wishes_at, with_wish}
+use Rattle.merge_site.specs.Site.{Account, IsOpened}
+use Rattle.merge_site.specs.Staging.{IsStageFault, placement_of}
 use Rattle.merge_site.specs.declared.fault.SiteFault.{SiteFault}
 use Rattle.merge_site.specs.declared.fault.SiteFault.TheVariants as sites
 use Rattle.merge_site.specs.declared.fault.StageFault.{StageFault}
 use Rattle.merge_site.specs.declared.fault.StageFault.TheVariants as stages
 use Rattle.merge_site.specs.declared.group.SiteGroup.{SiteGroup}
-use Rattle.group_run.specs.Causes.{IsCause, IsPlain, StopsRun, StopsStages, wishes_for, wishes_in}
+use Rattle.group_run.specs.Causes.{IsPlain, StopsRecord, StopsRun, StopsStages}
+use Rattle.group_run.specs.Granted.{wishes_for}
 use Rattle.group_run.specs.declared.files.Files.{Files}
-use Rattle.group_run.specs.Stops.{stop_of_claim, stop_of_site, stop_of_stage, stop_of_tree}
-use Rattle.group_run.specs.Working.{all_in, group_in, placing}
+use Rattle.group_run.specs.Stops.{stop_of_site, stop_of_stage, stop_of_tree}
+use Rattle.group_run.specs.Working.{HasStaged, Works, all_in, object_of, standing_at}
 use Rattle.group_run.specs.declared.stop.Stop.{Stop}
 use Rattle.group_run.specs.declared.stop.Stop.TheVariants as stops
 
@@ -48,26 +46,40 @@ pub tree_plain : (f : TreeFault) → IsPlain (stop_of_tree f)
 tree_plain trees.Failed = tt
 tree_plain trees.Memory = tt
 
-pub site_plain : (f : SiteFault) → IsPlain (stop_of_site f)
-site_plain sites.Device = tt
-site_plain sites.Limit = tt
-site_plain sites.Memory = tt
+-- a record that the site refused passes a limit
+pub record_stops : {T S : Type 0} (f : SiteFault) (a : Account T S) (files : List Entry) (g : ℕ) (removals : List (List ℕ)) → removals ≡ [] → HasStaged files (standing_at a g)
+    → (f ≡ sites.Limit → PassesLimit (put_content (machine_of a.keeping) g removals)) → StopsRecord g files (stop_of_site f)
+record_stops sites.Device a files g removals none has limit = tt
+record_stops sites.Limit a files g removals none has limit =
+    subst (λ (l : List (List ℕ)). PassesLimit (record { group = g; removals = l; placements = map placement_of files })) none
+    (subst (λ (l : List Placement). PassesLimit (record { group = g; removals = removals; placements = l })) has.placements (limit refl))
+record_stops sites.Memory a files g removals none has limit = tt
 
-pub plain_cause : {T S : Type 0} (tells : Bool) (m : Map) (files : Files) (a : Account T S) (g : ℕ) (e : Stop) → IsPlain e → IsCause tells m files a g e
-plain_cause tells m files a g stops.Device h = tt
-plain_cause tells m files a g stops.Output h = tt
-plain_cause tells m files a g (stops.Image b) h = absurd h
-plain_cause tells m files a g (stops.Claim s) h = absurd h
-plain_cause tells m files a g stops.Limit h = tt
-plain_cause tells m files a g stops.Memory h = tt
+pub plain_cause : (tells : Bool) (m : Map) (b : Book) (xs : List SiteGroup) (files : Files) (g : ℕ) (e : Stop) → IsPlain e → StopsRun tells m b xs files g e
+plain_cause tells m b xs files g stops.Device h = tt
+plain_cause tells m b xs files g stops.Output h = tt
+plain_cause tells m b xs files g (stops.Image bad) h = absurd h
+plain_cause tells m b xs files g (stops.Claim s) h = absurd h
+plain_cause tells m b xs files g stops.Limit h = absurd h
+plain_cause tells m b xs files g stops.Memory h = tt
 
-pub staged_cause : {T S : Type 0} (tells : Bool) (m : Map) (files : Files) (a : Account T S) (g : ℕ) (e : Stop) → StopsStages (all_in files) e → IsCause tells m files a g e
-staged_cause tells m files a g stops.Device h = tt
-staged_cause tells m files a g stops.Output h = tt
-staged_cause tells m files a g (stops.Image b) h = h
-staged_cause tells m files a g (stops.Claim s) h = absurd h
-staged_cause tells m files a g stops.Limit h = tt
-staged_cause tells m files a g stops.Memory h = tt
+pub staged_cause : (tells : Bool) (m : Map) (b : Book) (xs : List SiteGroup) (files : Files) (g : ℕ) (e : Stop) → StopsStages [] (all_in files) e → StopsRun tells m b xs files g e
+staged_cause tells m b xs files g stops.Device h = tt
+staged_cause tells m b xs files g stops.Output h = tt
+staged_cause tells m b xs files g (stops.Image bad) h = h
+staged_cause tells m b xs files g (stops.Claim s) h = absurd h
+staged_cause tells m b xs files g stops.Limit h =
+    let n = length-map (all_in files) placement_of in
+    inr (inl (omega (arith, h, n)))
+staged_cause tells m b xs files g stops.Memory h = tt
+
+pub record_cause : (tells : Bool) (m : Map) (b : Book) (xs : List SiteGroup) (files : Files) (g : ℕ) (e : Stop) → StopsRecord g (all_in files) e → StopsRun tells m b xs files g e
+record_cause tells m b xs files g stops.Device h = tt
+record_cause tells m b xs files g stops.Output h = tt
+record_cause tells m b xs files g (stops.Image bad) h = absurd h
+record_cause tells m b xs files g (stops.Claim s) h = absurd h
+record_cause tells m b xs files g stops.Limit h = h
+record_cause tells m b xs files g stops.Memory h = tt
 
 -- ---- files that are staged one after the other
 
@@ -86,12 +98,16 @@ front_push all done e front lt at =
     ∙ ap (λ (x : Entry). take (length done) all ++ x ∷ []) (sym at)
     ∙ ap (λ (xs : List Entry). xs ++ e ∷ []) (sym front))
 
-pub stage_stops : (f : StageFault) (k : Keeping) (g : ℕ) (all done : List Entry) (e : Entry) → AreGood done → done ≡ take (length done) all → length done < length all → e ≡ get_or all (length done) e → IsStageFault k g e f → StopsStages all (stop_of_stage f)
-stage_stops stages.Device k g all done e good front lt at h = tt
-stage_stops (stages.Image bad) k g all done e good front lt at h =
+pub stage_stops : {T S : Type 0} (f : StageFault) (a : Account T S) (g : ℕ) (before all done : List Entry) (e : Entry) → HasStaged (before ++ done) (standing_at a g) → AreGood done → done ≡ take (length done) all → length done < length all
+    → e ≡ get_or all (length done) e → IsStageFault a.keeping g e f → StopsStages before all (stop_of_stage f)
+stage_stops stages.Device a g before all done e has good front lt at h = tt
+stage_stops (stages.Image bad) a g before all done e has good front lt at h =
     first_at (λ x. is_good x ≡ true) (IsBad bad) all (length done) e lt at (subst (λ (l : List Entry). AreGood l) front good) h
-stage_stops stages.Limit k g all done e good front lt at h = tt
-stage_stops stages.Memory k g all done e good front lt at h = tt
+stage_stops stages.Limit a g before all done e has good front lt at h =
+    let n = ap length has.objects ∙ (length-map (before ++ done) object_of ∙ length-append before done) in
+    let whole = length-append before all in
+    omega (arith, h.1, n, whole, lt)
+stage_stops stages.Memory a g before all done e has good front lt at h = tt
 
 first_more : {A : Type 0} (P Q : A → Type 0) (xs ys : List A) → IsFirst P Q xs → IsFirst P Q (xs ++ ys)
 first_more P Q xs ys f = record {
@@ -113,42 +129,34 @@ first_behind P Q xs ys all f = record {
   has = f.has;
 }
 
-pub stages_more : (xs ys : List Entry) (e : Stop) → StopsStages xs e → StopsStages (xs ++ ys) e
+pub stages_more : (xs ys : List Entry) (e : Stop) → StopsStages [] xs e → StopsStages [] (xs ++ ys) e
 stages_more xs ys stops.Device h = tt
 stages_more xs ys stops.Output h = absurd h
 stages_more xs ys (stops.Image b) h = first_more (λ x. is_good x ≡ true) (IsBad b) xs ys h
 stages_more xs ys (stops.Claim s) h = absurd h
-stages_more xs ys stops.Limit h = tt
+stages_more xs ys stops.Limit h =
+    let n = length-append xs ys in
+    omega (arith, h, n)
 stages_more xs ys stops.Memory h = tt
 
-pub stages_behind : (xs ys : List Entry) (e : Stop) → AreGood xs → StopsStages ys e → StopsStages (xs ++ ys) e
+pub stages_behind : (xs ys : List Entry) (e : Stop) → AreGood xs → StopsStages xs ys e → StopsStages [] (xs ++ ys) e
 stages_behind xs ys stops.Device all h = tt
 stages_behind xs ys stops.Output all h = absurd h
 stages_behind xs ys (stops.Image b) all h = first_behind (λ x. is_good x ≡ true) (IsBad b) xs ys all h
 stages_behind xs ys (stops.Claim s) all h = absurd h
-stages_behind xs ys stops.Limit all h = tt
+stages_behind xs ys stops.Limit all h = h
 stages_behind xs ys stops.Memory all h = tt
 
 -- ---- what is wished
 
-wishes_set : (ws : List (List Wish)) (g : ℕ) (w : List Wish) → g < length ws → wishes_at (slice_set ws g w) g ≡ w
-wishes_set [] g w lt = absurd (omega (arith, lt))
-wishes_set (x ∷ ws) zero w lt = refl
-wishes_set (x ∷ ws) (suc g) w lt = wishes_set ws g w (omega (arith, lt))
-
-set_rows : (ws : List (List Wish)) (g : ℕ) (w : List Wish) → length (slice_set ws g w) ≡ length ws
-set_rows [] g w = refl
-set_rows (x ∷ ws) zero w = refl
-set_rows (x ∷ ws) (suc g) w = ap suc (set_rows ws g w)
-
 pub rows_kept : (ws next : List (List Wish)) (g : ℕ) (w : Wish) → next ≡ with_wish ws g w → length next ≡ length ws
-rows_kept ws next g w is = ap length is ∙ set_rows ws g (wishes_at ws g ++ w ∷ [])
+rows_kept ws next g w is = ap length is ∙ length-set ws g (wishes_at ws g ++ w ∷ [])
 
 pub wished_on : (ws next : List (List Wish)) (g : ℕ) (k : OwnerKey) (folder : Bool) (before : List Wish) (done : List Entry) (e : Entry) → g < length ws → next ≡ with_wish ws g (wish_for k folder e) → wishes_at ws g ≡ before ++ wishes_for k folder done
     → wishes_at next g ≡ before ++ wishes_for k folder (done ++ e ∷ [])
 wished_on ws next g k folder before done e lt is here =
     ap (λ (x : List (List Wish)). wishes_at x g) is
-    ∙ (wishes_set ws g (wishes_at ws g ++ wish_for k folder e ∷ []) lt
+    ∙ (get_or-set_same ws g (wishes_at ws g ++ wish_for k folder e ∷ []) [] lt
     ∙ (ap (λ (l : List Wish). l ++ wish_for k folder e ∷ []) here
     ∙ (append_assoc before (wishes_for k folder done) (wish_for k folder e ∷ []) ∙ ap (λ (l : List Wish). before ++ l) (sym (map-append (wish_for k folder) done (e ∷ []))))))
 
@@ -160,57 +168,17 @@ unwished (suc n) (suc g) = unwished n g
 pub rows_there : (ws : List (List Wish)) (n g : ℕ) → ws ≡ replicate n [] → g < n → g < length ws
 rows_there ws n g is lt = subst (λ (m : ℕ). g < m) (sym (ap length is ∙ length-replicate n [])) lt
 
--- ---- the claim
-
--- a stopped claim leaves what it was judged by
-pub stop_kept : {T S : Type 0} (old new : Account T S) (g : ℕ) (s : ClaimStop) → KeepsHistory old new → IsStop old g s → IsStop new g s
-stop_kept old new g s kept h =
-    subst (λ b. Stops b (dying_at new.groups g) (wishes_at new.wishes g) (removals_at new g) s) (sym kept.book)
-    (subst (λ x. Stops old.book (dying_at x g) (wishes_at new.wishes g) (removals_at new g) s) (sym kept.groups)
-    (subst (λ w. Stops old.book (dying_at old.groups g) (wishes_at w g) (removals_at new g) s) (sym kept.wishes)
-    (subst (λ (k : Keeping). Stops old.book (dying_at old.groups g) (wishes_at old.wishes g) (standing_in k.standings g).removals s) (sym kept.keeping) h)))
-
-pub met_kept : {T S : Type 0} (m : Map) (old new : Account T S) (g : ℕ) (s : ClaimStop) → KeepsHistory old new → IsUnownedStop m old g s → IsUnownedStop m new g s
-met_kept m old new g (claims.Collision c) kept h =
-    subst (λ b. StopsAt m (owner_in b.owned) (wishes_at new.wishes g) (claims.Collision c)) (sym kept.book)
-    (subst (λ w. StopsAt m (owner_in old.book.owned) (wishes_at w g) (claims.Collision c)) (sym kept.wishes) h)
-met_kept m old new g claims.Device kept h = tt
-met_kept m old new g (claims.Image bad) kept h = tt
-met_kept m old new g (claims.Removal p) kept h = tt
-met_kept m old new g claims.Overlap kept h = tt
-met_kept m old new g claims.Limit kept h = tt
-met_kept m old new g claims.Memory kept h = tt
-
-pub claim_cause : {T S : Type 0} (tells : Bool) (m : Map) (files : Files) (a : Account T S) (g : ℕ) (s : ClaimStop) → group_in a g ≡ placing g (all_in files) → wishes_at a.wishes g ≡ wishes_in files → IsStop a g s → (IsTrue tells → IsUnownedStop m a g s) → IsCause tells m files a g (stop_of_claim s)
-claim_cause tells m files a g claims.Device group wished stopped met = tt
-claim_cause tells m files a g (claims.Collision c) group wished stopped met = (group, wished, stopped, met)
-claim_cause tells m files a g (claims.Image bad) group wished stopped met = (group, wished, stopped, met)
-claim_cause tells m files a g (claims.Removal p) group wished stopped met = (group, wished, stopped, met)
-claim_cause tells m files a g claims.Overlap group wished stopped met = (group, wished, stopped, met)
-claim_cause tells m files a g claims.Limit group wished stopped met = (group, wished, stopped, met)
-claim_cause tells m files a g claims.Memory group wished stopped met = tt
-
 -- ---- the whole run
 
-pub run_cause : {T S : Type 0} (tells : Bool) (opening : Map) (d : Disk) (opened : Book) (groups : List SiteGroup) (files : Files) (b : Account T S) (g : ℕ) (e : Stop) → b.groups ≡ groups → b.opened_book ≡ opened
-    → IsBooked b.keeping b.events b.wishes b.opened_book b.book → (IsTrue tells → IsInOrder opening (machine_of b.keeping) d) → IsCause tells d.holds files b g e → StopsRun tells opening opened groups files g b.keeping e
-run_cause tells opening d opened groups files b g stops.Device brings has booked order h = tt
-run_cause tells opening d opened groups files b g stops.Output brings has booked order h = tt
-run_cause tells opening d opened groups files b g (stops.Image bad) brings has booked order h = h
-run_cause tells opening d opened groups files b g (stops.Claim s) brings has booked order h = record {
-  placed = h.0;
-  events = b.events;
-  wishes = b.wishes;
-  book = b.book;
-  booked = subst (λ (o : Book). IsBooked b.keeping b.events b.wishes o b.book) has booked;
-  wished = h.1;
-  refuses = subst (λ x. Stops b.book (dying_at x g) (wishes_in files) [] s) brings
-      (subst (λ (l : List (List ℕ)). Stops b.book (dying_at b.groups g) (wishes_in files) l s) (ap (λ (x : Group). x.content.removals) h.0)
-      (subst (λ (w : List Wish). Stops b.book (dying_at b.groups g) w (removals_at b g) s) h.1 h.2));
-  met = λ t. (d, order t, subst (λ (w : List Wish). StopsAt d.holds (owner_in b.book.owned) w s) h.1 (h.3 t));
-}
-run_cause tells opening d opened groups files b g stops.Limit brings has booked order h = tt
-run_cause tells opening d opened groups files b g stops.Memory brings has booked order h = tt
+-- a stretch of the group keeps what its cause is told of
+pub works_back : {T S : Type 0} (g : ℕ) (a b : Account T S) (P : T → Book → List SiteGroup → Type 0) → Works g a b → P b.opened b.opened_book b.groups → P a.opened a.opened_book a.groups
+works_back g a b P works h =
+    subst (λ t. P t a.opened_book a.groups) works.opened (subst (λ (k : Book). P b.opened k a.groups) works.opened_book (subst (λ (l : List SiteGroup). P b.opened b.opened_book l) works.groups h))
+
+-- a site that was just opened has the tree, the book and the groups that it was given
+pub opened_as : {T S : Type 0} (a : Account T S) (t : T) (k : Book) (groups : List SiteGroup) (P : T → Book → List SiteGroup → Type 0) → IsOpened a k groups → a.tree ≡ t → P a.tree a.opened_book a.groups → P t k groups
+opened_as a t k groups P opened is h =
+    subst (λ x. P x k groups) is (subst (λ (x : Book). P a.tree x groups) opened.opened_book (subst (λ (l : List SiteGroup). P a.tree a.opened_book l) opened.brings h))
 
 -- the journal is cleared behind it
 pub cleared_cause : {A : Type 0} (P : Stop → Type 0) (end end' : Result A Stop) → P stops.Device → P stops.Memory → IfErr end P → IfErr end' (λ e. (e ≡ stops.Device) ⊎ ((e ≡ stops.Memory) ⊎ (end ≡ Err e))) → IfErr end' P

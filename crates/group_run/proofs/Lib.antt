@@ -1,6 +1,7 @@
 pub mod Caused
 pub mod Cleared
 pub mod Drove
+pub mod Granted
 pub mod Rest
 pub mod Staged
 pub mod Stopped

@@ -22,7 +22,8 @@ pub record Recovers (Of : Group → Type 0) (m : Map) (among : List ℕ) (c : Ma
   pub is : IsRecovered c (applied m groups)
 
 -- a crash leaves what recovers to m with just the groups of the history applied, in this order
-pub record LeavesHistory (Of : Group → Type 0) (m : Map) (history : List ℕ) (d : Disk) : Type 0 where
+pub record LeavesHistory (Of : Group → Type 0) (m : Map) (history : List ℕ) (d : Disk) :
+    Type 0 where
   pub groups : List Group
   pub of : AreOf Of groups
   pub are : map number groups ≡ history

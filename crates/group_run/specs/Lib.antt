@@ -1,5 +1,6 @@
 pub mod Applied
 pub mod Causes
+pub mod Granted
 pub mod Lines
 pub mod Stops
 pub mod Went

@@ -4,10 +4,14 @@ use Rattle.file_tree.specs.Thing.{Thing}
 use Rattle.file_tree.specs.declared.objects.Entry.{Entry}
 use Rattle.journal.specs.Group.{Group}
 use Rattle.merge_core.specs.Core.{standing_in}
-use Rattle.merge_core.specs.Event.{Abandon, Acknowledge, Begin, Claim, CloseGate, Event, OpenGate, PlacePath, PutRecord, PutStage, PutToken, RemovePath, SyncClosed, SyncGate, SyncPlaced, SyncSealed, answered}
+use Rattle.merge_core.specs.Event.{Abandon, Acknowledge, Begin, Claim, CloseGate, Event, OpenGate}
+use Rattle.merge_core.specs.Event.{PlacePath, PutRecord, PutStage, PutToken, RemovePath}
+use Rattle.merge_core.specs.Event.{SyncClosed, SyncGate, SyncPlaced, SyncSealed, answered}
 use Rattle.merge_core.specs.Keeping.{machine_of}
-use Rattle.merge_core.specs.Phase.{Phase, Building, Claimed, Done, Emptied, GatePut, GateTaken, Idle, Marked, Odd, Open, Placed, Recorded, Redo, Redone, Sealed, may_end}
-use Rattle.merge_core.specs.Roll.{Machine, Standing, group_of, idle, phase_at}
+use Rattle.merge_core.specs.Phase.{Phase, Building, Claimed, Done, Emptied, GatePut, GateTaken}
+use Rattle.merge_core.specs.Phase.{Idle, Marked, Odd, Open, Placed, Recorded, Redo, Redone, Sealed}
+use Rattle.merge_core.specs.Phase.{may_end}
+use Rattle.merge_core.specs.Roll.{Machine, Standing, group_of, idle, phase_at, resting}
 use Rattle.merge_core.specs.Trail as trail
 use Rattle.merge_core.specs.Trail.{machine_after}
 use Rattle.group_run.specs.declared.files.Files.{Files}
@@ -45,6 +49,10 @@ pub record IsRun {T S : Type 0} (a : Account T S) : Type 0 where
 -- how far a group of a site has come
 abbrev pub standing_at : {T S : Type 0} → Account T S → ℕ → Standing
 standing_at a g = standing_in a.keeping.standings g
+
+-- no other group of the site has begun
+abbrev pub IsAlone : {T S : Type 0} → ℕ → Account T S → Type 0
+IsAlone g a = (h : ℕ) → ¬ (h ≡ g) → standing_at a h ≡ resting
 
 -- a stretch of events of one group
 pub record Works {T S : Type 0} (g : ℕ) (old new : Account T S) : Type 0 where

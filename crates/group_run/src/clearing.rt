@@ -1,4 +1,5 @@
-ghost use Rattle.std.specs.Prelude.{◌≡◌, ◌≤◌, ◌⊎◌, ℕ, List, Err, IfErr, IsErrOf, IsOk, IsTrue, OnOk};
+ghost use Rattle.std.specs.Prelude.{◌≡◌, ◌≤◌, ◌⊎◌, ℕ, List};
+ghost use Rattle.std.specs.Prelude.{Err, IfErr, IsErrOf, IsOk, IsTrue, OnOk};
 ghost use Rattle.file_tree.specs.Disk.{IsUntouched, Map, Rose};
 ghost use Rattle.file_tree.specs.Moments.{Since};
 ghost use Rattle.group_merge.specs.Group.{cleared};

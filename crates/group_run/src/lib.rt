@@ -5,12 +5,14 @@
 //!
 //! **Proved**: each crash image of each moment recovers to the tree from before with some groups of
 //! the run applied, at the end all of the history among them; unless the device failed just these;
-//! unless memory ran out either, the tree reads so, with no journal and nothing unsynced. The
-//! history is the machine's order, whatever failed. What was written is the line of a group that
-//! was acknowledged, or some beginning of it. A run that a file or the claim stopped has its cause
-//! (`HasCause`).
+//! unless memory ran out either, the tree reads so, with no journal and nothing unsynced. A group
+//! is applied only where the book from before the run takes its claim, and where nothing that
+//! nobody owns was in its way (`IsLetIn`). The history is the machine's order, whatever failed, and
+//! no other group of the machine has begun. What was written is the line of a group that was
+//! acknowledged, or some beginning of it. A run that a file, a limit or the claim stopped has its
+//! cause (`HasCause`); only want of memory comes without one.
 //!
-//! **Only tested**: nothing so far.
+//! **Only tested**: with ample memory a group is merged, or refused for its first collision.
 //!
 //! ```
 //! let merged = merge_group(alloc, tree, sink, task);

@@ -1,4 +1,5 @@
-ghost use Rattle.std.specs.Prelude.{◌≡◌, ◌++◌, ◌∷◌, ◌<◌, [], true, false, IfErr, IsErrOf, OnErr, OnOk, length};
+ghost use Rattle.std.specs.Prelude.{◌≡◌, ◌++◌, ◌∷◌, ◌<◌, [], true, false, length};
+ghost use Rattle.std.specs.Prelude.{IfErr, IsErrOf, IsTrue, OnErr, OnOk};
 ghost use Rattle.file_tree.specs.Disk.{CountsFault};
 ghost use Rattle.merge_core.specs.Payloads.{IsAt};
 ghost use Rattle.merge_core.specs.Phase.{was_opened};
@@ -6,8 +7,9 @@ ghost use Rattle.merge_core.specs.Steps.{IsTaken};
 ghost use Rattle.merge_core.specs.declared.phase.Phase.TheVariants as phases;
 ghost use Rattle.merge_core.specs.declared.step.Step.TheVariants as steps;
 ghost use Rattle.merge_site.specs.Booking.{wishes_at};
-ghost use Rattle.group_run.specs.Causes.{IsCause};
-ghost use Rattle.group_run.specs.Working.{Works, all_in, group_in, is_shut, placing};
+ghost use Rattle.group_run.specs.Causes.{StopsRun};
+ghost use Rattle.group_run.specs.Granted.{IsLetIn};
+ghost use Rattle.group_run.specs.Working.{IsAlone, Works, all_in, group_in, is_shut, placing};
 ghost use Rattle.group_run.specs.Working.{standing_at};
 
 use crate::claiming::claim;
@@ -28,6 +30,7 @@ pub(crate) fn build<T: Tree, S: Sink>(
     files: Files,
 ) -> Result<(), Stop>
     requires taken { IsTaken site.old.keeping group steps.Begin }
+    requires alone { IsAlone group site.old }
     requires row { group < length site.old.wishes }
     requires unwished { wishes_at site.old.wishes group ≡ [] }
     ensures works { Works group site.old site.new }
@@ -37,8 +40,11 @@ pub(crate) fn build<T: Tree, S: Sink>(
     ensures shut { is_shut (standing_at site.new group).phase ≡ true }
     ensures unopened { was_opened (standing_at site.new group).phase ≡ false }
     ensures quiet { IfErr result (λ e. ¬ (e ≡ Stop.Output)) }
-    ensures cause { IfErr result (IsCause T.tells (T.story site.new.tree).now.holds files
-        site.new group) }
+    ensures let_in { IsTrue T.tells → OnOk result
+        (IsLetIn (T.story site.old.opened).now.holds site.old.opened_book site.old.groups files
+        group (group_in site.new group)) }
+    ensures cause { IfErr result (StopsRun T.tells (T.story site.old.opened).now.holds
+        site.old.opened_book site.old.groups files group) }
     ensures sink { site.new.sink ≡ site.old.sink }
     ensures faults { CountsFault (IsErrOf result Stop.Device) (T.faults site.old.tree)
         (T.faults site.new.tree) }

@@ -1,12 +1,12 @@
-ghost use Rattle.std.specs.Prelude.{◌≡◌, ◌∷◌, ◌<◌, ◌^◌, [], ℕ, true, length, map};
-ghost use Rattle.std.specs.Prelude.{IfErr, IsErrOf, IsTrue, MatchOption, OnErr, OnOk, vec_capacity, vec_len};
+ghost use Rattle.std.specs.Prelude.{◌≡◌, ◌∷◌, ◌<◌, ◌^◌, [], ℕ, true, length};
+ghost use Rattle.std.specs.Prelude.{IfErr, IsErrOf, IsTrue, MatchOption, OnErr, OnOk};
+ghost use Rattle.std.specs.Prelude.{vec_capacity, vec_len};
 ghost use Rattle.file_tree.specs.Disk.{CountsFault};
 ghost use Rattle.merge_core.specs.Trail.{IsAtRest};
-ghost use Rattle.group_run.specs.Applied.{number};
 ghost use Rattle.group_run.specs.Causes.{HasCause};
+ghost use Rattle.group_run.specs.Granted.{IsLetIn};
 ghost use Rattle.group_run.specs.Lines.{AreLines, Wrote, line_in};
-ghost use Rattle.group_run.specs.Went.{Went};
-ghost use Rattle.group_run.specs.Working.{all_in, placing};
+ghost use Rattle.group_run.specs.Went.{HasRun, Went};
 
 use crate::clearing::clear;
 use crate::files::Files;
@@ -55,10 +55,11 @@ pub fn merge_group<T: Tree, S: Sink>(alloc: Global, tree: T, sink: S, task: Task
     requires untold { task.acknowledged.items ≡ [] }
     requires room { vec_len task.history < vec_capacity task.history }
     requires more { vec_len task.acknowledged < vec_capacity task.acknowledged }
-    ensures went { IsTrue T.tells → Went (λ x. x ≡ placing task.group (all_in task.files))
+    ensures went { IsTrue T.tells → Went (IsLetIn (T.story tree).now.holds task.book
+        task.groups.items task.files task.group)
         (T.story tree) (T.story result.tree) result.history.items result.end }
     ensures machine { MatchOption result.machine (result.history.items ≡ [])
-        (λ k. result.history.items ≡ map number k.order) }
+        (HasRun task.group (length task.groups.items) result.history.items) }
     ensures told { OnOk result.end ((result.history.items ≡ task.group ∷ []) ×
         (result.acknowledged.items ≡ task.group ∷ [])) }
     ensures written { IsTrue S.tells → Wrote

@@ -8,10 +8,11 @@ ghost use Rattle.merge_core.specs.declared.phase.Phase.TheVariants as phases;
 ghost use Rattle.merge_core.specs.declared.step.Step.TheVariants as steps;
 ghost use Rattle.group_run.specs.Applied.{number};
 ghost use Rattle.merge_site.specs.Booking.{wishes_at};
-ghost use Rattle.group_run.specs.Causes.{IsCause, StopsRun};
+ghost use Rattle.group_run.specs.Causes.{StopsRun};
+ghost use Rattle.group_run.specs.Granted.{IsLetIn};
 ghost use Rattle.group_run.specs.Lines.{AreLines, Wrote, line_in};
-ghost use Rattle.group_run.specs.Went.{Drove};
-ghost use Rattle.group_run.specs.Working.{Works, all_in, group_in, is_shut, placing};
+ghost use Rattle.group_run.specs.Went.{Drove, HasRun};
+ghost use Rattle.group_run.specs.Working.{IsAlone, Works, group_in, is_shut};
 ghost use Rattle.group_run.specs.Working.{standing_at};
 
 use crate::files::Files;
@@ -32,6 +33,7 @@ fn merge<T: Tree, S: Sink>(
     history: &mut Vec<u32>,
 ) -> Result<(), Stop>
     requires taken { IsTaken site.old.keeping group steps.Begin }
+    requires alone { IsAlone group site.old }
     requires row { group < length site.old.wishes }
     requires unwished { wishes_at site.old.wishes group ≡ [] }
     requires room { vec_len history.old < vec_capacity history.old }
@@ -40,13 +42,14 @@ fn merge<T: Tree, S: Sink>(
     ensures history { history.new.items ≡ map number site.new.keeping.order }
     ensures merged { OnOk result (history.new.items ≡ history.old.items ++ group ∷ []) }
     ensures at { OnOk result (IsAt site.new.keeping group phases.Done) }
-    ensures placing { was_opened (standing_at site.new group).phase ≡ true →
-        group_in site.new group ≡ placing group (all_in files) }
+    ensures let_in { IsTrue T.tells → was_opened (standing_at site.new group).phase ≡ true →
+        IsLetIn (T.story site.old.opened).now.holds site.old.opened_book site.old.groups files
+        group (group_in site.new group) }
     ensures shut { (IsErrOf result Stop.Device → ⊥) →
         is_shut (standing_at site.new group).phase ≡ true }
     ensures quiet { IfErr result (λ e. ¬ (e ≡ Stop.Output)) }
-    ensures cause { IfErr result (IsCause T.tells (T.story site.new.tree).now.holds files
-        site.new group) }
+    ensures cause { IfErr result (StopsRun T.tells (T.story site.old.opened).now.holds
+        site.old.opened_book site.old.groups files group) }
     ensures sink { site.new.sink ≡ site.old.sink }
     ensures faults { CountsFault (IsErrOf result Stop.Device) (T.faults site.old.tree)
         (T.faults site.new.tree) }
@@ -67,6 +70,7 @@ pub(crate) fn merge_and_tell<T: Tree, S: Sink>(
     acknowledged: &mut Vec<u32>,
 ) -> Result<(), Stop>
     requires taken { IsTaken site.old.keeping group steps.Begin }
+    requires alone { IsAlone group site.old }
     requires row { group < length site.old.wishes }
     requires unwished { wishes_at site.old.wishes group ≡ [] }
     requires there { group < length site.old.groups }
@@ -80,15 +84,16 @@ pub(crate) fn merge_and_tell<T: Tree, S: Sink>(
     ensures told { OnOk result ((history.new.items ≡ group ∷ []) ×
         (acknowledged.new.items ≡ group ∷ [])) }
     ensures untold { OnErr result (acknowledged.new.items ≡ []) }
-    ensures placing { was_opened (standing_at site.new group).phase ≡ true →
-        group_in site.new group ≡ placing group (all_in files) }
+    ensures let_in { IsTrue T.tells → was_opened (standing_at site.new group).phase ≡ true →
+        IsLetIn (T.story site.old.opened).now.holds site.old.opened_book site.old.groups files
+        group (group_in site.new group) }
     ensures shut { (IsErrOf result Stop.Device → ⊥) →
         is_shut (standing_at site.new group).phase ≡ true }
     ensures written { IsTrue S.tells → Wrote
         (AreLines (line_in site.old.groups) history.new.items acknowledged.new.items)
         (S.written site.old.sink) (S.written site.new.sink) }
-    ensures cause { IfErr result (IsCause T.tells (T.story site.new.tree).now.holds files
-        site.new group) }
+    ensures cause { IfErr result (StopsRun T.tells (T.story site.old.opened).now.holds
+        site.old.opened_book site.old.groups files group) }
     ensures device { CountsFault (IsErrOf result Stop.Device) (T.faults site.old.tree)
         (T.faults site.new.tree) }
     ensures output { CountsFault (IsErrOf result Stop.Output) (S.faults site.old.sink)
@@ -119,9 +124,11 @@ pub(crate) fn drive<T: Tree, S: Sink>(
     requires more { vec_len acknowledged.old < vec_capacity acknowledged.old }
     requires none { history.old.items ≡ [] }
     requires untold { acknowledged.old.items ≡ [] }
-    ensures drove { IsTrue T.tells → Drove (λ x. x ≡ placing group (all_in files))
+    ensures drove { IsTrue T.tells → Drove (IsLetIn (T.story site.old.tree).now.holds
+        site.old.opened_book site.old.groups files group)
         (T.story site.old.tree) (T.story site.new.tree) history.new.items result }
-    ensures history { history.new.items ≡ map number site.new.keeping.order }
+    ensures machine { HasRun group (length site.old.keeping.standings) history.new.items
+        site.new.keeping }
     ensures told { OnOk result ((history.new.items ≡ group ∷ []) ×
         (acknowledged.new.items ≡ group ∷ [])) }
     ensures untold { OnErr result (acknowledged.new.items ≡ []) }
@@ -129,7 +136,7 @@ pub(crate) fn drive<T: Tree, S: Sink>(
         (AreLines (line_in site.old.groups) history.new.items acknowledged.new.items)
         (S.written site.old.sink) (S.written site.new.sink) }
     ensures cause { IfErr result (StopsRun T.tells (T.story site.old.tree).now.holds
-        site.old.opened_book site.old.groups files group site.new.keeping) }
+        site.old.opened_book site.old.groups files group) }
     ensures device { CountsFault (IsErrOf result Stop.Device) (T.faults site.old.tree)
         (T.faults site.new.tree) }
     ensures output { CountsFault (IsErrOf result Stop.Output) (S.faults site.old.sink)

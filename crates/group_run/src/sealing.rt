@@ -4,7 +4,7 @@ ghost use Rattle.file_tree.specs.declared.objects.Entry.{Entry};
 ghost use Rattle.merge_core.specs.Payloads.{IsAt};
 ghost use Rattle.merge_core.specs.Phase.{may_end};
 ghost use Rattle.merge_core.specs.declared.phase.Phase.TheVariants as phases;
-ghost use Rattle.group_run.specs.Causes.{IsPlain};
+ghost use Rattle.group_run.specs.Causes.{IsPlain, StopsRecord};
 ghost use Rattle.group_run.specs.Working.{HasStaged, Works, group_in, placing, standing_at};
 
 use crate::stop::Stop;
@@ -26,7 +26,8 @@ pub(crate) fn record<T: Tree, S: Sink>(
         OnOk result (group_in site.new group ≡ placing group files) }
     ensures early { may_end (standing_at site.new group).phase ≡ true }
     ensures quiet { IfErr result (λ e. ¬ (e ≡ Stop.Output)) }
-    ensures plain { IfErr result IsPlain }
+    ensures cause { (files : List Entry) → HasStaged files (standing_at site.old group) →
+        IfErr result (StopsRecord group files) }
     ensures wishes { OnOk result (site.new.wishes ≡ site.old.wishes) }
     ensures sink { site.new.sink ≡ site.old.sink }
     ensures faults { CountsFault (IsErrOf result Stop.Device) (T.faults site.old.tree)

@@ -7,7 +7,8 @@ ghost use Rattle.merge_core.specs.declared.phase.Phase.TheVariants as phases;
 ghost use Rattle.merge_core.specs.declared.step.Step.TheVariants as steps;
 ghost use Rattle.image_fit.specs.Misfits.{AreGood};
 ghost use Rattle.merge_site.specs.Booking.{wishes_at};
-ghost use Rattle.group_run.specs.Causes.{StopsStages, wishes_for, wishes_in};
+ghost use Rattle.group_run.specs.Causes.{StopsStages};
+ghost use Rattle.group_run.specs.Granted.{wishes_for, wishes_in};
 ghost use Rattle.group_run.specs.Working.{HasStaged, Works, all_in, standing_at};
 
 use crate::files::Files;
@@ -47,7 +48,8 @@ fn stage_all<T: Tree, S: Sink>(
         OnOk result (HasStaged (before ++ files.items) (standing_at site.new group)) }
     ensures early { may_end (standing_at site.new group).phase ≡ true }
     ensures quiet { IfErr result (λ e. ¬ (e ≡ Stop.Output)) }
-    ensures cause { IfErr result (StopsStages files.items) }
+    ensures cause { (before : List Entry) → HasStaged before (standing_at site.old group) →
+        IfErr result (StopsStages before files.items) }
     ensures good { OnOk result (AreGood files.items) }
     ensures wishes { OnOk result (wishes_at site.new.wishes group ≡
         wishes_at site.old.wishes group ++ wishes_for owner folder files.items) }
@@ -78,7 +80,7 @@ pub(crate) fn stage_files<T: Tree, S: Sink>(
     ensures staged { OnOk result (HasStaged (all_in files) (standing_at site.new group)) }
     ensures early { may_end (standing_at site.new group).phase ≡ true }
     ensures quiet { IfErr result (λ e. ¬ (e ≡ Stop.Output)) }
-    ensures cause { IfErr result (StopsStages (all_in files)) }
+    ensures cause { IfErr result (StopsStages [] (all_in files)) }
     ensures wishes { OnOk result (wishes_at site.new.wishes group ≡ wishes_in files) }
     ensures sink { site.new.sink ≡ site.old.sink }
     ensures faults { CountsFault (IsErrOf result Stop.Device) (T.faults site.old.tree)

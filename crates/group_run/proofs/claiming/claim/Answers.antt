@@ -1,4 +1,4 @@
-use Rattle.std.proofs.Common.{◌≡◌, ◌∙◌, ap, refl, sym, subst}
+use Rattle.std.proofs.Common.{◌≡◌, ◌∙◌, refl, sym, subst}
 use Rattle.std.specs.Prelude.{IfErr}
 use Rattle.std.proofs.lemmas.Result.{err_from_is_err_and}
 use Rattle.merge_core.specs.Event.{Claim}
@@ -9,10 +9,7 @@ use Rattle.group_run.specs.declared.stop.Stop.TheVariants as stops
 use Rattle.group_run.proofs.Staged.{claims_on}
 use Rattle.group_run.proofs.Stopped.{claim_quiet}
 use Rattle.group_run.proofs.Worked.{at_after}
-use Rattle.file_tree.specs.Disk.{Story}
-use Rattle.merge_site.specs.Booking.{wishes_at}
-use Rattle.merge_site.specs.Claiming.{IsUnownedStop}
-use Rattle.group_run.proofs.Caused.{claim_cause, met_kept, stop_kept}
+use Rattle.group_run.proofs.Granted.{claim_stops, granted}
 use Rattle.group_run.proofs.claiming.claim.Goals as goal
 
 pub returns-in_err-claim-clause-works : goal.returns-in_err-claim-clause-works
@@ -75,12 +72,14 @@ returns-in_err-claim-clause-quiet g c =
     subst (λ r. IfErr r (λ e. e ≡ stops.Output → ⊥)) (sym p.1) (λ x. claim_quiet _ (sym p.2 ∙ x))
 
 pub returns-in_err-claim-clause-cause : goal.returns-in_err-claim-clause-cause
-returns-in_err-claim-clause-cause g c files placed wished =
+returns-in_err-claim-clause-cause g c files built =
     let p = err_from_is_err_and c.from_residual.result c.from_residual.ensures.1 in
     let old = c.args.site.now in
-    let new = c.claim.new.self in
-    let s = c.in_err-claim.field-0.0 in
     let e = c.in_err-claim.ensures in
-    let group = (claims_on c.claim.result old new c.args.group c.requires.at c.claim.ensures.event c.claim.ensures.kept).group in
-    rw (p.1, p.2) (claim_cause g.T.Tree.tells (g.T.Tree.story new.tree).now.holds files new c.args.group s (group ∙ placed) (ap (λ l. wishes_at l c.args.group) e.kept.wishes ∙ wished) (stop_kept old new c.args.group s e.kept e.stopped)
-    (λ t. met_kept (g.T.Tree.story new.tree).now.holds old new c.args.group s e.kept (subst (λ (x : Story). IsUnownedStop x.now.holds old c.args.group s) (sym (e.same t)) (e.unowned t))))
+    rw (p.1, p.2) (claim_stops g.T.Tree.tells old files c.args.group (g.T.Tree.story old.opened).now.holds (g.T.Tree.story old.tree).now c.in_err-claim.field-0.0 c.requires.at built c.promise.ensures.booked (λ t. (c.promise.ensures.held t).order) e.stopped e.unowned)
+
+pub returns-clause-granted : goal.returns-clause-granted
+returns-clause-granted g c files built t =
+    let old = c.args.site.now in
+    let e = c.in_ok-claim.ensures in
+    granted old files c.args.group (g.T.Tree.story old.opened).now.holds (g.T.Tree.story old.tree).now c.requires.at built c.promise.ensures.booked (c.promise.ensures.held t).order e.granted (e.clear t)

@@ -1,11 +1,14 @@
 use Rattle.std.proofs.Common.{◌<◌, ◌∙◌, ap, length, subst, sym}
 use Rattle.merge_site.specs.Booking.{wishes_at}
+use Rattle.std.specs.Prelude.{IfErr, OnOk}
+use Rattle.group_run.specs.Causes.{StopsRun}
+use Rattle.group_run.specs.Granted.{MayMerge}
 use Rattle.group_run.specs.Working.{all_in}
 use Rattle.group_run.proofs.Rest.{ends_shut, ok_if}
 use Rattle.group_run.proofs.Went.{not_opened}
 use Rattle.group_run.proofs.Worked.{works_then}
-use Rattle.std.proofs.lemmas.Result.{err_from_is_err_and}
-use Rattle.group_run.proofs.Caused.{plain_cause, staged_cause}
+use Rattle.std.proofs.lemmas.Result.{err_from_is_err_and, on_ok_weaker}
+use Rattle.group_run.proofs.Caused.{plain_cause, record_cause, staged_cause, works_back}
 use Rattle.group_run.proofs.merging.build.Goals as goal
 
 pub returns-in_err-stage_files-clause-works : goal.returns-in_err-stage_files-clause-works
@@ -53,8 +56,29 @@ returns-in_err-mark-clause-unopened g c = not_opened _ c.mark.ensures.early
 
 pub returns-clause-cause : goal.returns-clause-cause
 returns-clause-cause g c =
-    c.claim.ensures.cause c.args.files (c.mark.ensures.group ∙ c.in_ok-record.ensures.group (all_in c.args.files) c.in_ok-stage_files.ensures.staged)
-    (ap (λ l. wishes_at l c.args.group) (c.in_ok-mark.ensures.wishes ∙ c.in_ok-record.ensures.wishes) ∙ c.in_ok-stage_files.ensures.wishes)
+    let one = works_then c.args.group c.args.site.now c.begin.new.site c.stage_files.new.site c.begin.ensures.works c.stage_files.ensures.works in
+    let two = works_then c.args.group c.args.site.now c.stage_files.new.site c.record.new.site one c.record.ensures.works in
+    let three = works_then c.args.group c.args.site.now c.record.new.site c.mark.new.site two c.mark.ensures.works in
+    works_back c.args.group c.args.site.now c.mark.new.site (λ o b xs. IfErr c.claim.result (StopsRun g.T.Tree.tells (g.T.Tree.story o).now.holds b xs c.args.files c.args.group)) three
+    (c.claim.ensures.cause c.args.files (record {
+      placed = c.mark.ensures.group ∙ c.in_ok-record.ensures.group (all_in c.args.files) c.in_ok-stage_files.ensures.staged;
+      wished = ap (λ l. wishes_at l c.args.group) (c.in_ok-mark.ensures.wishes ∙ c.in_ok-record.ensures.wishes) ∙ c.in_ok-stage_files.ensures.wishes;
+      alone = λ h other. three.others h other ∙ c.requires.alone h other;
+    }))
+
+pub returns-clause-let_in : goal.returns-clause-let_in
+returns-clause-let_in g c t =
+    let one = works_then c.args.group c.args.site.now c.begin.new.site c.stage_files.new.site c.begin.ensures.works c.stage_files.ensures.works in
+    let two = works_then c.args.group c.args.site.now c.stage_files.new.site c.record.new.site one c.record.ensures.works in
+    let three = works_then c.args.group c.args.site.now c.record.new.site c.mark.new.site two c.mark.ensures.works in
+    let placed = c.mark.ensures.group ∙ c.in_ok-record.ensures.group (all_in c.args.files) c.in_ok-stage_files.ensures.staged in
+    on_ok_weaker c.claim.result (λ may. (c.claim.ensures.group ∙ placed, may))
+    (works_back c.args.group c.args.site.now c.mark.new.site (λ o b xs. OnOk c.claim.result (MayMerge (g.T.Tree.story o).now.holds b xs c.args.files c.args.group)) three
+    (c.claim.ensures.granted c.args.files (record {
+      placed = placed;
+      wished = ap (λ l. wishes_at l c.args.group) (c.in_ok-mark.ensures.wishes ∙ c.in_ok-record.ensures.wishes) ∙ c.in_ok-stage_files.ensures.wishes;
+      alone = λ h other. three.others h other ∙ c.requires.alone h other;
+    }) t))
 
 pub stage_files-requires-clause-row : goal.stage_files-requires-clause-row
 stage_files-requires-clause-row g c = subst (λ l. c.args.group < length l) (sym c.begin.ensures.wishes) c.requires.row
@@ -65,14 +89,15 @@ stage_files-requires-clause-unwished g c = ap (λ l. wishes_at l c.args.group) c
 pub returns-in_err-stage_files-clause-cause : goal.returns-in_err-stage_files-clause-cause
 returns-in_err-stage_files-clause-cause g c =
     let p = err_from_is_err_and c.from_residual.result c.from_residual.ensures.1 in
-    rw (p.1, p.2) (staged_cause g.T.Tree.tells (g.T.Tree.story c.stage_files.new.site.tree).now.holds c.args.files c.stage_files.new.site c.args.group _ c.in_err-stage_files.ensures.cause)
+    rw (p.1, p.2) (staged_cause g.T.Tree.tells (g.T.Tree.story c.args.site.now.opened).now.holds c.args.site.now.opened_book c.args.site.now.groups c.args.files c.args.group _ c.in_err-stage_files.ensures.cause)
 
 pub returns-in_err-record-clause-cause : goal.returns-in_err-record-clause-cause
 returns-in_err-record-clause-cause g c =
     let p = err_from_is_err_and c.from_residual-in_err-record.result c.from_residual-in_err-record.ensures.1 in
-    rw (p.1, p.2) (plain_cause g.T.Tree.tells (g.T.Tree.story c.record.new.site.tree).now.holds c.args.files c.record.new.site c.args.group _ c.in_err-record.ensures.plain)
+    rw (p.1, p.2) (record_cause g.T.Tree.tells (g.T.Tree.story c.args.site.now.opened).now.holds c.args.site.now.opened_book c.args.site.now.groups c.args.files c.args.group _
+    (c.in_err-record.ensures.cause (all_in c.args.files) c.in_ok-stage_files.ensures.staged))
 
 pub returns-in_err-mark-clause-cause : goal.returns-in_err-mark-clause-cause
 returns-in_err-mark-clause-cause g c =
     let p = err_from_is_err_and c.from_residual-in_err-mark.result c.from_residual-in_err-mark.ensures.1 in
-    rw (p.1, p.2) (plain_cause g.T.Tree.tells (g.T.Tree.story c.mark.new.site.tree).now.holds c.args.files c.mark.new.site c.args.group _ c.in_err-mark.ensures.plain)
+    rw (p.1, p.2) (plain_cause g.T.Tree.tells (g.T.Tree.story c.args.site.now.opened).now.holds c.args.site.now.opened_book c.args.site.now.groups c.args.files c.args.group _ c.in_err-mark.ensures.plain)

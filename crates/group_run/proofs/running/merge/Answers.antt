@@ -6,7 +6,7 @@ use Rattle.group_run.specs.Applied.{number}
 use Rattle.group_run.specs.Working.{group_in}
 use Rattle.group_run.proofs.Rest.{done_shut}
 use Rattle.group_run.proofs.Worked.{works_then}
-use Rattle.group_run.specs.Causes.{IsCause}
+use Rattle.group_run.specs.Causes.{StopsRun}
 use Rattle.group_run.specs.declared.stop.Stop.TheVariants as stops
 use Rattle.group_run.proofs.Caused.{only_err}
 use Rattle.group_run.proofs.running.merge.Goals as goal
@@ -14,8 +14,8 @@ use Rattle.group_run.proofs.running.merge.Goals as goal
 pub commit-requires-clause-none : goal.commit-requires-clause-none
 commit-requires-clause-none g c = ap (λ (x : Group). x.content.removals) c.in_ok-build.ensures.group
 
-pub returns-in_err-build-clause-placing : goal.returns-in_err-build-clause-placing
-returns-in_err-build-clause-placing g c opened = absurd (cc (c.build.ensures.unopened, opened))
+pub returns-in_err-build-clause-let_in : goal.returns-in_err-build-clause-let_in
+returns-in_err-build-clause-let_in g c t opened = absurd (cc (c.build.ensures.unopened, opened))
 
 pub returns-in_err-commit-clause-works : goal.returns-in_err-commit-clause-works
 returns-in_err-commit-clause-works g c = works_then c.args.group c.args.site.now c.build.new.site c.commit.new.site c.build.ensures.works c.commit.ensures.works
@@ -24,11 +24,11 @@ pub returns-clause-works : goal.returns-clause-works
 returns-clause-works g c =
     works_then c.args.group c.args.site.now c.commit.new.site c.close.new.site (works_then c.args.group c.args.site.now c.build.new.site c.commit.new.site c.build.ensures.works c.commit.ensures.works) c.close.ensures.works
 
-pub returns-in_err-commit-clause-placing : goal.returns-in_err-commit-clause-placing
-returns-in_err-commit-clause-placing g c opened = c.commit.ensures.group ∙ c.in_ok-build.ensures.group
+pub returns-in_err-commit-clause-let_in : goal.returns-in_err-commit-clause-let_in
+returns-in_err-commit-clause-let_in g c t opened = (c.commit.ensures.group ∙ c.in_ok-build.ensures.group, (c.in_ok-build.ensures.let_in t).1)
 
-pub returns-clause-placing : goal.returns-clause-placing
-returns-clause-placing g c opened = c.close.ensures.group ∙ (c.commit.ensures.group ∙ c.in_ok-build.ensures.group)
+pub returns-clause-let_in : goal.returns-clause-let_in
+returns-clause-let_in g c t opened = (c.close.ensures.group ∙ (c.commit.ensures.group ∙ c.in_ok-build.ensures.group), (c.in_ok-build.ensures.let_in t).1)
 
 pub returns-clause-history : goal.returns-clause-history
 returns-clause-history g c =
@@ -45,4 +45,4 @@ returns-in_err-commit-clause-cause g c =
 
 pub returns-clause-cause : goal.returns-clause-cause
 returns-clause-cause g c =
-    only_err (IsCause g.T.Tree.tells (g.T.Tree.story c.close.new.site.tree).now.holds c.args.files c.close.new.site c.args.group) stops.Device tt c.close.result c.close.ensures.only
+    only_err (StopsRun g.T.Tree.tells (g.T.Tree.story c.args.site.now.opened).now.holds c.args.site.now.opened_book c.args.site.now.groups c.args.files c.args.group) stops.Device tt c.close.result c.close.ensures.only

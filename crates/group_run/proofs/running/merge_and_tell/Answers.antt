@@ -1,5 +1,6 @@
 use Rattle.std.proofs.Common.{◌∙◌, ◌++◌, ◌∷◌, [], ap, sym, append-nil, take}
 use Rattle.std.proofs.lemmas.Result.{err_from_is_err_and}
+use Rattle.merge_core.specs.Phase.{was_opened}
 use Rattle.group_run.specs.Lines.{line_in}
 use Rattle.group_run.proofs.Told.{lines_cut, lines_none, lines_whole}
 use Rattle.group_run.proofs.Worked.{works_then}
@@ -36,3 +37,13 @@ pub returns-in_err-tell-clause-cause : goal.returns-in_err-tell-clause-cause
 returns-in_err-tell-clause-cause g c =
     let p = err_from_is_err_and c.from_residual-in_err-tell.result c.from_residual-in_err-tell.ensures.1 in
     rw (p.1, p.2, c.in_err-tell.ensures.only) tt
+
+pub returns-in_err-tell-clause-let_in : goal.returns-in_err-tell-clause-let_in
+returns-in_err-tell-clause-let_in g c t opened =
+    let one = c.merge.ensures.let_in t (ap was_opened c.in_ok-merge.ensures.at.phase) in
+    (c.tell.ensures.group ∙ one.0, one.1)
+
+pub returns-clause-let_in : goal.returns-clause-let_in
+returns-clause-let_in g c t opened =
+    let one = c.merge.ensures.let_in t (ap was_opened c.in_ok-merge.ensures.at.phase) in
+    (c.tell.ensures.group ∙ one.0, one.1)

@@ -1,4 +1,4 @@
-use Rattle.std.proofs.Common.{◌≡◌, ◌∙◌, refl, sym, subst}
+use Rattle.std.proofs.Common.{◌≡◌, ◌∙◌, Err, ap, refl, sym, subst}
 use Rattle.std.specs.Prelude.{IfErr}
 use Rattle.std.proofs.lemmas.Result.{err_from_is_err_and}
 use Rattle.group_run.specs.declared.stop.Stop.TheVariants as stops
@@ -9,8 +9,7 @@ use Rattle.merge_core.specs.declared.phase.Phase.TheVariants as phases
 use Rattle.merge_core.proofs.Standings.{set_here}
 use Rattle.group_run.proofs.Staged.{early_record, recorded_is}
 use Rattle.group_run.proofs.Worked.{at_after}
-use Rattle.group_run.specs.Causes.{IsPlain}
-use Rattle.group_run.proofs.Caused.{site_plain}
+use Rattle.group_run.proofs.Caused.{record_stops}
 use Rattle.group_run.proofs.sealing.record.Goals as goal
 
 pub returns-in_err-put_record-clause-works : goal.returns-in_err-put_record-clause-works
@@ -46,10 +45,10 @@ returns-in_err-put_record-clause-quiet g c =
     let p = err_from_is_err_and c.from_residual.result c.from_residual.ensures.1 in
     subst (λ r. IfErr r (λ e. e ≡ stops.Output → ⊥)) (sym p.1) (λ x. site_quiet _ (sym p.2 ∙ x))
 
-pub returns-in_err-put_record-clause-plain : goal.returns-in_err-put_record-clause-plain
-returns-in_err-put_record-clause-plain g c =
+pub returns-in_err-put_record-clause-cause : goal.returns-in_err-put_record-clause-cause
+returns-in_err-put_record-clause-cause g c files has =
     let p = err_from_is_err_and c.from_residual.result c.from_residual.ensures.1 in
-    subst (λ r. IfErr r IsPlain) (sym p.1) (subst IsPlain (sym p.2) (site_plain _))
+    rw (p.1, p.2) (record_stops c.in_err-put_record.field-0.0 c.args.site.now files c.args.group c.new.result.items c.new.ensures.items has (λ e. c.in_err-put_record.ensures.limit (ap Err e)))
 
 pub returns-clause-wishes : goal.returns-clause-wishes
 returns-clause-wishes g c = c.in_ok-put_record.ensures.ok.wishes refl

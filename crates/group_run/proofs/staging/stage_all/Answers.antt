@@ -64,10 +64,10 @@ returns-in_err-stage-clause-quiet g c =
     subst (λ r. IfErr r (λ e. e ≡ stops.Output → ⊥)) (sym p.1) (λ x. stage_quiet _ (sym p.2 ∙ x))
 
 pub returns-in_err-stage-clause-cause : goal.returns-in_err-stage-clause-cause
-returns-in_err-stage-clause-cause g c =
+returns-in_err-stage-clause-cause g c before has =
     let p = err_from_is_err_and c.from_residual.result c.from_residual.ensures.1 in
     let i = c.loop-file.invariant in
     let long : c.into_iter-file-iterator.result.rest.len ≡ length c.args.files.items = cc in
     let known = YieldsList-from_vec c.args.files.items c.into_iter-file-iterator.ensures.into_iter_gives.0 long in
     let t = YieldsList-turn known c.loop-file.yielded _ c.loop-file.yielded_by c.next.result c.next.new.self c.in-Some.file c.in-Some.is c.next.ensures.steps in
-    rw (p.1, p.2) (stage_stops c.in_err-stage.field-0.0 c.loop-file.site.keeping c.args.group c.args.files.items c.loop-file.yielded c.in-Some.file i.6 i.7 t.0 t.1 c.in_err-stage.ensures.refused)
+    rw (p.1, p.2) (stage_stops c.in_err-stage.field-0.0 c.loop-file.site c.args.group before c.args.files.items c.loop-file.yielded c.in-Some.file (i.3 before has) i.6 i.7 t.0 t.1 c.in_err-stage.ensures.refused)

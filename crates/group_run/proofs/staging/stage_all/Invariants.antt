@@ -2,7 +2,7 @@ use Rattle.std.proofs.Common.{◌≡◌, ◌≤◌, ◌++◌, List, length, take
 use Rattle.file_tree.specs.declared.objects.Entry.{Entry}
 use Rattle.image_fit.specs.Misfits.{AreGood}
 use Rattle.merge_site.specs.Booking.{wishes_at}
-use Rattle.group_run.specs.Causes.{wishes_for}
+use Rattle.group_run.specs.Granted.{wishes_for}
 use Rattle.merge_core.specs.Payloads.{IsAt}
 use Rattle.merge_core.specs.declared.phase.Phase.TheVariants.{Building}
 use Rattle.group_run.specs.Working.{HasStaged, Works, standing_at}

@@ -1,7 +1,8 @@
 use Rattle.std.proofs.Common.{◌<◌, ◌++◌, ◌∙◌, ℕ, [], ap, false, subst, sym, true}
 use Rattle.group_run.proofs.Worked.{works_then}
 use Rattle.std.proofs.lemmas.Result.{err_from_is_err_and, on_ok_weaker}
-use Rattle.group_run.specs.Causes.{StopsStages, wishes_for}
+use Rattle.group_run.specs.Causes.{StopsStages}
+use Rattle.group_run.specs.Granted.{wishes_for}
 use Rattle.group_run.proofs.Caused.{err_weaker, stages_behind, stages_more}
 use Rattle.group_run.proofs.staging.stage_files.Goals as goal
 
@@ -16,12 +17,13 @@ pub returns-clause-cause : goal.returns-clause-cause
 returns-clause-cause g c =
     let image = c.args.files.image.items in
     let folder = c.args.files.folder.items in
-    err_weaker (StopsStages folder) (StopsStages (image ++ folder)) (λ e. stages_behind image folder e c.in_ok-stage_all.ensures.good) c.stage_all-2.result c.stage_all-2.ensures.cause
+    err_weaker (StopsStages image folder) (StopsStages [] (image ++ folder)) (λ e. stages_behind image folder e c.in_ok-stage_all.ensures.good) c.stage_all-2.result
+    (c.stage_all-2.ensures.cause image (c.in_ok-stage_all.ensures.staged [] c.requires.staged))
 
 pub returns-in_err-stage_all-clause-cause : goal.returns-in_err-stage_all-clause-cause
 returns-in_err-stage_all-clause-cause g c =
     let p = err_from_is_err_and c.from_residual.result c.from_residual.ensures.1 in
-    rw (p.1, p.2) (stages_more c.args.files.image.items c.args.files.folder.items _ c.in_err-stage_all.ensures.cause)
+    rw (p.1, p.2) (stages_more c.args.files.image.items c.args.files.folder.items _ (c.in_err-stage_all.ensures.cause [] c.requires.staged))
 
 pub stage_all-requires-2-clause-row : goal.stage_all-requires-2-clause-row
 stage_all-requires-2-clause-row g c = subst (λ (n : ℕ). c.args.group < n) (sym c.in_ok-stage_all.ensures.rows) c.requires.row
