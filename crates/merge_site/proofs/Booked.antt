@@ -1,6 +1,7 @@
 -- The book goes along with the groups' events.
-use Rattle.std.proofs.Common.{◌≡◌, ◌⊎◌, ◌<◌, ◌++◌, ◌||◌, ◌==◌, ◌∷◌, ◌∙◌, ℕ, zero, suc, Bool, true, false, not, cond, List, [], Option, Some, None, ap, inl, inr, refl, subst, sym, length, map, is_some, arith, append_assoc}
+use Rattle.std.proofs.Common.{◌≡◌, ◌⊎◌, ◌<◌, ◌++◌, ◌||◌, ◌==◌, ◌∷◌, ◌∙◌, ℕ, zero, suc, Bool, true, false, not, cond, List, [], Option, Some, None, ap, inl, inr, refl, subst, sym, length, map, is_some, append_assoc}
 use Rattle.std.specs.Prelude.{bytes_eq, replicate, slice_set}
+use Rattle.std.proofs.lemmas.List.{get_or-set_same}
 use Rattle.std.proofs.lemmas.Bool.{cases_Bool, cases_eq, cond-false, cond-true, eq-eqb, false≢true, ne_eqb, or_left, or_right, true≢false}
 use Rattle.basics.specs.Members.{Has}
 use Rattle.file_tree.specs.Thing.{Thing}
@@ -206,11 +207,6 @@ booked_on k k' es es' ws o b e ok keeps fresh booked admits goes count log =
 
 -- ---- a wish more
 
-at_same : (ws : List (List Wish)) (g : ℕ) (w : List Wish) → g < length ws → wishes_at (slice_set ws g w) g ≡ w
-at_same [] g w lt = absurd (omega (arith, lt))
-at_same (x ∷ ws) zero w lt = refl
-at_same (x ∷ ws) (suc g) w lt = at_same ws g w (omega (arith, lt))
-
 at_other : (ws : List (List Wish)) (g h : ℕ) (w : List Wish) → (h ≡ g → ⊥) → wishes_at (slice_set ws g w) h ≡ wishes_at ws h
 at_other [] g h w other = refl
 at_other (x ∷ ws) zero zero w other = absurd (other refl)
@@ -261,7 +257,7 @@ booked_stage k k' es es' ws o b g p t w path booked lt building goes count log =
     paths each h = elim (cases_eq h g) [
       | inl e ↦
           ap (λ (x : ℕ). map books.path_of (wishes_at (with_wish ws g w) x)) e
-          ∙ (ap (map books.path_of) (at_same ws g (wishes_at ws g ++ w ∷ []) (subst (λ (n : ℕ). g < n) (sym booked.rows) lt))
+          ∙ (ap (map books.path_of) (get_or-set_same ws g (wishes_at ws g ++ w ∷ []) [] (subst (λ (n : ℕ). g < n) (sym booked.rows) lt))
           ∙ (map_push books.path_of (wishes_at ws g) w
           ∙ (ap (λ (l : List (List ℕ)). l ++ w.path ∷ []) (booked.paths g)
           ∙ (ap (λ (x : List ℕ). map path_of (standing_in k.standings g).placements ++ x ∷ []) path

@@ -2,7 +2,7 @@
 use Rattle.std.proofs.Common.{◌≡◌, ◌<◌, ◌+◌, ◌++◌, ◌∷◌, ◌∙◌, ℕ, zero, suc, true, false, List, [], Option, Some, None, Result, Ok, Err, Vec, ap, refl, subst, sym, length, length-append, map, get_or, MatchOption, arith}
 use Rattle.std.specs.Prelude.{IfErr, IsErrOf, OnErr, OnOk, is_err, is_ok, option_to_list, replicate, slice_index_or, slice_set}
 use Rattle.std.specs.Global.{Global}
-use Rattle.std.proofs.lemmas.List.{map-set}
+use Rattle.std.proofs.lemmas.List.{get_or-set_same, map-set}
 use Rattle.owner_book.specs.Book.{Book, ChangesClaim, HasOwnersOf, owner_in, path_of}
 use Rattle.owner_book.specs.Removing.{AreRemovable}
 use Rattle.owner_book.specs.Rules.{is_dying}
@@ -157,15 +157,10 @@ set_twice [] g a b = refl
 set_twice (x ∷ ls) zero a b = refl
 set_twice (x ∷ ls) (suc g) a b = ap (λ l. x ∷ l) (set_twice ls g a b)
 
-at_set : (ls : List (List Wish)) (g : ℕ) (a : List Wish) → g < length ls → wishes_at (slice_set ls g a) g ≡ a
-at_set [] g a lt = absurd (omega (arith, lt))
-at_set (x ∷ ls) zero a lt = refl
-at_set (x ∷ ls) (suc g) a lt = at_set ls g a (omega (arith, lt))
-
 -- the last wish of the group is gone, so the wishes are those before it
 pub wish_dropped : (vs : List (Vec (Wish) Global)) (g : ℕ) (v v' : Vec (Wish) Global) (ls : List (List Wish)) (w x : Wish) → g < length vs → g < length ls → v ≡ slice_index_or vs g v → lists_of vs ≡ with_wish ls g w → v.items ≡ v'.items ++ x ∷ [] → lists_of (slice_set vs g v') ≡ ls
 wish_dropped vs g v v' ls w x lt lt' is was left =
-    let here : wishes_at ls g ++ w ∷ [] ≡ v'.items ++ x ∷ [] = sym (at_set ls g (wishes_at ls g ++ w ∷ []) lt') ∙ (ap (λ (l : List (List Wish)). wishes_at l g) (sym was) ∙ (list_at vs g v lt is ∙ left)) in
+    let here : wishes_at ls g ++ w ∷ [] ≡ v'.items ++ x ∷ [] = sym (get_or-set_same ls g (wishes_at ls g ++ w ∷ []) [] lt') ∙ (ap (λ (l : List (List Wish)). wishes_at l g) (sym was) ∙ (list_at vs g v lt is ∙ left)) in
     map-set (λ (y : Vec (Wish) Global). y.items) vs g v'
     ∙ (ap (λ (l : List (List Wish)). slice_set l g v'.items) was
     ∙ (set_twice ls g (wishes_at ls g ++ w ∷ []) v'.items
@@ -175,7 +170,7 @@ wish_dropped vs g v v' ls w x lt lt' is was left =
 pub wish_popped : (vs : List (Vec (Wish) Global)) (g : ℕ) (v v' : Vec (Wish) Global) (ls : List (List Wish)) (w : Wish) (r : Option Wish) (n m : ℕ) → n ≡ length v.items → g < length vs → g < length ls → v ≡ slice_index_or vs g v → lists_of vs ≡ with_wish ls g w → v.items ≡ v'.items ++ option_to_list r → MatchOption r ((n ≡ 0) × (m ≡ 0)) (λ _. m + 1 ≡ n) → lists_of (slice_set vs g v') ≡ ls
 wish_popped vs g v v' ls w (Some x) n m size lt lt' is was left cases = wish_dropped vs g v v' ls w x lt lt' is was left
 wish_popped vs g v v' ls w None n m size lt lt' is was left cases =
-    let here : v.items ≡ wishes_at ls g ++ w ∷ [] = sym (list_at vs g v lt is) ∙ (ap (λ (l : List (List Wish)). wishes_at l g) was ∙ at_set ls g (wishes_at ls g ++ w ∷ []) lt') in
+    let here : v.items ≡ wishes_at ls g ++ w ∷ [] = sym (list_at vs g v lt is) ∙ (ap (λ (l : List (List Wish)). wishes_at l g) was ∙ get_or-set_same ls g (wishes_at ls g ++ w ∷ []) [] lt') in
     absurd (omega (arith, size, cases.0, ap length here, length-append (wishes_at ls g) (w ∷ [])))
 
 -- so many groups that wish nothing, and one more
