@@ -57,6 +57,7 @@ outside_kept a g opening d at alone order q out =
 pub granted : {T S : Type 0} (a : Account T S) (files : Files) (g : ℕ) (opening : Map) (d : Disk) → IsAt a.keeping g phases.Sealed → HasBuilt files g a → IsBooked a.keeping a.events a.wishes a.opened_book a.book → IsInOrder opening (machine_of a.keeping) d
     → IsGranted a g → AreClear d.holds a g → MayMerge opening a.opened_book a.groups files g
 granted a files g opening d at built booked order may clear = record {
+  good = built.good;
   book = a.book;
   unclaimed = book_kept a g at built.alone booked;
   granted = subst (λ (l : List Wish). MayClaim a.book (dying_at a.groups g) l []) built.wished

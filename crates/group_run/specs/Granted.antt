@@ -4,6 +4,7 @@ use Rattle.std.specs.List.{AllByRecursion}
 use Rattle.file_tree.specs.Disk.{Map}
 use Rattle.file_tree.specs.Paths.{is_below}
 use Rattle.file_tree.specs.declared.objects.Entry.{Entry}
+use Rattle.image_fit.specs.Misfits.{AreGood}
 use Rattle.journal.specs.Group.{Group}
 use Rattle.merge_record.specs.Names.{jobs}
 use Rattle.merge_record.specs.declared.record.OwnerKey.{OwnerKey}
@@ -34,10 +35,11 @@ pub record IsUnclaimed (opened book : Book) : Type 0 where
 abbrev pub IsOutside : Map → Map → Type 0
 IsOutside opening m = (q : List ℕ) → is_below jobs q ≡ false → m q ≡ opening q
 
--- the claim of a package's group is granted: the book from before the run takes it, and nothing
--- that nobody owns was in its way
+-- the claim of a package's group is granted: its files may be placed, the book from before the run
+-- takes their paths, and nothing that nobody owns was in their way
 pub record MayMerge (opening : Map) (opened : Book) (groups : List SiteGroup) (files : Files)
     (g : ℕ) : Type 0 where
+  pub good : AreGood (all_in files)
   pub book : Book
   pub unclaimed : IsUnclaimed opened book
   pub granted : MayClaim book (dying_at groups g) (wishes_in files) []
@@ -50,8 +52,10 @@ abbrev pub IsLetIn : Map → Book → List SiteGroup → Files → ℕ → Group
 IsLetIn opening opened groups files g x =
     (x ≡ placing g (all_in files)) × MayMerge opening opened groups files g
 
--- a site has staged all that a package places and wishes, and no other group of it has begun
+-- a site has staged all that a package places and wishes, which may be placed, and no other group
+-- of it has begun
 pub record HasBuilt {T S : Type 0} (files : Files) (g : ℕ) (a : Account T S) : Type 0 where
   pub placed : group_in a g ≡ placing g (all_in files)
   pub wished : wishes_at a.wishes g ≡ wishes_in files
+  pub good : AreGood (all_in files)
   pub alone : IsAlone g a

@@ -81,6 +81,7 @@ pub(crate) fn stage_files<T: Tree, S: Sink>(
     ensures early { may_end (standing_at site.new group).phase ≡ true }
     ensures quiet { IfErr result (λ e. ¬ (e ≡ Stop.Output)) }
     ensures cause { IfErr result (StopsStages [] (all_in files)) }
+    ensures good { OnOk result (AreGood (all_in files)) }
     ensures wishes { OnOk result (wishes_at site.new.wishes group ≡ wishes_in files) }
     ensures sink { site.new.sink ≡ site.old.sink }
     ensures faults { CountsFault (IsErrOf result Stop.Device) (T.faults site.old.tree)

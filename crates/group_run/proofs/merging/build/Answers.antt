@@ -63,6 +63,7 @@ returns-clause-cause g c =
     (c.claim.ensures.cause c.args.files (record {
       placed = c.mark.ensures.group ∙ c.in_ok-record.ensures.group (all_in c.args.files) c.in_ok-stage_files.ensures.staged;
       wished = ap (λ l. wishes_at l c.args.group) (c.in_ok-mark.ensures.wishes ∙ c.in_ok-record.ensures.wishes) ∙ c.in_ok-stage_files.ensures.wishes;
+      good = c.in_ok-stage_files.ensures.good;
       alone = λ h other. three.others h other ∙ c.requires.alone h other;
     }))
 
@@ -77,6 +78,7 @@ returns-clause-let_in g c t =
     (c.claim.ensures.granted c.args.files (record {
       placed = placed;
       wished = ap (λ l. wishes_at l c.args.group) (c.in_ok-mark.ensures.wishes ∙ c.in_ok-record.ensures.wishes) ∙ c.in_ok-stage_files.ensures.wishes;
+      good = c.in_ok-stage_files.ensures.good;
       alone = λ h other. three.others h other ∙ c.requires.alone h other;
     }) t))
 

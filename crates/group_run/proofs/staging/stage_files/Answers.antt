@@ -1,9 +1,10 @@
-use Rattle.std.proofs.Common.{◌<◌, ◌++◌, ◌∙◌, ℕ, [], ap, false, subst, sym, true}
+use Rattle.std.proofs.Common.{◌≡◌, ◌<◌, ◌++◌, ◌∙◌, ℕ, [], ap, false, subst, sym, true}
 use Rattle.group_run.proofs.Worked.{works_then}
 use Rattle.std.proofs.lemmas.Result.{err_from_is_err_and, on_ok_weaker}
+use Rattle.image_fit.specs.Images.{is_good}
 use Rattle.group_run.specs.Causes.{StopsStages}
 use Rattle.group_run.specs.Granted.{wishes_for}
-use Rattle.group_run.proofs.Caused.{err_weaker, stages_behind, stages_more}
+use Rattle.group_run.proofs.Caused.{all_both, err_weaker, stages_behind, stages_more}
 use Rattle.group_run.proofs.staging.stage_files.Goals as goal
 
 pub returns-clause-works : goal.returns-clause-works
@@ -33,3 +34,7 @@ returns-clause-wishes g c =
     let image = wishes_for c.args.files.owner false c.args.files.image.items in
     let folder = wishes_for c.args.files.owner true c.args.files.folder.items in
     on_ok_weaker c.stage_all-2.result (λ e. e ∙ (ap (λ l. l ++ folder) c.in_ok-stage_all.ensures.wishes ∙ ap (λ l. (l ++ image) ++ folder) c.requires.unwished)) c.stage_all-2.ensures.wishes
+
+pub returns-clause-good : goal.returns-clause-good
+returns-clause-good g c =
+    on_ok_weaker c.stage_all-2.result (λ more. all_both (λ x. is_good x ≡ true) c.args.files.image.items c.args.files.folder.items c.in_ok-stage_all.ensures.good more) c.stage_all-2.ensures.good
