@@ -14,13 +14,13 @@ use std::alloc::{AllocError, Global};
 use std::test::Fail;
 use tree_mem::{MemSink, MemTree};
 
-fn object(alloc: Global, kind: Kind, text: &str) -> Result<Object, AllocError> {
+pub(crate) fn object(alloc: Global, kind: Kind, text: &str) -> Result<Object, AllocError> {
     let bytes = Vec::from_slice(alloc, text.as_bytes())?;
     Ok(Object { kind, bytes })
 }
 
 /// A tree of these plain files, in which nothing is under way.
-fn tree(alloc: Global, held: &[(&str, &str)]) -> Result<MemTree, Fail>
+pub(crate) fn tree(alloc: Global, held: &[(&str, &str)]) -> Result<MemTree, Fail>
     ensures { IfOk result (λ t. IsAtRest (mem_story t).now.holds (mem_story t).now) }
 {
     let mut objects = Vec::new(alloc);
@@ -46,7 +46,7 @@ fn book(alloc: Global, owned: &[&str]) -> Result<OwnerBook, Fail>
 }
 
 /// A group with this line, with which this package goes.
-fn group(alloc: Global, line: &str, dying: u32) -> Result<SiteGroup, AllocError> {
+pub(crate) fn group(alloc: Global, line: &str, dying: u32) -> Result<SiteGroup, AllocError> {
     let mut keys = Vec::new(alloc);
     keys.push(OwnerKey { number: dying })?;
     Ok(SiteGroup {
