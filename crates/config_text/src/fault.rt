@@ -10,6 +10,12 @@ pub enum TextFault {
     /// `line` has the first byte that isn't UTF-8.
     #[error("line {line} is not UTF-8")]
     NotUtf8 { line: u32 },
+    /// In `line` an assignment should begin, and no key with `=` behind it stands there.
+    #[error("line {line} has no key with an equals sign")]
+    BadKey { line: u32 },
+    /// The quote that begins in `line` isn't closed.
+    #[error("line {line} opens a quote that is not closed")]
+    OpenQuote { line: u32 },
     #[error("out of memory")]
     Memory,
 }

@@ -15,9 +15,13 @@
 //! ```
 #![tactic(auto)]
 
+mod assignment;
 mod fault;
+mod law;
 mod line;
 mod utf8;
 
+pub use assignment::Assignment;
 pub use fault::TextFault;
+pub use law::one_reading;
 pub use line::{Line, lines};

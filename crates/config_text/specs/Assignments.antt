@@ -1,0 +1,89 @@
+-- A text of assignments: blanks, comments and assignments, in any order.
+use Rattle.std.specs.Prelude.{◌≡◌, ℕ, Bool, true, not, ◌==◌, List, [], ◌∷◌, ◌++◌, bytes_eq, fold, if◌then◌else◌}
+use Rattle.std.specs.List.{AllByRecursion, flat_map}
+use Rattle.config_text.specs.Follow.{Follow, Stops}
+use Rattle.config_text.specs.Lines.{is_newline, is_white, line_behind}
+use Rattle.config_text.specs.Values.{AreRuns, IsKey, Part, Plain, Escaped, Named, Braced, Run, Bare, Single, Double, spell_runs}
+use Rattle.config_text.specs.declared.assignment.Assignment.{Assignment}
+
+abbrev pub hash : ℕ
+hash = 35
+
+abbrev pub equals : ℕ
+equals = 61
+
+-- the byte ends no line
+abbrev pub is_in_line : ℕ → Bool
+is_in_line b = not (is_newline b)
+
+-- the byte is no white space
+abbrev pub is_solid : ℕ → Bool
+is_solid b = not (is_white b)
+
+pub data Item : Type 0 where
+  Blank : ℕ → Item
+  -- what stands behind a `#`, to the end of its line
+  Comment : List ℕ → Item
+  -- a key, and the runs of its value
+  Assign : List ℕ → List Run → Item
+
+abbrev pub spell_item : Item → List ℕ
+spell_item (Blank b) = b ∷ []
+spell_item (Comment bytes) = hash ∷ bytes
+spell_item (Assign key runs) = key ++ (equals ∷ spell_runs runs)
+
+-- the item is in form in front of the text: a comment goes on to the end of its line, and a value to
+-- the next white space
+abbrev pub IsItem : Item → List ℕ → Type 0
+IsItem (Blank b) after = is_white b ≡ true
+IsItem (Comment bytes) after =
+    AllByRecursion (λ b. is_in_line b ≡ true) bytes × Stops is_in_line after
+IsItem (Assign key runs) after = IsKey key × (AreRuns runs after × Stops is_solid after)
+
+abbrev pub AreItems : List Item → List ℕ → Type 0
+AreItems items after = Follow IsItem spell_item items after
+
+abbrev pub spell_items : List Item → List ℕ
+spell_items items = flat_map spell_item items
+
+-- the last value of the name, or nothing
+abbrev pub last_value : List Assignment → List ℕ → List ℕ
+last_value known name =
+    fold (λ value a. if bytes_eq a.key name then a.value else value) [] known
+
+-- what a part gives behind the assignments that are known; a line that is broken in double quotes
+-- goes on
+abbrev pub part_value : List Assignment → Part → List ℕ
+part_value known (Plain b) = b ∷ []
+part_value known (Escaped b) = if is_newline b then [] else b ∷ []
+part_value known (Named name) = last_value known name
+part_value known (Braced name) = last_value known name
+
+abbrev pub run_value : List Assignment → Run → List ℕ
+run_value known (Bare part) = part_value known part
+run_value known (Single bytes) = bytes
+run_value known (Double parts) = flat_map (part_value known) parts
+
+abbrev pub value : List Assignment → List Run → List ℕ
+value known runs = flat_map (run_value known) runs
+
+-- the assignment that the item is, behind the text and those that are known
+abbrev pub said_by : List Assignment → List ℕ → Item → List Assignment
+said_by known front (Blank b) = []
+said_by known front (Comment bytes) = []
+said_by known front (Assign key runs) =
+    record { line = line_behind front; key = key; value = value known runs } ∷ []
+
+-- the assignments of the items, in their order
+abbrev pub said : List Assignment → List ℕ → List Item → List Assignment
+said known front [] = []
+said known front (item ∷ items) =
+    said_by known front item ++
+    said (known ++ said_by known front item) (front ++ spell_item item) items
+
+-- behind the assignments that are known the text says these
+pub record Says (known : List Assignment) (bytes : List ℕ) (assignments : List Assignment) : Type 0 where
+  pub items : List Item
+  pub form : AreItems items []
+  pub spelled : bytes ≡ spell_items items
+  pub means : assignments ≡ said known [] items
