@@ -1,5 +1,10 @@
 pub mod BadBytes
 pub mod Counting
+pub mod Items
+pub mod KnownValues
 pub mod OneText
 pub mod OneValue
+pub mod Pieces
+pub mod Runs
 pub mod Stretches
+pub mod Wholes

@@ -1,18 +1,17 @@
 -- Texts of assignments are read in one way.
-use Rattle.std.proofs.Common.{◌≡◌, ◌∙◌, ◌≢◌, ◌⊎◌, ℕ, Bool, true, false, not, ◌||◌, ◌==◌, List, [], ◌∷◌, ◌++◌, get_or, drop, ap, append_assoc, append-nil, arith, inl, inr, refl, subst, sym}
+use Rattle.std.proofs.Common.{◌≡◌, ◌∙◌, ℕ, true, false, List, [], ◌∷◌, ◌++◌, ap, append_assoc, append-nil, arith, inl, inr, refl, subst, sym}
 use Rattle.std.proofs.lemmas.Bool.Decides.{nat_tests}
-use Rattle.std.specs.List.{AllByRecursion, flat_map}
 use Rattle.std.specs.Str.{IsUtf8}
 use Rattle.config_text.specs.AssignFaults.{BadKeyAt, BeginsNoItem, FirstFault, IsOpen, OpenQuoteAt}
 use Rattle.config_text.specs.Assignments.{AreItems, IsItem, Item, Blank, Comment, Assign, Says, is_in_line, is_solid, said, spell_item, spell_items}
-use Rattle.config_text.specs.Follow.{Follow, Stops}
+use Rattle.config_text.specs.Follow.{Stops}
 use Rattle.config_text.specs.Lines.{is_white}
-use Rattle.config_text.specs.Values.{AreQuoted, AreRuns, IsKey, IsPart, IsRun, LacksQuote, Part, Run, Bare, Single, Double, begins_key, is_in_single, is_key_byte, spell_part, spell_parts, spell_run, spell_runs}
+use Rattle.config_text.specs.Values.{AreQuoted, AreRuns, IsKey, IsPart, IsRun, Part, Run, Bare, Single, Double, begins_key, is_in_single, is_key_byte, spell_part, spell_parts, spell_run, spell_runs}
 use Rattle.config_text.specs.declared.assignment.Assignment.{Assignment}
 use Rattle.config_text.specs.declared.fault.TextFault.{TextFault}
 use Rattle.config_text.specs.declared.fault.TextFault.TheVariants.{BadKey, Memory, NotUtf8, OpenQuote}
 use Rattle.config_text.proofs.BadBytes.{no_bad_byte}
-use Rattle.config_text.proofs.OneValue.{key_begins, key_bytes, one_part, one_run, one_value, part_first, quotes_end, run_first, value_ends}
+use Rattle.config_text.proofs.OneValue.{key_begins, key_bytes, one_part, one_run, one_value, part_first, quotes_end, value_ends}
 use Rattle.config_text.proofs.Stretches.{heads, not_both, not_inside, one_stretch, onward, same_list, stopped, tails}
 
 white_begins_no_key : (b : ℕ) → is_white b ≡ true → begins_key b ≡ false

@@ -1,11 +1,11 @@
 -- Values that are spelled the same are the same.
-use Rattle.std.proofs.Common.{◌≡◌, ◌∙◌, ◌≢◌, ℕ, Bool, true, false, not, ◌||◌, ◌==◌, List, [], ◌∷◌, ◌++◌, get_or, drop, ap, append_assoc, arith, refl, subst, sym}
-use Rattle.std.specs.List.{AllByRecursion, flat_map}
+use Rattle.std.proofs.Common.{◌≡◌, ◌∙◌, ℕ, Bool, true, false, not, ◌||◌, ◌==◌, List, [], ◌∷◌, ◌++◌, drop, ap, append_assoc, arith, refl, subst, sym}
+use Rattle.std.specs.List.{AllByRecursion}
 use Rattle.config_text.specs.Assignments.{is_solid}
-use Rattle.config_text.specs.Follow.{Follow, Stops}
+use Rattle.config_text.specs.Follow.{Stops}
 use Rattle.config_text.specs.Lines.{is_white}
-use Rattle.config_text.specs.Values.{AreQuoted, AreRuns, BeginsNoName, IsKey, IsPart, IsPlain, IsRun, LacksQuote, Part, Plain, Escaped, Named, Braced, Run, Bare, Single, Double, begins_key, is_escapable, is_in_single, is_key_byte, may_stand, spell_part, spell_parts, spell_run, spell_runs}
-use Rattle.config_text.proofs.Stretches.{heads, not_both, one_stretch, onward, same_list, stopped, tails}
+use Rattle.config_text.specs.Values.{AreQuoted, AreRuns, IsKey, IsPart, IsPlain, IsRun, LacksQuote, Part, Plain, Escaped, Named, Braced, Run, Bare, Single, Double, begins_key, is_escapable, is_in_single, is_key_byte, may_stand, spell_part, spell_parts, spell_run, spell_runs}
+use Rattle.config_text.proofs.Stretches.{heads, not_both, one_stretch, same_list, stopped, tails}
 
 pub key_bytes : (key : List ℕ) → IsKey key → AllByRecursion (λ c. is_key_byte c ≡ true) key
 key_bytes [] k = absurd k

@@ -1,5 +1,5 @@
 -- A text of assignments: blanks, comments and assignments, in any order.
-use Rattle.std.specs.Prelude.{◌≡◌, ℕ, Bool, true, not, ◌==◌, List, [], ◌∷◌, ◌++◌, bytes_eq, fold, if◌then◌else◌}
+use Rattle.std.specs.Prelude.{◌≡◌, ℕ, Bool, true, not, List, [], ◌∷◌, ◌++◌, bytes_eq, fold, if◌then◌else◌}
 use Rattle.std.specs.List.{AllByRecursion, flat_map}
 use Rattle.config_text.specs.Follow.{Follow, Stops}
 use Rattle.config_text.specs.Lines.{is_newline, is_white, line_behind}
@@ -51,35 +51,38 @@ abbrev pub last_value : List Assignment → List ℕ → List ℕ
 last_value known name =
     fold (λ value a. if bytes_eq a.key name then a.value else value) [] known
 
--- what a part gives behind the assignments that are known; a line that is broken in double quotes
--- goes on
-abbrev pub part_value : List Assignment → Part → List ℕ
-part_value known (Plain b) = b ∷ []
-part_value known (Escaped b) = if is_newline b then [] else b ∷ []
-part_value known (Named name) = last_value known name
-part_value known (Braced name) = last_value known name
+-- what a part gives, where names have these values; a line that is broken in double quotes goes on
+abbrev pub part_value : (List ℕ → List ℕ) → Part → List ℕ
+part_value named (Plain b) = b ∷ []
+part_value named (Escaped b) = if is_newline b then [] else b ∷ []
+part_value named (Named name) = named name
+part_value named (Braced name) = named name
 
-abbrev pub run_value : List Assignment → Run → List ℕ
-run_value known (Bare part) = part_value known part
-run_value known (Single bytes) = bytes
-run_value known (Double parts) = flat_map (part_value known) parts
+abbrev pub run_value : (List ℕ → List ℕ) → Run → List ℕ
+run_value named (Bare part) = part_value named part
+run_value named (Single bytes) = bytes
+run_value named (Double parts) = flat_map (part_value named) parts
 
-abbrev pub value : List Assignment → List Run → List ℕ
-value known runs = flat_map (run_value known) runs
+abbrev pub value : (List ℕ → List ℕ) → List Run → List ℕ
+value named runs = flat_map (run_value named) runs
 
--- the assignment that the item is, behind the text and those that are known
-abbrev pub said_by : List Assignment → List ℕ → Item → List Assignment
-said_by known front (Blank b) = []
-said_by known front (Comment bytes) = []
-said_by known front (Assign key runs) =
-    record { line = line_behind front; key = key; value = value known runs } ∷ []
+-- the assignment that the item is, in this line
+abbrev pub said_by : (List ℕ → List ℕ) → ℕ → Item → List Assignment
+said_by named line (Blank b) = []
+said_by named line (Comment bytes) = []
+said_by named line (Assign key runs) =
+    record { line = line; key = key; value = value named runs } ∷ []
 
--- the assignments of the items, in their order
+-- the assignment of an item that stands behind the text, where these are known
+abbrev pub next_said : List Assignment → List ℕ → Item → List Assignment
+next_said known front item = said_by (last_value known) (line_behind front) item
+
+-- the assignments of the items, in their order: each is known behind it
 abbrev pub said : List Assignment → List ℕ → List Item → List Assignment
 said known front [] = []
 said known front (item ∷ items) =
-    said_by known front item ++
-    said (known ++ said_by known front item) (front ++ spell_item item) items
+    next_said known front item ++
+    said (known ++ next_said known front item) (front ++ spell_item item) items
 
 -- behind the assignments that are known the text says these
 pub record Says (known : List Assignment) (bytes : List ℕ) (assignments : List Assignment) : Type 0 where

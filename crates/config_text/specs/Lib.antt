@@ -2,5 +2,8 @@ pub mod AssignFaults
 pub mod Assignments
 pub mod Faults
 pub mod Follow
+pub mod Known
 pub mod Lines
+pub mod Reading
+pub mod Stretches
 pub mod Values

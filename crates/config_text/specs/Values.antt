@@ -36,6 +36,12 @@ abbrev pub IsKey : List ℕ → Type 0
 IsKey [] = ⊥
 IsKey (b ∷ bytes) = (begins_key b ≡ true) × AllByRecursion (λ c. is_key_byte c ≡ true) bytes
 
+-- the text begins with a key, which ends in front of the rest
+pub record HasKey (text key rest : List ℕ) : Type 0 where
+  pub key_form : IsKey key
+  pub ends : Stops is_key_byte rest
+  pub whole : text ≡ key ++ rest
+
 -- a part of bare text or of a text in double quotes
 pub data Part : Type 0 where
   -- a byte that stands for itself

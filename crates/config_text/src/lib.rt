@@ -17,11 +17,16 @@
 
 mod assignment;
 mod fault;
+mod head;
+mod known;
 mod law;
 mod line;
+mod part;
+mod stretch;
 mod utf8;
+mod value;
 
-pub use assignment::Assignment;
+pub use assignment::{Assignment, assignments};
 pub use fault::TextFault;
 pub use law::one_reading;
 pub use line::{Line, lines};

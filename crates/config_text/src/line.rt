@@ -69,7 +69,7 @@ fn has_solid(line: &[u8]) -> bool
     line.iter().any(|b| !is_white(*b))
 }
 
-fn is_white(byte: u8) -> bool
+pub fn is_white(byte: u8) -> bool
     ensures { result ≡ is_white byte }
 {
     basics::is_blank(byte) || byte == 0x0C

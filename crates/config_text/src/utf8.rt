@@ -1,4 +1,4 @@
-ghost use Rattle.std.specs.Prelude.{◌≡◌, IfErr, IfOk, OnOk};
+ghost use Rattle.std.specs.Prelude.{◌≡◌, ◌++◌, ℕ, List, IfErr, IfOk, OnOk};
 ghost use Rattle.std.specs.Str.{IsUtf8, IsValidUpTo};
 ghost use Rattle.config_text.specs.Faults.{NotUtf8At};
 ghost use Rattle.config_text.specs.Lines.{line_behind, line_number};
@@ -25,6 +25,16 @@ fn line_behind(front: &[u8]) -> u32
     ensures { result ≡ line_behind front.now }
 {
     line_number(front.iter().filter(|b| **b == NEWLINE).count())
+}
+
+/// The number of the line that goes on behind the text up to its rest, where the text begins in a line.
+pub fn line_after(line: u32, text: &[u8], rest: &[u8]) -> u32
+    ensures { (front read : List ℕ) → line ≡ line_behind front → text.now ≡ read ++ rest.now →
+        result ≡ line_behind (front ++ read) }
+{
+    let (read, _) = text.split_at(text.len().saturating_sub(rest.len()));
+    let newlines = read.iter().filter(|b| **b == NEWLINE).count();
+    line.saturating_add(u32::try_from(newlines).unwrap_or(u32::MAX))
 }
 
 /// The number of the line behind so many newlines.
