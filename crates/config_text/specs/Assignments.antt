@@ -32,8 +32,8 @@ spell_item (Blank b) = b ∷ []
 spell_item (Comment bytes) = hash ∷ bytes
 spell_item (Assign key runs) = key ++ (equals ∷ spell_runs runs)
 
--- the item is in form in front of the text: a comment goes on to the end of its line, and a value to
--- the next white space
+-- the item is in form in front of the text: a comment goes on to the end of its line, and a value
+-- to the next white space
 abbrev pub IsItem : Item → List ℕ → Type 0
 IsItem (Blank b) after = is_white b ≡ true
 IsItem (Comment bytes) after =
@@ -84,9 +84,9 @@ said known front (item ∷ items) =
     next_said known front item ++
     said (known ++ next_said known front item) (front ++ spell_item item) items
 
--- behind the assignments that are known the text says these
-pub record Says (known : List Assignment) (bytes : List ℕ) (assignments : List Assignment) : Type 0 where
+-- where these are known the text says those
+pub record Says (known : List Assignment) (bytes : List ℕ) (those : List Assignment) : Type 0 where
   pub items : List Item
   pub form : AreItems items []
   pub spelled : bytes ≡ spell_items items
-  pub means : assignments ≡ said known [] items
+  pub means : those ≡ said known [] items

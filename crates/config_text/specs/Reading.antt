@@ -26,7 +26,8 @@ pub record IsWhole (value rest : List ℕ) : Type 0 where
   pub open_end : IsUtf8 (begun ++ rest)
 
 -- the text begins with an item in form, which adds what it means to the value
-pub record Gives {A : Type 0} (IsIn : A → List ℕ → Type 0) (spell means : A → List ℕ) (text more was now : List ℕ) : Type 0 where
+pub record Gives {A : Type 0} (IsIn : A → List ℕ → Type 0) (spell means : A → List ℕ)
+    (text more was now : List ℕ) : Type 0 where
   pub item : A
   pub form : IsIn item more
   pub spelled : text ≡ spell item ++ more
@@ -34,7 +35,8 @@ pub record Gives {A : Type 0} (IsIn : A → List ℕ → Type 0) (spell means : 
   pub whole : IsWhole was text → IsWhole now more
 
 -- the same of any number of items
-pub record GivesAll {A : Type 0} (IsIn : A → List ℕ → Type 0) (spell means : A → List ℕ) (text more was now : List ℕ) : Type 0 where
+pub record GivesAll {A : Type 0} (IsIn : A → List ℕ → Type 0) (spell means : A → List ℕ)
+    (text more was now : List ℕ) : Type 0 where
   pub items : List A
   pub form : Follow IsIn spell items more
   pub spelled : text ≡ flat_map spell items ++ more
@@ -147,7 +149,8 @@ pub record Skips (text rest : List ℕ) : Type 0 where
   pub utf8 : IsUtf8 rest
 
 -- the text in this line begins with an item, which says this
-pub record ReadsItem (named : List ℕ → List ℕ) (line : ℕ) (text rest : List ℕ) (assignment : Option Assignment) : Type 0 where
+pub record ReadsItem (named : List ℕ → List ℕ) (line : ℕ) (text rest : List ℕ)
+    (assignment : Option Assignment) : Type 0 where
   pub item : Item
   pub form : IsItem item rest
   pub spelled : text ≡ spell_item item ++ rest
@@ -174,7 +177,8 @@ ItemFault line text (OpenQuote at_line) = OpensQuote line text at_line
 ItemFault line text Memory = ⊤
 
 -- the items up to the rest say the assignments that were found behind those before
-pub record SoFar (before : List Assignment) (bytes rest : List ℕ) (found : List Assignment) (line : ℕ) : Type 0 where
+pub record SoFar (before : List Assignment) (bytes rest : List ℕ)
+    (found : List Assignment) (line : ℕ) : Type 0 where
   pub items : List Item
   pub form : AreItems items rest
   pub spelled : bytes ≡ spell_items items ++ rest

@@ -71,7 +71,8 @@ may_stand false b = not (is_white b || (b == double_quote || b == single_quote))
 -- behind a dollar sign the text begins no variable
 pub record BeginsNoName (after : List ℕ) : Type 0 where
   pub bare : Stops begins_key after
-  pub braced : (name rest : List ℕ) → IsKey name → ¬ (after ≡ open_brace ∷ (name ++ (close_brace ∷ rest)))
+  pub braced : (name rest : List ℕ) → IsKey name →
+      ¬ (after ≡ open_brace ∷ (name ++ (close_brace ∷ rest)))
 
 -- the byte stands for itself, in double quotes or not, in front of the text
 pub record IsPlain (quoted : Bool) (b : ℕ) (after : List ℕ) : Type 0 where

@@ -25,12 +25,12 @@ pub struct Assignment {
     /// The line of the key.
     pub line: u32,
     pub key: Text,
-    /// Without its quotes, and with the values of the variables that it names.
+    /// Without its quotes, and with the values of its variables in their places.
     pub value: Text,
 }
 
-/// The assignments of a text, in their order. A variable that a value names stands for its last value
-/// in this text, else for its last one in `before`, else for nothing.
+/// The assignments of a text such as make.conf, in their order (PMS 5.2.4, with runs of bare text).
+/// A variable stands for its last value so far in this text, else in `before`, else for nothing.
 pub fn assignments(
     alloc: Global,
     bytes: &[u8],

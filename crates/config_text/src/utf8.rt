@@ -27,7 +27,7 @@ fn line_behind(front: &[u8]) -> u32
     line_number(front.iter().filter(|b| **b == NEWLINE).count())
 }
 
-/// The number of the line that goes on behind the text up to its rest, where the text begins in a line.
+/// The line that goes on at the rest of the text, where the text begins in this one.
 pub fn line_after(line: u32, text: &[u8], rest: &[u8]) -> u32
     ensures { (front read : List ℕ) → line ≡ line_behind front → text.now ≡ read ++ rest.now →
         result ≡ line_behind (front ++ read) }
