@@ -5,4 +5,6 @@
 #![tactic(auto)]
 
 #[cfg(test)]
+mod assigned;
+#[cfg(test)]
 mod line_files;

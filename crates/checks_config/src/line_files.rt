@@ -53,7 +53,7 @@ fn told(alloc: Global, bytes: &[u8]) -> Result<String, AllocError> {
         Err(TextFault::NotUtf8 { line }) => write!(told, "not UTF-8 at {line}").map_err(
             |_| AllocError,
         )?,
-        Err(TextFault::Memory) => told.push_str("memory")?,
+        Err(_) => told.push_str("another fault")?,
     }
     Ok(told)
 }

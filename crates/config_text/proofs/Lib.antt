@@ -4,7 +4,7 @@ pub mod Items
 pub mod KnownValues
 pub mod OneText
 pub mod OneValue
-pub mod Pieces
+pub mod PartLemmas
 pub mod Runs
 pub mod Stretches
 pub mod Wholes

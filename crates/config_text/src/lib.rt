@@ -37,4 +37,5 @@ mod value;
 pub use assignment::{Assignment, assignments};
 pub use fault::TextFault;
 pub use law::one_reading;
-pub use line::{Line, lines};
+pub use line::{Line, lines, pieces};
+pub use utf8::{line_number, text_of};

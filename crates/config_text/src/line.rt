@@ -42,7 +42,8 @@ pub fn lines(alloc: Global, bytes: &[u8]) -> Result<Vec<Line>, TextFault>
     Ok(lines)
 }
 
-fn pieces(alloc: Global, text: &str) -> Result<Vec<&str>, AllocError>
+/// The pieces of the text between its newlines: one more than it has newlines.
+pub fn pieces(alloc: Global, text: &str) -> Result<Vec<&str>, AllocError>
     ensures { IfOk result (λ v. map (λ x. x.now) v.items ≡ slice_split is_newline text.now) }
 {
     text.split('\n').collect(alloc)

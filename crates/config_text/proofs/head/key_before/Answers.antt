@@ -1,4 +1,4 @@
-use Rattle.config_text.proofs.Pieces.{key_lacks}
+use Rattle.config_text.proofs.PartLemmas.{key_lacks}
 use Rattle.config_text.proofs.head.key_before.Goals as goal
 
 pub returns-in_err-rest : goal.returns-in_err-rest

@@ -1,4 +1,4 @@
-use Rattle.config_text.proofs.Pieces.{backslash_piece, escaped_piece}
+use Rattle.config_text.proofs.PartLemmas.{backslash_piece, escaped_piece}
 use Rattle.config_text.proofs.part.behind_backslash.Goals as goal
 
 pub returns-in-Some : goal.returns-in-Some

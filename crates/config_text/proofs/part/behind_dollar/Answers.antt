@@ -1,4 +1,4 @@
-use Rattle.config_text.proofs.Pieces.{dollar_piece, name_piece}
+use Rattle.config_text.proofs.PartLemmas.{dollar_piece, name_piece}
 use Rattle.config_text.proofs.part.behind_dollar.Goals as goal
 
 pub returns-in-Some : goal.returns-in-Some

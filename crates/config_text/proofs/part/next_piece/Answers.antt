@@ -1,4 +1,4 @@
-use Rattle.config_text.proofs.Pieces.{plain_piece}
+use Rattle.config_text.proofs.PartLemmas.{plain_piece}
 use Rattle.config_text.proofs.part.next_piece.Goals as goal
 
 pub returns-in-Nothing : goal.returns-in-Nothing

@@ -1,4 +1,4 @@
-use Rattle.config_text.proofs.Pieces.{gives_part}
+use Rattle.config_text.proofs.PartLemmas.{gives_part}
 use Rattle.config_text.proofs.part.read_part.Goals as goal
 
 pub returns : goal.returns

@@ -1,4 +1,4 @@
-use Rattle.config_text.proofs.Pieces.{braced_variable, named_variable}
+use Rattle.config_text.proofs.PartLemmas.{braced_variable, named_variable}
 use Rattle.config_text.proofs.part.variable.Goals as goal
 
 pub returns-in-Some : goal.returns-in-Some

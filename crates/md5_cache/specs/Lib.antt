@@ -1,0 +1,3 @@
+pub mod PairFaults
+pub mod Pairs
+pub mod Seen
