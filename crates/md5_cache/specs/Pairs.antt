@@ -1,5 +1,5 @@
 -- The text of a cache entry as pairs of keys and values (PMS 14.3).
-use Rattle.std.specs.Prelude.{◌≡◌, ◌<◌, ℕ, Bool, List, [], ◌∷◌, ◌==◌, if◌then◌else◌, is_empty, length, map}
+use Rattle.std.specs.Prelude.{◌≡◌, ◌<◌, ℕ, Bool, List, [], ◌∷◌, ◌==◌, length, map}
 use Rattle.std.specs.List.{AllByRecursion, after_first, before_first, position_or_len, slice_split}
 use Rattle.std.specs.Str.{IsUtf8}
 use Rattle.basics.specs.Members.{AreDistinct}
@@ -12,7 +12,8 @@ is_equals b = b == 61
 -- the lines without a last one that is empty
 abbrev pub without_empty_end : List (List ℕ) → List (List ℕ)
 without_empty_end [] = []
-without_empty_end (line ∷ []) = if is_empty line then [] else line ∷ []
+without_empty_end ([] ∷ []) = []
+without_empty_end ((b ∷ bytes) ∷ []) = (b ∷ bytes) ∷ []
 without_empty_end (line ∷ next ∷ lines) = line ∷ without_empty_end (next ∷ lines)
 
 -- the lines of the text; the newline of the last one may be missing

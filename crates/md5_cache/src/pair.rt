@@ -35,8 +35,8 @@ pub fn pairs(alloc: Global, bytes: &[u8]) -> Result<Vec<Pair>, PairFault>
         Err(fault) => return Err(fault),
     };
     match first_repeated(alloc, &pairs)? {
-        Some(at) => Err(PairFault::Repeated {
-            key: pairs[at].key.try_clone()?,
+        Some(key) => Err(PairFault::Repeated {
+            key: key.try_clone()?,
         }),
         None => Ok(pairs),
     }

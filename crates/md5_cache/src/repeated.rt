@@ -1,31 +1,39 @@
 ghost use Rattle.std.specs.Prelude.{◌≡◌, ◌++◌, ◌∷◌, ℕ, List, [], IfOk, MatchOption, OnOk};
 ghost use Rattle.basics.specs.Members.{AreDistinct};
+ghost use Rattle.md5_cache.specs.PairFaults.{IsFirstRepeated};
 ghost use Rattle.md5_cache.specs.Pairs.{keys_of};
-ghost use Rattle.md5_cache.specs.Seen.{HasSeen, RepeatsAt, has_seen};
+ghost use Rattle.md5_cache.specs.Seen.{HasSeen, has_seen};
 
 use crate::pair::Pair;
+use basics::Text;
 use std::alloc::{AllocError, Global};
 use std::collections::BTreeMap;
 
-/// The place of the first pair with the key of an earlier one.
-pub(crate) fn first_repeated(alloc: Global, pairs: &[Pair]) -> Result<Option<usize>, AllocError>
+/// The first key that an earlier pair has, too.
+pub(crate) fn first_repeated(alloc: Global, pairs: &[Pair]) -> Result<Option<&Text>, AllocError>
     ensures { IfOk result (λ r. MatchOption r (AreDistinct (keys_of pairs.now))
-        (RepeatsAt (keys_of pairs.now))) }
+        (λ key. IsFirstRepeated (keys_of pairs.now) key.now)) }
 {
     let mut seen = BTreeMap::new(alloc);
-    for (at, pair) in pairs.iter().enumerate() {
-        if seen.get(pair.key.as_str()).is_some() {
-            return Ok(Some(at));
+    for pair in pairs {
+        if has_seen(&seen, pair.key.as_str()) {
+            return Ok(Some(&pair.key));
         }
-        see(&mut seen, pair.key.as_str(), at)?;
+        see(&mut seen, pair.key.as_str())?;
     }
     Ok(None)
 }
 
-fn see<'a>(seen: &mut BTreeMap<&'a str, usize>, key: &'a str, at: usize) -> Result<(), AllocError>
+fn has_seen(seen: &BTreeMap<&str, ()>, key: &str) -> bool
+    ensures { result ≡ has_seen seen.now key.now }
+{
+    seen.get(key).is_some()
+}
+
+fn see<'a>(seen: &mut BTreeMap<&'a str, ()>, key: &'a str) -> Result<(), AllocError>
     ensures { OnOk result ((keys : List (List ℕ)) → HasSeen seen.old keys →
         HasSeen seen.new (keys ++ (key.now ∷ []))) }
 {
-    seen.insert(key, at)?;
+    seen.insert(key, ())?;
     Ok(())
 }
