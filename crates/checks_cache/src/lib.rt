@@ -5,4 +5,6 @@
 #![tactic(auto)]
 
 #[cfg(test)]
+mod entry_fields;
+#[cfg(test)]
 mod entry_pairs;

@@ -1,3 +1,5 @@
+pub mod FieldFaults
+pub mod Fields
 pub mod PairFaults
 pub mod Pairs
 pub mod Seen

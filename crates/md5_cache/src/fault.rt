@@ -1,4 +1,5 @@
 ghost use Rattle.std.specs.Prelude.{◌≡◌};
+ghost use Rattle.md5_cache.specs.declared.fault.FieldFault.TheVariants as faults;
 ghost use Rattle.md5_cache.specs.declared.fault.PairFault.TheVariants.{Memory};
 
 use basics::Text;
@@ -18,6 +19,28 @@ pub enum PairFault {
     Repeated { key: Text },
     #[error("out of memory")]
     Memory,
+}
+
+/// Why pairs are none of an entry. Where several hold, the first of these is given.
+#[derive(Debug, Drop, Error)]
+pub enum FieldFault {
+    /// The text of EAPI, where it isn't 8.
+    #[error("another edition")]
+    Eapi { text: Text },
+    /// The first of EAPI, SLOT and `_md5_` that is absent, else that of the first line whose value
+    /// isn't in form.
+    #[error("a field that is absent or not in form")]
+    Field { key: Text },
+    #[error("out of memory")]
+    Memory,
+}
+
+impl From<AllocError> for FieldFault {
+    ghost from_gives = { λ _ e. e ≡ faults.Memory };
+
+    fn from(_e: AllocError) -> FieldFault {
+        FieldFault::Memory
+    }
 }
 
 impl From<AllocError> for PairFault {

@@ -1,0 +1,91 @@
+ghost use Rattle.std.specs.Prelude.{◌≡◌, ◌↔◌, IfOk, IsTrue};
+ghost use Rattle.std.specs.List.{list_all};
+ghost use Rattle.dep_tree.specs.Texts.{AreDependencies};
+ghost use Rattle.required_use.specs.Texts.{IsExpression};
+ghost use Rattle.use_flags.specs.Items.{IsItem};
+ghost use Rattle.use_flags.specs.Words.{EachWord};
+ghost use Rattle.md5_cache.specs.Fields.{IsInForm, is_digest, is_hex};
+ghost use Rattle.md5_cache.specs.declared.field.Field.TheVariants as fields;
+
+use crate::field::Field;
+use basics::is_digit;
+use dep_tree::{DepTree, TreeTextFault};
+use required_use::{RequiredFault, RequiredUse};
+use slot_value::SlotValue;
+use std::alloc::{AllocError, Global};
+use use_flags::{Iuse, UseFault};
+
+/// The bytes of a digest's text.
+const DIGEST_LEN: usize = 32;
+
+/// Whether the field may have the value.
+pub(crate) fn is_in_form(alloc: Global, field: Field, value: &str) -> Result<bool, AllocError>
+    ensures { IfOk result (λ b. IsTrue b ↔ IsInForm field value.now) }
+{
+    match field {
+        Field::Slot => is_slot(alloc, value),
+        Field::Digest => Ok(is_digest(value.as_bytes())),
+        Field::Iuse => is_iuse(alloc, value),
+        Field::Required => is_required(alloc, value),
+        Field::Needs => are_needs(alloc, value),
+        Field::Other => Ok(true),
+    }
+}
+
+fn is_slot(alloc: Global, value: &str) -> Result<bool, AllocError>
+    ensures { IfOk result (λ b. IsTrue b ↔ IsInForm fields.Slot value.now) }
+{
+    match SlotValue::read(alloc, value.as_bytes()) {
+        Ok(found) => Ok(found.is_some()),
+        Err(fault) => Err(fault),
+    }
+}
+
+fn is_digest(value: &[u8]) -> bool
+    ensures { result ≡ is_digest value.now }
+{
+    let long = value.len() == DIGEST_LEN;
+    long && are_hex(value)
+}
+
+fn are_hex(value: &[u8]) -> bool
+    ensures { result ≡ list_all is_hex value.now }
+{
+    value.iter().all(|b| is_hex(*b))
+}
+
+fn is_hex(byte: u8) -> bool
+    ensures { result ≡ is_hex byte }
+{
+    is_digit(byte) || (byte >= b'a' && byte <= b'f')
+}
+
+fn is_iuse(alloc: Global, value: &str) -> Result<bool, AllocError>
+    ensures { IfOk result (λ b. IsTrue b ↔ EachWord IsItem value.now) }
+{
+    match Iuse::parse(alloc, value) {
+        Ok(_) => Ok(true),
+        Err(UseFault::Memory) => Err(AllocError),
+        Err(_) => Ok(false),
+    }
+}
+
+fn is_required(alloc: Global, value: &str) -> Result<bool, AllocError>
+    ensures { IfOk result (λ b. IsTrue b ↔ IsExpression value.now) }
+{
+    match RequiredUse::parse(alloc, value) {
+        Ok(_) => Ok(true),
+        Err(RequiredFault::Memory) => Err(AllocError),
+        Err(_) => Ok(false),
+    }
+}
+
+fn are_needs(alloc: Global, value: &str) -> Result<bool, AllocError>
+    ensures { IfOk result (λ b. IsTrue b ↔ AreDependencies value.now) }
+{
+    match DepTree::parse(alloc, value) {
+        Ok(_) => Ok(true),
+        Err(TreeTextFault::Memory) => Err(AllocError),
+        Err(_) => Ok(false),
+    }
+}
