@@ -54,7 +54,7 @@ pub fn remove(folder: &Folder, changes: &mut Changes, path: &str) -> io::Result<
     prune(folder, changes, path)
 }
 
-/// Makes the folders above a path, the highest first, and room for a spare object beside it.
+/// Makes the folders above a path, the highest first, and the names of a change of it.
 fn prepare(folder: &Folder, changes: &mut Changes, path: &str) -> io::Result<Site> {
     for (at, byte) in path.as_bytes().iter().enumerate() {
         if *byte == b'/' {
@@ -62,9 +62,7 @@ fn prepare(folder: &Folder, changes: &mut Changes, path: &str) -> io::Result<Sit
         }
     }
     note_above(folder, changes, path)?;
-    let site = site_of(folder, path)?;
-    clear_spare(folder.rt(), site.spare.as_str())?;
-    Ok(site)
+    site_of(folder, path)
 }
 
 /// Makes a folder whose parts above are folders, if none is there. It has its mode before it has its
@@ -78,8 +76,7 @@ fn make_folder(folder: &Folder, changes: &mut Changes, path: &str) -> io::Result
     note_above(folder, changes, path)?;
     let site = site_of(folder, path)?;
     let rt = folder.rt();
-    clear_spare(rt, site.spare.as_str())?;
-    fs::create_dir(rt, site.spare.as_str())?;
+    new_folder(rt, site.spare.as_str())?;
     fs::set_permissions(rt, site.spare.as_str(), Permissions::from_mode(EXEC))?;
     fs::rename(rt, site.spare.as_str(), site.target.as_str())
 }
@@ -163,7 +160,7 @@ fn spare_in(folder: &Folder, path: &str) -> io::Result<String> {
 /// Makes the spare object of this name, durable but for its name.
 fn write_spare(rt: &HostRuntime, spare: &str, object: &Object) -> io::Result<()> {
     match object.kind {
-        Kind::Link => symlink(rt, target_of(object)?, spare),
+        Kind::Link => new_link(rt, target_of(object)?, spare),
         kind => {
             let mut file = new_file(rt, spare)?;
             file.write_all(&object.bytes)?;
@@ -177,7 +174,7 @@ fn copy_to_spare(rt: &HostRuntime, kind: Kind, source: &str, spare: &str) -> io:
     match kind {
         Kind::Link => {
             let target = fs::read_link(rt, source)?;
-            symlink(rt, target.as_str(), spare)
+            new_link(rt, target.as_str(), spare)
         }
         kind => {
             let mut from = File::open(rt, source)?;
@@ -198,8 +195,46 @@ fn target_of(object: &Object) -> io::Result<&str> {
     }
 }
 
-/// A new file, which nobody else can read before it is whole.
+/// A new file of this name, in place of what a stopped run may have left there.
 fn new_file(rt: &HostRuntime, name: &str) -> io::Result<File> {
+    match open_new(rt, name) {
+        Err(error) if is_taken(&error) => {
+            clear_spare(rt, name)?;
+            open_new(rt, name)
+        }
+        answer => answer,
+    }
+}
+
+/// Makes a link of this name, in place of what a stopped run may have left there.
+fn new_link(rt: &HostRuntime, target: &str, name: &str) -> io::Result<()> {
+    match symlink(rt, target, name) {
+        Err(error) if is_taken(&error) => {
+            clear_spare(rt, name)?;
+            symlink(rt, target, name)
+        }
+        answer => answer,
+    }
+}
+
+/// Makes a folder of this name, in place of what a stopped run may have left there.
+fn new_folder(rt: &HostRuntime, name: &str) -> io::Result<()> {
+    match fs::create_dir(rt, name) {
+        Err(error) if is_taken(&error) => {
+            clear_spare(rt, name)?;
+            fs::create_dir(rt, name)
+        }
+        answer => answer,
+    }
+}
+
+/// Something stands at the name already.
+fn is_taken(error: &io::Error) -> bool {
+    error.kind() == io::ErrorKind::AlreadyExists
+}
+
+/// A new file, which nobody else can read before it is whole.
+fn open_new(rt: &HostRuntime, name: &str) -> io::Result<File> {
     OpenOptions::new()
         .write(true)
         .create_new(true)
