@@ -18,7 +18,7 @@ use Rattle.journal.proofs.Changes.{is_in-append, placed_outside}
 use Rattle.owner_book.specs.Book as books
 use Rattle.owner_book.specs.Book.{Book, IsClaimedBy, IsTaken as IsTakenPath, claim_in, has, is_wished, owner_in}
 use Rattle.owner_book.specs.Near.{is_near}
-use Rattle.owner_book.specs.Whole.{FreeIn}
+use Rattle.owner_book.specs.Whole.{AreFree, FreeIn}
 use Rattle.owner_book.specs.declared.wish.Wish.{Wish}
 use Rattle.vdb_text.specs.Files.{record_path}
 use Rattle.database_law.specs.Database.{IsDatabase, folder_name}
@@ -88,17 +88,24 @@ covered_cases c q e = elim (cases_Bool (is_in c.does.content.removals q)) [
   rest false b n h = h
   rest true b n h = absurd (cc n)
 
+-- of wishes that are free together, each is free behind those before it
+free_behind : (b : Book) (dying : OwnerKey → Bool) (ws : List Wish) → AreFree b dying ws → (before : List Wish) (w : Wish) → IsBehind ws before w → FreeIn b dying before w
+free_behind b dying ws free before w is =
+    let within : length before < length ws = subst (λ (l : List Wish). length before < length l) (sym is.whole) (place_within before is.after w) in
+    let there : slice_get ws (length before) ≡ Some w = ap (λ (l : List Wish). slice_get l (length before)) is.whole ∙ get_there before is.after w in
+    let earlier : take (length before) ws ≡ before = ap (λ (l : List Wish). take (length before) l) is.whole ∙ take_there before is.after w in
+    subst (λ (l : List Wish). FreeIn b dying l w) earlier (free (length before) w within there)
+
+pub free_wish : (b : Book) (dying : OwnerKey → Bool) (ws : List Wish) → AreFree b dying ws → (w : Wish) → Has ws w → (before : List Wish) × FreeIn b dying before w
+free_wish b dying ws free w h = let k = place_of ws w h in (k.0, free_behind b dying ws free k.0 w k.1)
+
 module _ (key : Installed → OwnerKey) (b : Book) (m : Map) (ps : List Installed) (c : Change) (dying : OwnerKey → Bool) (ws : List Wish)
     (db : IsDatabase m ps) (owners : OwnersAre key m ps (owner_in b.owned)) (tells : Tells key m ps c dying ws) (taken : IsTaken b dying c ws) where
   free_at : (before : List Wish) (w : Wish) → IsBehind ws before w → FreeIn b dying before w
-  free_at before w is =
-      let within : length before < length ws = subst (λ (l : List Wish). length before < length l) (sym is.whole) (place_within before is.after w) in
-      let there : slice_get ws (length before) ≡ Some w = ap (λ (l : List Wish). slice_get l (length before)) is.whole ∙ get_there before is.after w in
-      let earlier : take (length before) ws ≡ before = ap (λ (l : List Wish). take (length before) l) is.whole ∙ take_there before is.after w in
-      subst (λ (l : List Wish). FreeIn b dying l w) earlier (taken.free (length before) w within there)
+  free_at = free_behind b dying ws taken.free
 
   free_one : (w : Wish) → Has ws w → (before : List Wish) × FreeIn b dying before w
-  free_one w h = let k = place_of ws w h in (k.0, free_at k.0 w k.1)
+  free_one = free_wish b dying ws taken.free
 
   -- a wish for a path that a package owns: the package goes
   owned_goes : (p : Installed) (w : Wish) → Has ps p → Owns m p w.path → Has ws w → c.gone p ≡ true

@@ -26,7 +26,7 @@ use Rattle.group_run.specs.Stops.{stop_of_claim}
 use Rattle.group_run.specs.Working.{IsAlone, standing_at}
 use Rattle.group_run.specs.declared.files.Files.{Files}
 
-none_there : {A : Type 0} (xs : List A) → ((x : A) → Has xs x → ⊥) → xs ≡ []
+pub none_there : {A : Type 0} (xs : List A) → ((x : A) → Has xs x → ⊥) → xs ≡ []
 none_there [] h = refl
 none_there (x ∷ xs) h = absurd (h x (inl refl))
 
