@@ -1,0 +1,5 @@
+mod Ascii
+mod Encoded
+mod Sets
+mod Files
+mod Record
