@@ -1,0 +1,11 @@
+mod Forms
+mod Gathered
+mod Once
+mod Pieces
+mod Reached
+mod Readers
+mod Runs
+mod Said
+mod Split
+mod Steps
+mod Whole

@@ -1,0 +1,100 @@
+-- How reading a text goes on, stops and ends.
+use denote.Ref.{Bor}
+use Rattle.std.proofs.Common.{◌≡◌, ◌∙◌, ◌+◌, ◌<◌, ◌≤◌, ◌==◌, Bool, true, false, ℕ, zero, suc, Option, List, [], ◌∷◌, ◌++◌, length, get_or, drop, map, refl, sym, ap, subst, arith}
+use Rattle.std.specs.Prelude.{IfErr, IfOk, MatchResult, Result, Ok, Err}
+use Rattle.std.specs.List.{slice_split}
+use Rattle.std.proofs.Math.Seq.{drop-cons}
+use Rattle.std.proofs.lemmas.Bool.Decides.{nat_tests}
+use Rattle.std.proofs.lemmas.List.Splits.{length-slice_split}
+use Rattle.plan_text.specs.Lines.{IsLine, LineValue, line_text}
+use Rattle.plan_text.specs.Parsing.{StopsSomewhere}
+use Rattle.plan_text.specs.Plans.{GroupValue, plan_value}
+use Rattle.plan_text.specs.Progress.{Grows, IsReadTo, Stops}
+use Rattle.plan_text.specs.Reading.{is_newline}
+use Rattle.plan_text.specs.Standing.{StandingValue, behind, follows, next, takes}
+use Rattle.plan_text.specs.Texts.{IsPlan, plan_text}
+use Rattle.plan_text.specs.declared.fault.PlanTextFault.{PlanTextFault}
+use Rattle.plan_text.specs.declared.fault.PlanTextFault.TheVariants as faults
+use Rattle.plan_text.specs.declared.plan.Plan.{Plan}
+use Rattle.plan_text.proofs.Once.{one_line}
+use Rattle.plan_text.proofs.Steps.{goes_on}
+use Rattle.plan_text.proofs.Whole.{one_text}
+
+abbrev pub Texts : Type 0
+Texts = List (Bor (List ℕ))
+
+abbrev pub texts : Texts → List (List ℕ)
+texts ws = map {A = Bor (List ℕ)} {B = List ℕ} (λ w. w.now) ws
+
+from_one : (words : Texts) (i : ℕ) (d : Bor (List ℕ)) → i < length words → texts (drop i words) ≡ (get_or words i d).now ∷ texts (drop (suc i) words)
+from_one words i d lt = ap texts (drop-cons words i d lt)
+
+pub stops_here : (words : Texts) (i : ℕ) (d : Bor (List ℕ)) (s : StandingValue) (gs : List GroupValue) (current : Option GroupValue) → i < length words → IsReadTo (texts words) (texts (drop i words)) s gs current
+    → Stops s (get_or words i d).now → StopsSomewhere (texts words)
+stops_here words i d s gs current lt to stops = (
+  (get_or words i d).now,
+  texts (drop (suc i) words),
+  s,
+  record {
+    ls = to.ls;
+    front = to.front;
+    whole = to.whole ∙ ap (λ l. to.front ++ l) (from_one words i d lt);
+    read = to.read;
+    stands = to.holds.stands;
+    stops = stops;
+  },
+)
+
+pub one_step : (words : Texts) (i : ℕ) (d : Bor (List ℕ)) (s t : StandingValue) (gs new : List GroupValue) (current now : Option GroupValue) (l : LineValue) → i < length words → IsReadTo (texts words) (texts (drop i words)) s gs current
+    → (IsLine l × ((get_or words i d).now ≡ line_text l)) × (follows s l ≡ true) → t ≡ behind l.kind s (get_or words i d).now → Grows s l gs current new now → IsReadTo (texts words) (texts (drop (i + 1) words)) t new now
+one_step words i d s t gs new current now l lt to is at grows =
+    let here : IsReadTo (texts words) ((get_or words i d).now ∷ texts (drop (suc i) words)) s gs current = subst (λ r. IsReadTo (texts words) r s gs current) (from_one words i d lt) to in
+    let went = goes_on (texts words) (texts (drop (suc i) words)) (get_or words i d).now s gs new current now l here is.0 is.1 grows in
+    let place : next s l ≡ t = ap (behind l.kind s) (sym is.0.1) ∙ sym at in
+    subst (λ n. IsReadTo (texts words) (texts (drop n words)) t new now) (plus i) (subst (λ z. IsReadTo (texts words) (texts (drop (suc i) words)) z new now) place went)
+  where
+    plus : (n : ℕ) → suc n ≡ n + 1
+    plus n = omega arith
+
+pub all_read : (words : Texts) (i : ℕ) (s : StandingValue) (gs : List GroupValue) (current : Option GroupValue) → length words ≤ i → IsReadTo (texts words) (texts (drop i words)) s gs current → IsReadTo (texts words) [] s gs current
+all_read words i s gs current le to = subst (λ r. IsReadTo (texts words) r s gs current) (ap texts (past words i le)) to
+  where
+    past : (ws : Texts) (i : ℕ) → length ws ≤ i → drop i ws ≡ []
+    past [] zero le = refl
+    past [] (suc i) le = refl
+    past (w ∷ ws) zero le = absurd (omega (arith, le))
+    past (w ∷ ws) (suc i) le = past ws i (omega (arith, le))
+
+pub next_stops : (s : StandingValue) (text : List ℕ) (v : LineValue) → IsLine v × (text ≡ line_text v) → takes v.kind v.said s text ≡ false → Stops s text
+next_stops s text v is never = λ l form e.
+    (let same : v ≡ l = one_line v l is.0 form (sym is.1 ∙ e) in
+    subst (λ x. follows s x ≡ false) same (ap (takes v.kind v.said s) (sym is.1) ∙ never))
+
+pub some_pieces : (text : List ℕ) → slice_split is_newline text ≡ [] → ⊥
+some_pieces text e = omega (arith, length-slice_split is_newline text, ap length e)
+
+pub is_memory : (f : PlanTextFault) → (((f ≡ faults.Memory) → ⊥) → ⊥) → f ≡ faults.Memory
+is_memory (faults.Number line) h = absurd (h (λ e. absurd (cc e)))
+is_memory (faults.NotBefore line) h = absurd (h (λ e. absurd (cc e)))
+is_memory faults.Limit h = absurd (h (λ e. absurd (cc e)))
+is_memory (faults.Line line) h = absurd (h (λ e. absurd (cc e)))
+is_memory faults.Memory h = refl
+
+pub some_bytes : (text : List ℕ) (b : Bool) → b ≡ (length text == 0) → b ≡ false → text ≡ [] → ⊥
+some_bytes text b is none e = cc (is, none, ap (λ (l : List ℕ). length l == 0) e)
+
+not_zero : (n : ℕ) → (suc n == 0) ≡ false
+not_zero n = grind (arith, nat_tests)
+
+pub no_bytes : (text : List ℕ) (b : Bool) → b ≡ (length text == 0) → b ≡ true → text ≡ []
+no_bytes [] b is true_one = refl
+no_bytes (x ∷ text) b is true_one = absurd (let e : false ≡ true = sym (not_zero (length text)) ∙ sym is ∙ true_one in cc)
+
+pub found_if : (text : List ℕ) (gs : List GroupValue) (r : Result Plan PlanTextFault) → IfOk r (λ p. plan_value p ≡ gs) → IsPlan gs × (text ≡ plan_text gs) → IfOk r (λ p. IsPlan (plan_value p) × (text ≡ plan_text (plan_value p)))
+found_if text gs (Ok p) same is = subst (λ q. IsPlan q × (text ≡ plan_text q)) (sym same) is
+found_if text gs (Err e) same is = tt
+
+pub only_if : (text : List ℕ) (gs : List GroupValue) (r : Result Plan PlanTextFault) → IfOk r (λ p. plan_value p ≡ gs) → IfErr r (λ e. e ≡ faults.Memory) → IsPlan gs × (text ≡ plan_text gs)
+    → (p : List GroupValue) → IsPlan p → text ≡ plan_text p → MatchResult r (λ q. plan_value q ≡ p) (λ e. e ≡ faults.Memory)
+only_if text gs (Ok q) same err is p form e = same ∙ one_text gs p is.0 form (sym is.1 ∙ e)
+only_if text gs (Err f) same err is p form e = err

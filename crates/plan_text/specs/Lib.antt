@@ -1,0 +1,12 @@
+pub mod Drafts
+pub mod Lines
+pub mod Numbers
+pub mod Parsing
+pub mod Plans
+pub mod Printed
+pub mod Progress
+pub mod Reading
+pub mod Spelled
+pub mod Standing
+pub mod Texts
+pub mod Words
