@@ -1,17 +1,18 @@
 -- How reading a text goes on, stops and ends.
 use denote.Ref.{Bor}
-use Rattle.std.proofs.Common.{◌≡◌, ◌∙◌, ◌+◌, ◌<◌, ◌≤◌, ◌==◌, Bool, true, false, ℕ, zero, suc, Option, List, [], ◌∷◌, ◌++◌, length, get_or, drop, map, refl, sym, ap, subst, arith}
+use Rattle.std.proofs.Common.{◌≡◌, ◌∙◌, ◌+◌, ◌<◌, ◌≤◌, ◌==◌, Bool, true, false, ℕ, zero, suc, Option, List, [], ◌∷◌, ◌++◌, length, get_or, drop, map, refl, sym, ap, subst, arith, append_assoc, append-nil}
 use Rattle.std.specs.Prelude.{IfErr, IfOk, MatchResult, Result, Ok, Err}
 use Rattle.std.specs.List.{slice_split}
 use Rattle.std.proofs.Math.Seq.{drop-cons}
 use Rattle.std.proofs.lemmas.Bool.Decides.{nat_tests}
 use Rattle.std.proofs.lemmas.List.Splits.{length-slice_split}
+use Rattle.plan_text.specs.Faults.{IsFaulty, TellsLine}
 use Rattle.plan_text.specs.Lines.{IsLine, LineValue, line_text}
-use Rattle.plan_text.specs.Parsing.{StopsSomewhere}
+use Rattle.plan_text.specs.Parsing.{StopsAtFault}
 use Rattle.plan_text.specs.Plans.{GroupValue, plan_value}
 use Rattle.plan_text.specs.Progress.{Grows, IsReadTo, Stops}
 use Rattle.plan_text.specs.Reading.{is_newline}
-use Rattle.plan_text.specs.Standing.{StandingValue, behind, follows, next, takes}
+use Rattle.plan_text.specs.Standing.{StandingValue, behind, may_end, follows, next, takes}
 use Rattle.plan_text.specs.Texts.{IsPlan, plan_text}
 use Rattle.plan_text.specs.declared.fault.PlanTextFault.{PlanTextFault}
 use Rattle.plan_text.specs.declared.fault.PlanTextFault.TheVariants as faults
@@ -29,41 +30,51 @@ texts ws = map {A = Bor (List ℕ)} {B = List ℕ} (λ w. w.now) ws
 from_one : (words : Texts) (i : ℕ) (d : Bor (List ℕ)) → i < length words → texts (drop i words) ≡ (get_or words i d).now ∷ texts (drop (suc i) words)
 from_one words i d lt = ap texts (drop-cons words i d lt)
 
-pub stops_here : (words : Texts) (i : ℕ) (d : Bor (List ℕ)) (s : StandingValue) (gs : List GroupValue) (current : Option GroupValue) → i < length words → IsReadTo (texts words) (texts (drop i words)) s gs current
-    → Stops s (get_or words i d).now → StopsSomewhere (texts words)
-stops_here words i d s gs current lt to stops = (
+pub stops_here : (words : Texts) (i : ℕ) (d : Bor (List ℕ)) (s : StandingValue) (gs : List GroupValue) (current : Option GroupValue) → i < length words → IsReadTo (texts words) (texts (drop i words)) i s gs current
+    → Stops s (get_or words i d).now → (f : PlanTextFault) → TellsLine i f → StopsAtFault (texts words) f
+stops_here words i d s gs current lt to stops f tells = (
   (get_or words i d).now,
   texts (drop (suc i) words),
+  i,
   s,
   record {
     ls = to.ls;
     front = to.front;
     whole = to.whole ∙ ap (λ l. to.front ++ l) (from_one words i d lt);
+    number = to.number;
     read = to.read;
     stands = to.holds.stands;
     stops = stops;
   },
+  tells,
 )
 
-pub one_step : (words : Texts) (i : ℕ) (d : Bor (List ℕ)) (s t : StandingValue) (gs new : List GroupValue) (current now : Option GroupValue) (l : LineValue) → i < length words → IsReadTo (texts words) (texts (drop i words)) s gs current
-    → (IsLine l × ((get_or words i d).now ≡ line_text l)) × (follows s l ≡ true) → t ≡ behind l.kind s (get_or words i d).now → Grows s l gs current new now → IsReadTo (texts words) (texts (drop (i + 1) words)) t new now
+pub one_step : (words : Texts) (i : ℕ) (d : Bor (List ℕ)) (s t : StandingValue) (gs new : List GroupValue) (current now : Option GroupValue) (l : LineValue) → i < length words → IsReadTo (texts words) (texts (drop i words)) i s gs current
+    → (IsLine l × ((get_or words i d).now ≡ line_text l)) × (follows s l ≡ true) → t ≡ behind l.kind s (get_or words i d).now → Grows s l gs current new now → IsReadTo (texts words) (texts (drop (i + 1) words)) (i + 1) t new now
 one_step words i d s t gs new current now l lt to is at grows =
-    let here : IsReadTo (texts words) ((get_or words i d).now ∷ texts (drop (suc i) words)) s gs current = subst (λ r. IsReadTo (texts words) r s gs current) (from_one words i d lt) to in
-    let went = goes_on (texts words) (texts (drop (suc i) words)) (get_or words i d).now s gs new current now l here is.0 is.1 grows in
+    let here : IsReadTo (texts words) ((get_or words i d).now ∷ texts (drop (suc i) words)) i s gs current = subst (λ r. IsReadTo (texts words) r i s gs current) (from_one words i d lt) to in
+    let went = goes_on (texts words) (texts (drop (suc i) words)) (get_or words i d).now i s gs new current now l here is.0 is.1 grows in
     let place : next s l ≡ t = ap (behind l.kind s) (sym is.0.1) ∙ sym at in
-    subst (λ n. IsReadTo (texts words) (texts (drop n words)) t new now) (plus i) (subst (λ z. IsReadTo (texts words) (texts (drop (suc i) words)) z new now) place went)
+    subst (λ n. IsReadTo (texts words) (texts (drop n words)) (i + 1) t new now) (plus i) (subst (λ z. IsReadTo (texts words) (texts (drop (suc i) words)) (i + 1) z new now) place went)
   where
     plus : (n : ℕ) → suc n ≡ n + 1
     plus n = omega arith
 
-pub all_read : (words : Texts) (i : ℕ) (s : StandingValue) (gs : List GroupValue) (current : Option GroupValue) → length words ≤ i → IsReadTo (texts words) (texts (drop i words)) s gs current → IsReadTo (texts words) [] s gs current
-all_read words i s gs current le to = subst (λ r. IsReadTo (texts words) r s gs current) (ap texts (past words i le)) to
+pub all_read : (words : Texts) (i : ℕ) (s : StandingValue) (gs : List GroupValue) (current : Option GroupValue) → length words ≤ i → i ≤ length words → IsReadTo (texts words) (texts (drop i words)) i s gs current → IsReadTo (texts words) [] (length (texts words)) s gs current
+all_read words i s gs current le ge to =
+    subst (λ n. IsReadTo (texts words) [] n s gs current) (same words i le ge) (subst (λ r. IsReadTo (texts words) r i s gs current) (ap texts (past words i le)) to)
   where
     past : (ws : Texts) (i : ℕ) → length ws ≤ i → drop i ws ≡ []
     past [] zero le = refl
     past [] (suc i) le = refl
     past (w ∷ ws) zero le = absurd (omega (arith, le))
     past (w ∷ ws) (suc i) le = past ws i (omega (arith, le))
+
+    same : (ws : Texts) (i : ℕ) → length ws ≤ i → i ≤ length ws → i ≡ length (texts ws)
+    same [] zero le ge = refl
+    same [] (suc i) le ge = absurd (omega (arith, ge))
+    same (w ∷ ws) zero le ge = absurd (omega (arith, le))
+    same (w ∷ ws) (suc i) le ge = ap suc (same ws i (omega (arith, le)) (omega (arith, ge)))
 
 pub next_stops : (s : StandingValue) (text : List ℕ) (v : LineValue) → IsLine v × (text ≡ line_text v) → takes v.kind v.said s text ≡ false → Stops s text
 next_stops s text v is never = λ l form e.
@@ -98,3 +109,51 @@ pub only_if : (text : List ℕ) (gs : List GroupValue) (r : Result Plan PlanText
     → (p : List GroupValue) → IsPlan p → text ≡ plan_text p → MatchResult r (λ q. plan_value q ≡ p) (λ e. e ≡ faults.Memory)
 only_if text gs (Ok q) same err is p form e = same ∙ one_text gs p is.0 form (sym is.1 ∙ e)
 only_if text gs (Err f) same err is p form e = err
+
+-- which line of the text is faulty
+
+pub stopped_at : (text : List ℕ) (lines : List (List ℕ)) (tail : List ℕ) (f : PlanTextFault) → slice_split is_newline text ≡ lines ++ (tail ∷ []) → StopsAtFault lines f → (n : ℕ) × IsFaulty text n × TellsLine n f
+stopped_at text lines tail f cut (here, rest, n, s, stop, tells) = (
+  n,
+  record {
+    ls = stop.ls;
+    front = stop.front;
+    here = here;
+    rest = rest ++ (tail ∷ []);
+    cut = cut ∙ ap (λ l. l ++ (tail ∷ [])) stop.whole ∙ append_assoc stop.front (here ∷ rest) (tail ∷ []);
+    number = stop.number;
+    read = stop.read;
+    inside = λ some. subst (λ z. Stops z here) (sym stop.stands) stop.stops;
+    last = λ none bytes. absurd (some_rest rest none);
+  },
+  tells,
+)
+  where
+    some_rest : (ts : List (List ℕ)) → ts ++ (tail ∷ []) ≡ [] → ⊥
+    some_rest [] e = omega (arith, ap length e)
+    some_rest (t ∷ ts) e = omega (arith, ap length e)
+
+pub stopped_last : (text : List ℕ) (lines : List (List ℕ)) (tail : List ℕ) (f : PlanTextFault) (s : StandingValue) (gs : List GroupValue) (current : Option GroupValue) → slice_split is_newline text ≡ lines ++ (tail ∷ []) → IsReadTo lines [] (length lines) s gs current
+    → (tail ≡ [] → may_end s.place ≡ false) → TellsLine (length lines) f → (n : ℕ) × IsFaulty text n × TellsLine n f
+stopped_last text lines tail f s gs current cut to unfinished tells = (
+  length lines,
+  record {
+    ls = to.ls;
+    front = to.front;
+    here = tail;
+    rest = [];
+    cut = cut ∙ ap (λ l. l ++ (tail ∷ [])) (to.whole ∙ append-nil to.front);
+    number = to.number;
+    read = to.read;
+    inside = λ some. absurd (some refl);
+    last = λ none bytes. ap (λ (z : StandingValue). may_end z.place) to.holds.stands ∙ unfinished bytes;
+  },
+  tells,
+)
+
+pub tells_all : (ws : Texts) (f : PlanTextFault) → TellsLine (length ws) f → TellsLine (length (texts ws)) f
+tells_all ws f tells = subst (λ n. TellsLine n f) (same ws) tells
+  where
+    same : (ws : Texts) → length ws ≡ length (texts ws)
+    same [] = refl
+    same (w ∷ ws) = ap suc (same ws)

@@ -26,13 +26,18 @@ map-snoc : (ls : List LineValue) (l : LineValue) → map line_text (ls ++ (l ∷
 map-snoc [] l = refl
 map-snoc (x ∷ ls) l = ap (λ t. line_text x ∷ t) (map-snoc ls l)
 
-pub goes_on : (texts rest : List (List ℕ)) (here : List ℕ) (s : StandingValue) (gs new : List GroupValue) (current now : Option GroupValue) (l : LineValue)
-    → IsReadTo texts (here ∷ rest) s gs current → IsLine l × (here ≡ line_text l) → follows s l ≡ true → Grows s l gs current new now → IsReadTo texts rest (next s l) new now
-goes_on texts rest here s gs new current now l to is f grows =
+longer : (ts : List (List ℕ)) (t : List ℕ) → length (ts ++ (t ∷ [])) ≡ length ts + 1
+longer [] t = refl
+longer (x ∷ ts) t = let e = longer ts t in omega (arith, e)
+
+pub goes_on : (texts rest : List (List ℕ)) (here : List ℕ) (n : ℕ) (s : StandingValue) (gs new : List GroupValue) (current now : Option GroupValue) (l : LineValue)
+    → IsReadTo texts (here ∷ rest) n s gs current → IsLine l × (here ≡ line_text l) → follows s l ≡ true → Grows s l gs current new now → IsReadTo texts rest (n + 1) (next s l) new now
+goes_on texts rest here n s gs new current now l to is f grows =
     let h = to.holds in record {
       ls = to.ls ++ (l ∷ []);
       front = to.front ++ (here ∷ []);
       whole = to.whole ∙ sym (append_assoc to.front (here ∷ []) rest);
+      number = longer to.front here ∙ ap (λ k. k + 1) to.number;
       read = record {
         spelled = ap (λ t. t ++ (here ∷ [])) to.read.spelled ∙ ap (λ t. map line_text to.ls ++ (t ∷ [])) is.1 ∙ sym (map-snoc to.ls l);
         form = all_both to.ls (l ∷ []) to.read.form (is.0, tt);
@@ -46,11 +51,12 @@ goes_on texts rest here s gs new current now l to is f grows =
       };
     }
 
-pub begins : (texts : List (List ℕ)) (none : List GroupValue) → none ≡ [] → IsReadTo texts texts start none None
+pub begins : (texts : List (List ℕ)) (none : List GroupValue) → none ≡ [] → IsReadTo texts texts 0 start none None
 begins texts none e = record {
   ls = [];
   front = [];
   whole = refl;
+  number = refl;
   read = record { spelled = refl; form = tt; follow = refl };
   holds = record { stands = refl; lines = rw e refl; fits = tt; count = rw e refl };
 }
@@ -169,9 +175,9 @@ all_lines gs None = sym (append-nil (groups_lines 1 gs))
 all_lines gs (Some g) = closed gs g
 
 -- what has been read up to here is a whole plan
-pub whole_plan : (texts : List (List ℕ)) (s : StandingValue) (gs : List GroupValue) (current : Option GroupValue) → IsReadTo texts [] s gs current → may_end s.place ≡ true
+pub whole_plan : (texts : List (List ℕ)) (n : ℕ) (s : StandingValue) (gs : List GroupValue) (current : Option GroupValue) → IsReadTo texts [] n s gs current → may_end s.place ≡ true
     → IsPlan (all_groups gs current) × (texts ≡ map line_text (plan_lines (all_groups gs current)))
-whole_plan texts s gs current to ended_at =
+whole_plan texts n s gs current to ended_at =
     let h = to.holds in
     let at_end : may_end (ends start to.ls).place ≡ true = ap (λ (z : StandingValue). may_end z.place) h.stands ∙ ended_at in
     let same : to.ls ≡ plan_lines (all_groups gs current) = header_first to.ls to.read.follow at_end ∙ ap (λ x. line_of kinds.Plan tt ∷ x) (h.lines ∙ sym (all_lines gs current)) in (

@@ -50,17 +50,17 @@ stops_nowhere s (l ∷ ls) (m ∷ all) here rest f g e r stop =
     stops_nowhere (next s m) ls all here rest f.1 g.1 (ap (drop 1) e) (and_parts (follows s m) (runs (next s m) all) r).1
     (subst (λ x. (k : LineValue) → IsLine k → here ≡ line_text k → follows (ends (next s x) ls) k ≡ false) same stop)
 
-pub stopped : (text : List ℕ) (lines : List (List ℕ)) (tail here : List ℕ) (rest : List (List ℕ)) (s : StandingValue) → slice_split is_newline text ≡ lines ++ (tail ∷ []) → AreStopped lines here rest s
+pub stopped : (text : List ℕ) (lines : List (List ℕ)) (tail here : List ℕ) (rest : List (List ℕ)) (n : ℕ) (s : StandingValue) → slice_split is_newline text ≡ lines ++ (tail ∷ []) → AreStopped lines here rest n s
     → (gs : List GroupValue) → IsPlan gs → text ≡ plan_text gs → ⊥
-stopped text lines tail here rest s cut at_line gs is e =
+stopped text lines tail here rest n s cut at_line gs is e =
     let parts = parts_of text lines tail gs cut is e in
     stops_nowhere start at_line.ls (plan_lines gs) here rest at_line.read.form (plan_form gs is) (ap (λ l. l ++ (here ∷ rest)) (sym at_line.read.spelled) ∙ sym at_line.whole ∙ parts.0) (plan_ends gs is).0
     (subst (λ z. (k : LineValue) → IsLine k → here ≡ line_text k → follows z k ≡ false) (sym at_line.stands) at_line.stops)
 
 -- lines that have all been read are no plan where reading may not end
-pub unfinished : (text : List ℕ) (lines : List (List ℕ)) (tail : List ℕ) (s : StandingValue) (was : List GroupValue) (current : Option GroupValue) → slice_split is_newline text ≡ lines ++ (tail ∷ []) → IsReadTo lines [] s was current
+pub unfinished : (text : List ℕ) (lines : List (List ℕ)) (tail : List ℕ) (n : ℕ) (s : StandingValue) (was : List GroupValue) (current : Option GroupValue) → slice_split is_newline text ≡ lines ++ (tail ∷ []) → IsReadTo lines [] n s was current
     → may_end s.place ≡ false → (gs : List GroupValue) → IsPlan gs → text ≡ plan_text gs → ⊥
-unfinished text lines tail s was current cut to not_yet gs is e =
+unfinished text lines tail n s was current cut to not_yet gs is e =
     let parts = parts_of text lines tail gs cut is e in
     let same : to.ls ≡ plan_lines gs = one_list to.ls (plan_lines gs) to.read.form (plan_form gs is) (sym to.read.spelled ∙ sym (append-nil to.front) ∙ sym to.whole ∙ parts.0) in
     let place : may_end s.place ≡ true = ap (λ (z : StandingValue). may_end z.place) (sym to.holds.stands) ∙ ap (λ ls. may_end (ends start ls).place) same ∙ (plan_ends gs is).1 in
@@ -70,9 +70,9 @@ pub tail_none : (text : List ℕ) (lines : List (List ℕ)) (tail : List ℕ) �
 tail_none text lines tail cut some gs is e = some (parts_of text lines tail gs cut is e).1
 
 -- lines that have been read to an end are a plan
-pub finished : (text : List ℕ) (lines : List (List ℕ)) (tail : List ℕ) (s : StandingValue) (was read : List GroupValue) (current : Option GroupValue) → slice_split is_newline text ≡ lines ++ (tail ∷ []) → tail ≡ [] → IsReadTo lines [] s was current
+pub finished : (text : List ℕ) (lines : List (List ℕ)) (tail : List ℕ) (n : ℕ) (s : StandingValue) (was read : List GroupValue) (current : Option GroupValue) → slice_split is_newline text ≡ lines ++ (tail ∷ []) → tail ≡ [] → IsReadTo lines [] n s was current
     → may_end s.place ≡ true → read ≡ all_groups was current → IsPlan read × (text ≡ plan_text read)
-finished text lines tail s was read current cut none to end same =
-    let w = whole_plan lines s was current to end in
+finished text lines tail n s was read current cut none to end same =
+    let w = whole_plan lines n s was current to end in
     subst (λ gs. IsPlan gs × (text ≡ plan_text gs)) (sym same)
     (w.0, lines_joined text (plan_lines (all_groups was current)) (cut ∙ ap (λ t. lines ++ (t ∷ [])) none ∙ ap (λ l. l ++ ([] ∷ [])) w.1))

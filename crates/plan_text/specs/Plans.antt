@@ -23,7 +23,13 @@ pub record GroupValue : Type 0 where
 
 abbrev pub addition_value : Addition → AdditionValue
 addition_value a =
-    record { id = a.id; slot = a.slot; subslot = a.subslot; enabled = a.enabled.items; binds = a.binds.items }
+    record {
+      id = a.id;
+      slot = a.slot;
+      subslot = a.subslot;
+      enabled = a.enabled.items;
+      binds = a.binds.items;
+    }
 
 abbrev pub group_value : Group → GroupValue
 group_value g =

@@ -1,5 +1,5 @@
 -- How far the lines of a text have been read.
-use Rattle.std.specs.Prelude.{◌≡◌, ℕ, Bool, false, true, List, [], ◌∷◌, ◌++◌, Option, map}
+use Rattle.std.specs.Prelude.{◌≡◌, ℕ, Bool, false, true, List, [], ◌∷◌, ◌++◌, Option, length, map}
 use Rattle.std.specs.List.{AllByRecursion, flat_map}
 use Rattle.plan_text.specs.Drafts.{Fits, begun, lines_so_far}
 use Rattle.plan_text.specs.Lines.{IsLine, LineValue, Said, line_of, line_text}
@@ -35,12 +35,13 @@ pub record Holds (ls : List LineValue) (s : StandingValue) (gs : List GroupValue
   pub fits : Fits s.place current
   pub count : s.groups ≡ begun gs current
 
--- of all texts these are left, and the groups hold what the others say
-pub record IsReadTo (texts rest : List (List ℕ)) (s : StandingValue) (gs : List GroupValue)
-    (current : Option GroupValue) : Type 0 where
+-- of all texts these are left behind the first n, and the groups hold what the others say
+pub record IsReadTo (texts rest : List (List ℕ)) (n : ℕ) (s : StandingValue)
+    (gs : List GroupValue) (current : Option GroupValue) : Type 0 where
   pub ls : List LineValue
   pub front : List (List ℕ)
   pub whole : texts ≡ front ++ rest
+  pub number : length front ≡ n
   pub read : AreRead front ls
   pub holds : Holds ls s gs current
 
@@ -48,12 +49,13 @@ pub record IsReadTo (texts rest : List (List ℕ)) (s : StandingValue) (gs : Lis
 abbrev pub Stops : StandingValue → List ℕ → Type 0
 Stops s text = (l : LineValue) → IsLine l → text ≡ line_text l → follows s l ≡ false
 
--- one of the texts is no line that may follow those before it
-pub record AreStopped (texts : List (List ℕ)) (here : List ℕ) (rest : List (List ℕ))
+-- the text behind the first n is no line that may follow those before it
+pub record AreStopped (texts : List (List ℕ)) (here : List ℕ) (rest : List (List ℕ)) (n : ℕ)
     (s : StandingValue) : Type 0 where
   pub ls : List LineValue
   pub front : List (List ℕ)
   pub whole : texts ≡ front ++ (here ∷ rest)
+  pub number : length front ≡ n
   pub read : AreRead front ls
   pub stands : ends start ls ≡ s
   pub stops : Stops s here

@@ -1,3 +1,6 @@
+ghost use Rattle.std.specs.Prelude.{◌≡◌};
+ghost use Rattle.plan_text.specs.Faults.{Names, TellsLine, line_number};
+
 use crate::fault::PlanTextFault;
 use crate::line::words;
 use crate::number::read_number;
@@ -7,7 +10,9 @@ use std::alloc::Global;
 
 /// The fault of a line behind which no plan goes on: so many groups have begun before it, and so
 /// many lines stand before it.
-pub(crate) fn fault_at(alloc: Global, groups: u32, before: usize, text: &str) -> PlanTextFault {
+pub(crate) fn fault_at(alloc: Global, groups: u32, before: usize, text: &str) -> PlanTextFault
+    ensures { TellsLine before result }
+{
     let line = line_number(before);
     let Ok(words) = words(alloc, text) else {
         return PlanTextFault::Memory;
@@ -22,7 +27,9 @@ pub(crate) fn fault_at(alloc: Global, groups: u32, before: usize, text: &str) ->
     }
 }
 
-fn group_fault(groups: u32, line: u32, said: &[&str]) -> PlanTextFault {
+fn group_fault(groups: u32, line: u32, said: &[&str]) -> PlanTextFault
+    ensures { Names line result }
+{
     let Some((word, _)) = first_word(said) else {
         return PlanTextFault::Line { line };
     };
@@ -38,7 +45,9 @@ fn group_fault(groups: u32, line: u32, said: &[&str]) -> PlanTextFault {
     }
 }
 
-fn after_fault(alloc: Global, groups: u32, line: u32, said: &[&str]) -> PlanTextFault {
+fn after_fault(alloc: Global, groups: u32, line: u32, said: &[&str]) -> PlanTextFault
+    ensures { Names line result }
+{
     if said.is_empty() {
         return PlanTextFault::Line { line };
     }
@@ -56,6 +65,8 @@ fn after_fault(alloc: Global, groups: u32, line: u32, said: &[&str]) -> PlanText
 }
 
 /// The number of the line behind so many.
-fn line_number(before: usize) -> u32 {
+fn line_number(before: usize) -> u32
+    ensures { result ≡ line_number before }
+{
     u32::try_from(before).unwrap_or(u32::MAX).saturating_add(1)
 }

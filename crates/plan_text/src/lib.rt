@@ -13,9 +13,11 @@
 //!
 //! **Proved**: a text is read as a plan exactly where it is the text of that plan, and the plan is
 //! in form; what is printed is the plan's text, in form or not; no two plans in form have one text.
+//! But for want of memory a text is refused at its first faulty line (`IsFaulty` of
+//! `specs/Faults.antt`).
 //!
-//! **Only tested**: which fault a refused text is told to have, and its line; that with ample
-//! memory the text of a plan is read.
+//! **Only tested**: which of the faults of that line is told; that with ample memory the text of a
+//! plan is read.
 //!
 //! A text of n bytes is read in a time that is linear in n.
 //!

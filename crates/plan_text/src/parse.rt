@@ -1,8 +1,9 @@
-ghost use Rattle.std.specs.Prelude.{◌≡◌, ◌≢◌, [], ◌∷◌, ◌++◌, List, map, IfErr, IfOk, MatchOption, MatchResult};
+ghost use Rattle.std.specs.Prelude.{◌≡◌, ◌≢◌, [], ◌∷◌, ◌++◌, ℕ, List, map, IfErr, IfOk, MatchOption, MatchResult};
 ghost use Rattle.std.specs.List.{slice_split};
 ghost use Rattle.plan_text.specs.Drafts.{all_groups, current_group, whole_groups};
+ghost use Rattle.plan_text.specs.Faults.{IsFaulty, TellsLine};
 ghost use Rattle.plan_text.specs.Lines.{IsLine};
-ghost use Rattle.plan_text.specs.Parsing.{AreAllRead, ReadsNext, StopsSomewhere};
+ghost use Rattle.plan_text.specs.Parsing.{AreAllRead, ReadsNext, StopsAtFault};
 ghost use Rattle.plan_text.specs.Plans.{GroupValue, plan_value};
 ghost use Rattle.plan_text.specs.Reading.{is_newline, line_value};
 ghost use Rattle.plan_text.specs.Standing.{behind, standing_value};
@@ -32,6 +33,8 @@ impl Plan {
             (text.now ≡ plan_text (plan_value p))) }
         ensures only { (p : List GroupValue) → IsPlan p → text.now ≡ plan_text p →
             MatchResult result (λ r. plan_value r ≡ p) (λ e. e ≡ Memory) }
+        ensures fault { IfErr result (λ e. e ≢ Memory → (n : ℕ) × IsFaulty text.now n ×
+            TellsLine n e) }
     {
         let pieces = pieces(alloc, text)?;
         let Some((lines, tail)) = split_tail(&pieces) else {
@@ -72,7 +75,7 @@ fn split_tail<'a>(pieces: &'a [&'a str]) -> Option<(&'a [&'a str], &'a str)>
 fn read_lines(alloc: Global, texts: &[&str]) -> Result<Read, PlanTextFault>
     ensures found { IfOk result (AreAllRead (map (λ w. w.now) texts.now)) }
     ensures fault { IfErr result (λ e. e ≢ Memory →
-        StopsSomewhere (map (λ w. w.now) texts.now)) }
+        StopsAtFault (map (λ w. w.now) texts.now) e) }
 {
     let mut draft = Draft {
         groups: Vec::new(alloc),

@@ -1,4 +1,4 @@
-use Rattle.std.proofs.Common.{refl, ap, map}
+use Rattle.std.proofs.Common.{arith, refl, ap, map}
 use Rattle.plan_text.specs.Drafts.{current_group, whole_groups}
 use Rattle.plan_text.specs.Plans.{group_value}
 use Rattle.plan_text.specs.Reading.{line_value}
@@ -12,7 +12,7 @@ loop-at-init c = begins (texts c.args.texts.now) (map group_value c.new.result.i
 
 pub returns-in_default-clause-fault : goal.returns-in_default-clause-fault
 returns-in_default-clause-fault c = λ known.
-    stops_here c.args.texts.now c.loop-at.at _ (standing_value c.loop-at.standing) (whole_groups c.loop-at.draft) (current_group c.loop-at.draft) c.loop-at-test.true c.loop-at.invariant (rw c.in_default.is at c.in_ok-line.ensures)
+    stops_here c.args.texts.now c.loop-at.at _ (standing_value c.loop-at.standing) (whole_groups c.loop-at.draft) (current_group c.loop-at.draft) c.loop-at-test.true c.loop-at.invariant (rw c.in_default.is at c.in_ok-line.ensures) c.fault_at.result c.fault_at.ensures
 
 pub with_line-requires-clause-fits : goal.with_line-requires-clause-fits
 with_line-requires-clause-fits c = c.loop-at.invariant.holds.fits
@@ -28,7 +28,7 @@ loop-at-preserved c =
 pub returns-clause-found : goal.returns-clause-found
 returns-clause-found c = record {
   stands = standing_value c.loop-at.standing;
-  to = all_read c.args.texts.now c.loop-at.at (standing_value c.loop-at.standing) (whole_groups c.loop-at.draft) (current_group c.loop-at.draft) c.loop-at-test.false c.loop-at.invariant;
+  to = all_read c.args.texts.now c.loop-at.at (standing_value c.loop-at.standing) (whole_groups c.loop-at.draft) (current_group c.loop-at.draft) c.loop-at-test.false (omega (arith, c.loop-at.auto.at-end)) c.loop-at.invariant;
   groups = refl;
   place = refl;
 }
