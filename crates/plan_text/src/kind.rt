@@ -4,7 +4,7 @@ ghost use Rattle.plan_text.specs.Lines.{head_text};
 
 /// What a line of a plan's text is for.
 #[derive(Clone, Copy, Debug)]
-pub enum Kind {
+pub(crate) enum Kind {
     /// `plan 1`, the first line.
     Plan,
     /// `group 1`

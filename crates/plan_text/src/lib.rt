@@ -41,7 +41,6 @@ mod standing;
 mod words;
 
 pub use fault::PlanTextFault;
-pub use kind::Kind;
 pub use laws::one_plan;
 pub use plan::{Addition, Group, Plan, Removal};
 pub use standing::MOST_GROUPS;
