@@ -104,8 +104,8 @@ pub record IsPiece (quoted : Bool) (text rest : List ℕ) (piece : Piece) : Type
   pub whole : (values : List ℕ → List ℕ) (value : List ℕ) → NamesText values piece →
       IsWhole value text → IsWhole (value ++ piece_value values piece) rest
 
--- where the runs of a value end: in front of white space or at the end of the text, or in front of a
--- quote that is open
+-- where the runs of a value end: in front of white space or at the end of the text, or in front of
+-- a quote that is open
 abbrev pub ReadsValue : (List ℕ → List ℕ) → List ℕ → List ℕ → List ℕ → ValueEnd → Type 0
 ReadsValue named text was now (Closed more) =
     GivesRuns named text more.now was now × Stops is_solid more.now

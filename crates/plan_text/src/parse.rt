@@ -1,4 +1,5 @@
-ghost use Rattle.std.specs.Prelude.{◌≡◌, ◌≢◌, [], ◌∷◌, ◌++◌, ℕ, List, map, IfErr, IfOk, MatchOption, MatchResult};
+ghost use Rattle.std.specs.Prelude.{◌≡◌, ◌≢◌, [], ◌∷◌, ◌++◌, ℕ, List, map};
+ghost use Rattle.std.specs.Prelude.{IfErr, IfOk, MatchOption, MatchResult};
 ghost use Rattle.std.specs.List.{slice_split};
 ghost use Rattle.plan_text.specs.Drafts.{all_groups, current_group, whole_groups};
 ghost use Rattle.plan_text.specs.Faults.{IsFaulty, TellsLine};

@@ -3,7 +3,8 @@ ghost use Rattle.std.specs.List.{flat_map};
 ghost use Rattle.dep_atom.specs.Ids.{id_text};
 ghost use Rattle.plan_text.specs.Plans.{addition_value, group_value, plan_value};
 ghost use Rattle.plan_text.specs.Printed.{addition_text, after_text, bind_text, entry_text};
-ghost use Rattle.plan_text.specs.Printed.{group_text, groups_text, number_text, removal_text, spaced};
+ghost use Rattle.plan_text.specs.Printed.{group_text, groups_text, number_text, removal_text};
+ghost use Rattle.plan_text.specs.Printed.{spaced};
 ghost use Rattle.plan_text.specs.Texts.{plan_text};
 ghost use Rattle.plan_text.specs.Words.{slots_word};
 

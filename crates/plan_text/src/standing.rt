@@ -1,8 +1,8 @@
 ghost use Rattle.std.specs.Prelude.{◌≡◌, ◌==◌, ◌&&◌, ◌+◌, nat_lt, true};
 ghost use Rattle.plan_text.specs.Numbers.{rise_between};
 ghost use Rattle.plan_text.specs.Reading.{line_value};
-ghost use Rattle.plan_text.specs.Standing.{behind, follows, is_bare, may_end, standing_value, takes};
-ghost use Rattle.plan_text.specs.Standing.{takes_addition, takes_removal};
+ghost use Rattle.plan_text.specs.Standing.{behind, follows, is_bare, may_end, standing_value};
+ghost use Rattle.plan_text.specs.Standing.{takes, takes_addition, takes_removal};
 ghost use Rattle.plan_text.specs.Texts.{most_groups};
 
 use crate::line::Line;

@@ -1,0 +1,58 @@
+-- The group that brings a package into a tree, and why its merge is stopped.
+use Rattle.std.specs.Prelude.{◌≡◌, ℕ, Bool, List, [], if◌then◌else◌, ◌==◌}
+use Rattle.file_tree.specs.Disk.{Map}
+use Rattle.file_tree.specs.declared.objects.Entry.{Entry}
+use Rattle.dep_atom.specs.declared.package.Facts.{Facts}
+use Rattle.journal.specs.Group.{Group}
+use Rattle.merge_record.specs.declared.record.OwnerKey.{OwnerKey}
+use Rattle.merge_site.specs.Booking.{dying_at}
+use Rattle.merge_site.specs.declared.group.SiteGroup.{SiteGroup}
+use Rattle.owner_book.specs.Book.{Book}
+use Rattle.vdb_text.specs.Files.{AreRecordOf}
+use Rattle.group_run.specs.Causes.{StopsRun}
+use Rattle.group_run.specs.Granted.{IsLetIn}
+use Rattle.group_run.specs.declared.files.Files.{Files}
+use Rattle.group_run.specs.declared.stop.Stop.{Stop}
+use Rattle.group_run.specs.declared.stop.Stop.TheVariants as stops
+
+-- the number of the one group
+abbrev pub GROUP : ℕ
+GROUP = 1
+
+-- the line of that group, and none of any other
+abbrev pub only_line : List ℕ → ℕ → List ℕ
+only_line line g = if g == GROUP then line else []
+
+-- the files that a package with this image places: its image, and the files of its record
+pub record AreMadeOf (f : Facts) (owner : OwnerKey) (image : List Entry) (files : Files) :
+    Type 0 where
+  pub owner_is : files.owner ≡ owner
+  pub image_is : files.image.items ≡ image
+  pub filed : AreRecordOf f image files.folder.items
+
+-- the group brings the package, and nothing goes with it: it places just these files, whose paths
+-- this book and this map grant
+pub record BringsIn (m : Map) (book : Book) (f : Facts) (owner : OwnerKey) (image : List Entry)
+    (x : Group) : Type 0 where
+  pub files : Files
+  pub made : AreMadeOf f owner image files
+  pub groups : List SiteGroup
+  pub none_go : dying_at groups GROUP ≡ []
+  pub let_in : IsLetIn m book groups files GROUP x
+
+-- the group of the package is stopped so
+pub record StopsGroup (tells : Bool) (m : Map) (book : Book) (f : Facts) (owner : OwnerKey)
+    (image : List Entry) (s : Stop) : Type 0 where
+  pub files : Files
+  pub made : AreMadeOf f owner image files
+  pub groups : List SiteGroup
+  pub none_go : dying_at groups GROUP ≡ []
+  pub stops_run : StopsRun tells m book groups files GROUP s
+
+-- why the merge of the package is stopped; the device, the output and want of memory say nothing
+-- of it
+abbrev pub StopsMerge : Bool → Map → Book → Facts → OwnerKey → List Entry → Stop → Type 0
+StopsMerge tells m book f owner image stops.Device = Unit {0}
+StopsMerge tells m book f owner image stops.Output = Unit {0}
+StopsMerge tells m book f owner image stops.Memory = Unit {0}
+StopsMerge tells m book f owner image s = StopsGroup tells m book f owner image s
