@@ -1,10 +1,8 @@
 -- A package's group that was granted leaves a kept tree that has the package, too.
 use Rattle.std.proofs.Common.{◌≡◌, ◌∙◌, ◌++◌, ℕ, Bool, true, false, List, [], ◌∷◌, Option, Some, None, inl, inr, refl, ap, map, subst, sym}
 use Rattle.std.specs.Prelude.{IsSome, unwrap_or}
-use Rattle.std.proofs.lemmas.Bool.{or_parts}
-use Rattle.std.proofs.lemmas.List.{map-append}
 use Rattle.basics.specs.Members.{AreDistinct, Has}
-use Rattle.basics.proofs.Membership.{has-append_cases, has-append_left, has-append_right, has-map, has-map_back}
+use Rattle.basics.proofs.Membership.{has-append_cases, has-append_left, has-map, has-map_back}
 use Rattle.dep_atom.specs.Ids.{IsId}
 use Rattle.file_tree.specs.Disk.{Map}
 use Rattle.file_tree.specs.Paths.{is_below}
@@ -13,12 +11,11 @@ use Rattle.file_tree.specs.declared.objects.Entry.{Entry}
 use Rattle.image_fit.specs.Images as images
 use Rattle.journal.specs.Group.{Group, applied}
 use Rattle.merge_record.specs.declared.record.OwnerKey.{OwnerKey}
-use Rattle.merge_record.proofs.Form.{are_free-words}
 use Rattle.merge_site.specs.Booking.{dying_at, wish_for}
 use Rattle.merge_site.specs.declared.group.SiteGroup.{SiteGroup}
 use Rattle.owner_book.specs.Book as books
 use Rattle.owner_book.specs.Book.{Book, owner_in}
-use Rattle.owner_book.specs.Rules.{database, is_dying, is_reserved, own_files, touches}
+use Rattle.owner_book.specs.Rules.{is_dying}
 use Rattle.owner_book.specs.declared.wish.Wish.{Wish}
 use Rattle.vdb_text.specs.Files.{database_path, record_path}
 use Rattle.contents_text.specs.Contents.{path_of}
@@ -28,22 +25,15 @@ use Rattle.database_law.specs.Fields.{Field, Folder, Reads, Says, contents, name
 use Rattle.database_law.specs.Packages.{Installed, id_of, paths}
 use Rattle.database_law.specs.Step.{Change, GroupKeepsDatabase, IsAfter, Puts, Removes, put}
 use Rattle.database_law.proofs.Places.{counted_below, counted_of, none_is_not_some}
+use Rattle.commit_law.specs.Claims.{MayCome}
 use Rattle.claim_law.specs.Granted.{GrantedClaimsAreGood, IsTaken}
 use Rattle.claim_law.specs.Owners.{IsWishOf, OwnersAre, Tells, Wishes}
-use Rattle.claim_law.proofs.Granted.{free_wish}
 use Rattle.group_run.specs.Granted.{MayMerge, wishes_for, wishes_in}
 use Rattle.group_run.specs.Working.{all_in, placing}
 use Rattle.group_run.specs.declared.files.Files.{Files}
 use Rattle.package_law.specs.Packages.{AreFilesOf, MergedPackagesAreKept, held_by}
-use Rattle.package_law.proofs.Places.{placed_paths, put_at, put_behind, put_by, wished_paths}
-
--- a path that no image may have is no path of the database
-let_in_outside : (p : List ℕ) → is_reserved p ≡ false → is_below database_path p ≡ false
-unfolding database_path
-let_in_outside p free =
-    let one = or_parts (touches database p) (touches own_files p) free in
-    let near = or_parts _ _ one.0 in
-    (or_parts _ _ near.1).0
+use Rattle.package_law.proofs.LetIn as wished
+use Rattle.package_law.proofs.Places.{placed_paths, put_at, put_behind, put_by}
 
 -- the files of a folder that agree on what counts say the same
 says_same : (f h : Folder) (p : Installed) → ((k : Field) → h (name_of k) ≡ f (name_of k)) → Says f p → Says h p
@@ -83,27 +73,20 @@ module _ (key : Installed → OwnerKey) (m : Map) (ps : List Installed) (book : 
   c = record { gone = gone; added = a ∷ []; does = g }
 
   all_wished : map books.path_of ws ≡ map images.path_of (image ++ own)
-  all_wished =
-      map-append books.path_of (wishes_for files.owner false image) (wishes_for files.owner true own)
-      ∙ (ap (λ (l : List (List ℕ)). l ++ map books.path_of (wishes_for files.owner true own)) (wished_paths files.owner false image)
-      ∙ (ap (λ (l : List (List ℕ)). map images.path_of image ++ l) (wished_paths files.owner true own)
-      ∙ sym (map-append images.path_of image own)))
+  all_wished = wished.all_wished m book groups files n let_in
 
   distinct : AreDistinct (map images.path_of (image ++ own))
-  distinct = subst (λ (l : List (List ℕ)). AreDistinct l) all_wished (are_free-words [] (map books.path_of ws) let_in.granted.apart).distinct
+  distinct = wished.distinct m book groups files n let_in
 
   image_wish : (e : Entry) → Has image e → Has ws (wish_for files.owner false e)
-  image_wish e has = has-append_left (wishes_for files.owner false image) (wishes_for files.owner true own) _ (has-map (wish_for files.owner false) image e has)
+  image_wish = wished.image_wish m book groups files n let_in
 
   own_wish : (e : Entry) → Has own e → Has ws (wish_for files.owner true e)
-  own_wish e has = has-append_right (wishes_for files.owner false image) (wishes_for files.owner true own) _ (has-map (wish_for files.owner true) own e has)
+  own_wish = wished.own_wish m book groups files n let_in
 
   -- no path of the image is in the database
   image_outside : (q : List ℕ) → is_below database_path q ≡ true → Has (map images.path_of image) q → ⊥
-  image_outside q below has =
-      let e = has-map_back images.path_of image q has in
-      let free = (free_wish let_in.book (is_dying (dying_at groups n)) ws let_in.granted.taken.free (wish_for files.owner false e.0) (image_wish e.0 e.1)).1.let_in in
-      cc (subst (λ (p : List ℕ). is_below database_path p ≡ false) e.2 (let_in_outside e.0.path free), below)
+  image_outside = wished.image_outside m book groups files n let_in
 
   own_put : (q : List ℕ) → is_below database_path q ≡ true → put g q ≡ held_by own q
   own_put q below = put_behind n image own q distinct (image_outside q below)
@@ -206,10 +189,11 @@ module _ (key : Installed → OwnerKey) (m : Map) (ps : List Installed) (book : 
   taken : IsTaken let_in.book (is_dying (dying_at groups n)) c ws
   taken = record { removable = λ q has. absurd (cc has); free = let_in.granted.taken.free }
 
+  pub may_come : GrantedClaimsAreGood → MayCome m ps (record { gone = λ p. false; added = a ∷ []; does = placing n (all_in files) })
+  may_come good = (good key let_in.book m ps c (is_dying (dying_at groups n)) ws db owners_there tells taken).0
+
   pub kept_with : GrantedClaimsAreGood → GroupKeepsDatabase → IsKept m ps → (qs : List Installed) → IsAfter ps (λ p. false) (a ∷ []) qs → IsDatabase (applied m (placing n (all_in files) ∷ [])) qs × IsKept (applied m (placing n (all_in files) ∷ [])) qs
-  kept_with good keeps kept qs after =
-      let may = (good key let_in.book m ps c (is_dying (dying_at groups n)) ws db owners_there tells taken).0 in
-      keeps m ps (a ∷ []) qs gone g db kept may.step after
+  kept_with good keeps kept qs after = keeps m ps (a ∷ []) qs gone g db kept (may_come good).step after
 
 pub merged_kept : GrantedClaimsAreGood → GroupKeepsDatabase → MergedPackagesAreKept
 merged_kept good keeps key m ps qs book groups files n x a db kept owners are mine none_die is after =

@@ -4,7 +4,7 @@ use Rattle.std.specs.Prelude.{IsSome, bytes_eq, if◌then◌else◌}
 use Rattle.std.proofs.lemmas.Bool.{cases_Bool}
 use Rattle.std.proofs.lemmas.List.{map-append}
 use Rattle.basics.specs.Members.{AreDistinct, Has}
-use Rattle.basics.proofs.Membership.{has-append_cases, has-append_right, has-map, has-map_back}
+use Rattle.basics.proofs.Membership.{has-append_cases, has-append_left, has-append_right, has-map, has-map_back}
 use Rattle.basics.proofs.Texts.{bytes_eq-apart, bytes_eq-same}
 use Rattle.file_tree.specs.Thing.{Thing}
 use Rattle.file_tree.specs.declared.objects.Entry.{Entry}
@@ -74,6 +74,10 @@ held_none (d ∷ es) q none =
 pub distinct_back : {A : Type 0} (xs ys : List A) → AreDistinct (xs ++ ys) → AreDistinct ys
 distinct_back [] ys distinct = distinct
 distinct_back (x ∷ xs) ys distinct = distinct_back xs ys distinct.1
+
+pub distinct_front : {A : Type 0} (xs ys : List A) → AreDistinct (xs ++ ys) → AreDistinct xs
+distinct_front [] ys distinct = tt
+distinct_front (x ∷ xs) ys distinct = ((λ has. distinct.0 (has-append_left xs ys x has)), distinct_front xs ys distinct.1)
 
 -- where the path is none of the first files', the group puts there what the map of the others has
 pub put_behind : (n : ℕ) (image folder : List Entry) (q : List ℕ) → AreDistinct (map path_of (image ++ folder)) → (Has (map path_of image) q → ⊥) → put (placing n (image ++ folder)) q ≡ held_by folder q

@@ -19,12 +19,12 @@ use Rattle.database_law.specs.Database.{IsDatabase, IsKept}
 use Rattle.database_law.specs.Packages.{Installed}
 use Rattle.database_law.specs.Step.{GroupsKeepDatabase, IsAfter}
 use Rattle.claim_law.specs.Owners.{OwnersAre}
-use Rattle.group_run.specs.Applied.{AreOf, number}
+use Rattle.group_run.specs.Applied.{AreOf, Recovers, number}
 use Rattle.group_run.specs.Granted.{IsLetIn}
 use Rattle.group_run.specs.Working.{all_in, object_of, placing}
 use Rattle.group_run.specs.declared.files.Files.{Files}
 use Rattle.group_run.proofs.Granted.{none_there}
-use Rattle.package_law.specs.Packages.{AreFilesOf, MergedPackagesAreKept, RecoversKept, RunsLeaveKeptTrees}
+use Rattle.package_law.specs.Packages.{AreFilesOf, MergedPackagesAreKept, RecoversKept, RecoversTo, RunsLeaveKeptTrees}
 
 -- what a map recovers to is so at each path
 recovered_as : (c m n : Map) → IsRecovered c m → ((q : List ℕ) → m q ≡ n q) → IsRecovered c n
@@ -53,27 +53,37 @@ applied_once m g x xs q staged same all =
     subst (λ (h : Group). applied m (h ∷ xs) q ≡ applied m (h ∷ []) q) (sym same)
     (ap (λ (z : Option Thing). if is_below jobs q then None else z) (many_as_one g xs q (m q) staged all))
 
-module _ (merged : MergedPackagesAreKept) (keep : GroupsKeepDatabase) (key : Installed → OwnerKey) (m : Map) (ps qs : List Installed) (book : Book) (groups : List SiteGroup) (files : Files) (n : ℕ) (a : Installed)
+-- where nothing came in
+pub no_groups : GroupsKeepDatabase → (m : Map) (ps : List Installed) (c : Map) → IsDatabase m ps → IsKept m ps → IsRecovered c (applied m []) → RecoversTo ps c
+no_groups keep m ps c db kept is =
+    let both = keep [] m ps ps db kept refl in
+    record { tree = applied m []; recovers = is; database = both.0; kept = both.1 }
+
+module _ (merged : MergedPackagesAreKept) (key : Installed → OwnerKey) (m : Map) (ps qs : List Installed) (book : Book) (groups : List SiteGroup) (files : Files) (n : ℕ) (a : Installed)
     (db : IsDatabase m ps) (kept : IsKept m ps) (owners : OwnersAre key m ps (owner_in book.owned)) (are : AreFilesOf files a) (mine : key a ≡ files.owner) (none_die : dying_at groups n ≡ [])
     (after : IsAfter ps (λ p. false) (a ∷ []) qs) where
-  pub by_groups : (xs : List Group) (history : List ℕ) (c : Map) → AreOf (IsLetIn m book groups files n) xs → (xs ≡ [] → history ≡ []) → IsRecovered c (applied m xs) → RecoversKept ps qs history c
-  by_groups [] history c of none is =
-      let both = keep [] m ps ps db kept refl in
-      record { tree = applied m []; recovers = is; packages = ps; database = both.0; kept = both.1; either = inr (refl, none refl) }
-  by_groups (x ∷ xs) history c of none is =
+  -- where the group came in, once or more often
+  pub some_groups : (x : Group) (xs : List Group) (c : Map) → AreOf (IsLetIn m book groups files n) (x ∷ xs) → IsRecovered c (applied m (x ∷ xs)) → RecoversTo qs c
+  some_groups x xs c of is =
       let first = of x (inl refl) in
       let both = merged key m ps qs book groups files n x a db kept owners are mine none_die first after in
       record {
         tree = applied m (x ∷ []);
         recovers = recovered_as c (applied m (x ∷ xs)) (applied m (x ∷ [])) is
             (λ q. applied_once m (placing n (all_in files)) x xs q (staged (all_in files)) first.0 (λ z has. (of z (inr has)).0));
-        packages = qs;
         database = both.0;
         kept = both.1;
-        either = inl refl;
       }
+
+  by_groups : GroupsKeepDatabase → (xs : List Group) (history : List ℕ) (c : Map) → AreOf (IsLetIn m book groups files n) xs → (xs ≡ [] → history ≡ []) → IsRecovered c (applied m xs) → RecoversKept ps qs history c
+  by_groups keep [] history c of none is = inr (no_groups keep m ps c db kept is, none refl)
+  by_groups keep (x ∷ xs) history c of none is = inl (some_groups x xs c of is)
+
+-- a history is empty where no group was applied
+pub none_told : (Of : Group → Type 0) (m : Map) (history : List ℕ) (c : Map) (r : Recovers Of m history c) → r.groups ≡ [] → history ≡ []
+none_told Of m history c r none = none_there history (λ k has. subst (λ (l : List Group). Has (map number l) k) none (r.has k has))
 
 pub runs_leave_kept : MergedPackagesAreKept → GroupsKeepDatabase → RunsLeaveKeptTrees
 runs_leave_kept merged keep key m ps qs book groups files n a history c db kept owners are mine none_die after r =
-    by_groups merged keep key m ps qs book groups files n a db kept owners are mine none_die after r.groups history c r.of
-    (λ none. none_there history (λ k has. subst (λ (l : List Group). Has (map number l) k) none (r.has k has))) r.is
+    by_groups merged key m ps qs book groups files n a db kept owners are mine none_die after keep r.groups history c r.of
+    (none_told (IsLetIn m book groups files n) m history c r) r.is

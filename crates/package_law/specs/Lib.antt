@@ -1,1 +1,3 @@
+pub mod Merges
 pub mod Packages
+pub mod Records

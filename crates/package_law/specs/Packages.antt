@@ -52,15 +52,17 @@ MergedPackagesAreKept =
     IsAfter ps (λ p. false) (a ∷ []) qs →
     IsDatabase (applied m (x ∷ [])) qs × IsKept (applied m (x ∷ [])) qs
 
--- a map recovers to a kept tree with the packages from after, or, where the history has no group,
--- to one with those from before
-pub record RecoversKept (before after : List Installed) (history : List ℕ) (c : Map) : Type 0 where
+-- a map recovers to a kept tree that has these packages
+pub record RecoversTo (ps : List Installed) (c : Map) : Type 0 where
   pub tree : Map
   pub recovers : IsRecovered c tree
-  pub packages : List Installed
-  pub database : IsDatabase tree packages
-  pub kept : IsKept tree packages
-  pub either : (packages ≡ after) ⊎ ((packages ≡ before) × (history ≡ []))
+  pub database : IsDatabase tree ps
+  pub kept : IsKept tree ps
+
+-- a map recovers to a kept tree with the packages from after, or, where the history has no group,
+-- to one with those from before
+abbrev pub RecoversKept : List Installed → List Installed → List ℕ → Map → Type 0
+RecoversKept before after history c = RecoversTo after c ⊎ (RecoversTo before c × (history ≡ []))
 
 -- From the same tree: whatever a crash leaves of the run that merges the package recovers to a kept
 -- tree with the packages from before or those and the package, with it where the history says so.

@@ -1,4 +1,6 @@
+ghost use Rattle.package_law.specs.Merges.{MergesLeaveKeptTrees};
 ghost use Rattle.package_law.specs.Packages.{MergedPackagesAreKept, RunsLeaveKeptTrees};
+ghost use Rattle.package_law.specs.Records.{RecordsAreReadBack};
 
 /// A law: a package's group that was granted leaves a kept tree that has the package, too.
 pub fn merged_packages_are_kept()
@@ -14,5 +16,23 @@ pub fn runs_leave_kept_trees()
     ensures { RunsLeaveKeptTrees }
 {
     merged_packages_are_kept();
+    database_law::groups_keep_the_database();
+}
+
+/// A law: what is written of a package when it is merged says that package.
+pub fn records_are_read_back()
+    ensures { RecordsAreReadBack }
+{
+    contents_text::contents_are_read_back();
+}
+
+/// A law, the three above together: whatever a crash leaves of the merge of a package without flags
+/// and needs recovers to a kept tree, with the package or without it.
+pub fn merges_leave_kept_trees()
+    ensures { MergesLeaveKeptTrees }
+{
+    merged_packages_are_kept();
+    records_are_read_back();
+    claim_law::granted_claims_are_good();
     database_law::groups_keep_the_database();
 }

@@ -2,8 +2,7 @@ ghost use Rattle.std.specs.Prelude.{◌≡◌, ◌∷◌, [], true, IfErr, IsErr
 ghost use Rattle.file_tree.specs.Disk.{CountsFault};
 ghost use Rattle.merge_core.specs.Trail.{IsAtRest};
 ghost use Rattle.group_run.specs.Lines.{AreLines, Wrote};
-ghost use Rattle.group_run.specs.Went.{Went};
-ghost use Rattle.package_run.specs.Packages.{BringsIn, GROUP, StopsMerge, only_line};
+ghost use Rattle.package_run.specs.Packages.{GROUP, StopsMerge, WentFor, only_line};
 
 use crate::task::{Addition, task_of};
 use dep_atom::Facts;
@@ -22,9 +21,8 @@ pub fn merge_package<T: Tree, S: Sink>(
 ) -> Merged<T, S>
     requires rest { IsTrue T.tells → IsAtRest (T.story tree).now.holds (T.story tree).now }
     requires unclaimed { addition.book.claims ≡ [] }
-    ensures went { IsTrue T.tells → Went (BringsIn (T.story tree).now.holds addition.book
-        facts.now addition.owner addition.image.items)
-        (T.story tree) (T.story result.tree) result.history.items result.end }
+    ensures went { IsTrue T.tells → WentFor addition.book facts.now addition.owner
+        addition.image.items (T.story tree) (T.story result.tree) result.history.items result.end }
     ensures told { OnOk result.end ((result.history.items ≡ GROUP ∷ []) ×
         (result.acknowledged.items ≡ GROUP ∷ [])) }
     ensures written { IsTrue S.tells → Wrote (AreLines (only_line addition.line.items)

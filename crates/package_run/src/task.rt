@@ -26,11 +26,7 @@ pub struct Addition {
 }
 
 /// All that the merge of a package takes, made before the first change of the tree.
-pub(crate) fn task_of(
-    alloc: Global,
-    facts: &Facts,
-    addition: Addition,
-) -> Result<Task, AllocError>
+pub(crate) fn task_of(alloc: Global, facts: &Facts, addition: Addition) -> Result<Task, AllocError>
     ensures group { IfOk result (λ t. t.group ≡ GROUP) }
     ensures files { IfOk result (λ t.
         AreMadeOf facts.now addition.owner addition.image.items t.files) }

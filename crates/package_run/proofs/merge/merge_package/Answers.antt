@@ -1,31 +1,28 @@
-use Rattle.std.proofs.Common.{ℕ, List, refl, subst}
+use Rattle.std.proofs.Common.{ℕ, List, inl, inr, refl, subst}
 use Rattle.std.specs.Prelude.{IfErr}
 use Rattle.journal.specs.Group.{Group}
 use Rattle.owner_book.specs.Book.{Book}
 use Rattle.group_run.specs.Causes.{HasCause}
 use Rattle.group_run.specs.Granted.{IsLetIn}
 use Rattle.group_run.specs.Lines.{AreLines, Wrote}
+use Rattle.group_run.specs.Went.{Went}
 use Rattle.group_run.proofs.Caused.{err_weaker}
 use Rattle.group_run.proofs.Cleared.{went_nowhere}
-use Rattle.package_run.specs.Packages.{BringsIn, GROUP, StopsMerge}
-use Rattle.package_run.proofs.Merges.{merge_stopped, went_weaker}
+use Rattle.package_run.specs.Packages.{GROUP, StopsMerge}
+use Rattle.package_run.proofs.Merges.{merge_stopped}
 use Rattle.package_run.proofs.merge.merge_package.Goals as goal
 
 pub returns-in-Ok-clause-went : goal.returns-in-Ok-clause-went
 returns-in-Ok-clause-went g c t =
-    let m = (g.T.Tree.story c.args.tree).now.holds in
+    let old = g.T.Tree.story c.args.tree in
+    let new = g.T.Tree.story c.merge_group.result.tree in
     let task = c.in-Ok.task in
     let e = c.in-Ok.ensures in
-    let a = c.args.addition in
     let groups = task.groups.items in
-    went_weaker (IsLetIn m task.book groups task.files task.group) (BringsIn m a.book c.args.facts.now a.owner a.image.items) (g.T.Tree.story c.args.tree) (g.T.Tree.story c.merge_group.result.tree) c.merge_group.result.history.items c.merge_group.result.end
-    (λ (x : Group) l. record {
-      files = task.files;
-      made = e.files;
-      groups = groups;
-      none_go = e.none_go;
-      let_in = subst (λ (n : ℕ). IsLetIn m a.book groups task.files n x) e.group (subst (λ (b : Book). IsLetIn m b groups task.files task.group x) e.book l);
-    }) (c.merge_group.ensures.went t)
+    let history = c.merge_group.result.history.items in
+    let end = c.merge_group.result.end in
+    let one = subst (λ (b : Book). Went (IsLetIn old.now.holds b groups task.files task.group) old new history end) e.book (c.merge_group.ensures.went t) in
+    inr (task.files, groups, record { made = e.files; none_go = e.none_go }, subst (λ (n : ℕ). Went (IsLetIn old.now.holds c.args.addition.book groups task.files n) old new history end) e.group one)
 
 pub returns-in-Ok-clause-written : goal.returns-in-Ok-clause-written
 returns-in-Ok-clause-written g c t =
@@ -45,10 +42,9 @@ returns-in-Ok-clause-cause g c =
     let one = subst (λ (b : Book). IfErr end (HasCause tells m b groups task.files task.group machine)) e.book c.merge_group.ensures.cause in
     let two = subst (λ (n : ℕ). IfErr end (HasCause tells m a.book groups task.files n machine)) e.group one in
     err_weaker (HasCause tells m a.book groups task.files GROUP machine) (StopsMerge tells m a.book c.args.facts.now a.owner a.image.items)
-    (λ s h. merge_stopped tells m a.book c.args.facts.now a.owner a.image.items task.files groups e.files e.none_go machine s h) end two
+    (λ s h. merge_stopped tells m a.book c.args.facts.now a.owner a.image.items task.files groups (record { made = e.files; none_go = e.none_go }) machine s h) end two
 
 pub returns-in-Err-clause-went : goal.returns-in-Err-clause-went
 returns-in-Err-clause-went g c t =
-    let a = c.args.addition in
     let old = g.T.Tree.story c.args.tree in
-    went_nowhere (BringsIn old.now.holds a.book c.args.facts.now a.owner a.image.items) old old c.new.result.items _ (c.requires.rest t) refl c.new.ensures.items refl
+    inl (went_nowhere (λ (x : Group). ⊥) old old c.new.result.items _ (c.requires.rest t) refl c.new.ensures.items refl)
