@@ -45,7 +45,7 @@ unfolding record_path
 mark_path a b e = ap (λ (t : List ℕ). codes "var/db/pkg/" ++ (t ++ (47 ∷ name_of contents))) e
 
 -- a file with a text is there
-text_there : (x : Option Thing) → IsSome (text_of x) → IsSome x
+pub text_there : (x : Option Thing) → IsSome (text_of x) → IsSome x
 text_there None some = absurd (none_is_not_some (text_of None) refl some)
 text_there (Some x) some = refl
 

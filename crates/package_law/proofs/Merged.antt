@@ -1,5 +1,5 @@
 -- A package's group that was granted leaves a kept tree that has the package, too.
-use Rattle.std.proofs.Common.{◌≡◌, ◌∙◌, ◌++◌, ℕ, Bool, true, false, List, [], ◌∷◌, Option, Some, None, inl, inr, refl, ap, map, subst, sym}
+use Rattle.std.proofs.Common.{◌≡◌, ◌∙◌, ◌++◌, ℕ, Bool, true, false, List, [], ◌∷◌, Option, Some, inl, inr, refl, ap, map, subst, sym}
 use Rattle.std.specs.Prelude.{IsSome, unwrap_or}
 use Rattle.basics.specs.Members.{AreDistinct, Has}
 use Rattle.basics.proofs.Membership.{has-append_cases, has-append_left, has-map, has-map_back}
@@ -24,9 +24,10 @@ use Rattle.database_law.specs.Database.{Holds, IsDatabase, IsKept, IsOf, folder}
 use Rattle.database_law.specs.Fields.{Field, Folder, Reads, Says, contents, name_of, text_of}
 use Rattle.database_law.specs.Packages.{Installed, id_of, paths}
 use Rattle.database_law.specs.Step.{Change, GroupKeepsDatabase, IsAfter, Puts, Removes, put}
-use Rattle.database_law.proofs.Places.{counted_below, counted_of, none_is_not_some}
+use Rattle.database_law.proofs.Places.{counted_below, counted_of}
 use Rattle.commit_law.specs.Claims.{MayCome}
 use Rattle.claim_law.specs.Granted.{GrantedClaimsAreGood, IsTaken}
+use Rattle.claim_law.proofs.Granted.{text_there}
 use Rattle.claim_law.specs.Owners.{IsWishOf, OwnersAre, Tells, Wishes}
 use Rattle.group_run.specs.Granted.{MayMerge, wishes_for, wishes_in}
 use Rattle.group_run.specs.Working.{all_in, placing}
@@ -41,10 +42,6 @@ says_same f h p same says = record {
   there = λ k needed. subst (λ (x : Option Thing). IsSome (text_of x)) (sym (same k)) (says.there k needed);
   reads = λ k. subst (λ (x : Option Thing). Reads k (unwrap_or (text_of x) []) p) (sym (same k)) (says.reads k);
 }
-
-there_if_text : (x : Option Thing) → IsSome (text_of x) → IsSome x
-there_if_text None some = absurd (none_is_not_some (text_of None) refl some)
-there_if_text (Some x) some = refl
 
 -- what holds of a holds of the members of the list of a
 of_one : (P : Installed → Type 0) (a b : Installed) → P a → Has (a ∷ []) b → P b
@@ -148,7 +145,7 @@ module _ (key : Installed → OwnerKey) (m : Map) (ps : List Installed) (book : 
   mark_wish =
       let q = record_path (id_of a) (name_of contents) in
       let below = counted_below q (counted_of (id_of a) (name_of contents) are.id) in
-      let some = there_if_text (put g q) (says_here.there contents refl) in
+      let some = text_there (put g q) (says_here.there contents refl) in
       let k = put_by n (image ++ own) q some in
       elim (has-append_cases image own k.0 k.1) [
         | inl i ↦ absurd (image_outside q below (subst (λ (p : List ℕ). Has (map images.path_of image) p) k.2 (has-map images.path_of image k.0 i)))

@@ -1,24 +1,10 @@
-ghost use Rattle.std.specs.Prelude.{◌≡◌, IfErr, IfOk, OnOk, min, not, position, take};
-ghost use Rattle.std.specs.Str.{IsUtf8};
+ghost use Rattle.std.specs.Prelude.{◌≡◌, min, not, position, take};
 ghost use Rattle.basics.specs.Blanks.{is_blank};
-ghost use Rattle.config_text.specs.Faults.{NotUtf8At};
-ghost use Rattle.config_text.specs.Lines.{line_behind, line_number, most_lines};
+ghost use Rattle.config_text.specs.Lines.{line_behind, most_lines};
 ghost use Rattle.record_read.specs.Faults.{line_at, value_start};
 
 use basics::{NEWLINE, is_blank};
-use std::str::from_utf8;
-
-/// The bytes as a text, or the line of the first byte that isn't UTF-8.
-pub(crate) fn text_of(bytes: &[u8]) -> Result<&str, u32>
-    ensures text { IfOk result (λ text. text.now ≡ bytes.now) }
-    ensures utf8 { OnOk result (IsUtf8 bytes.now) }
-    ensures line { IfErr result (NotUtf8At bytes.now) }
-{
-    match from_utf8(bytes) {
-        Ok(text) => Ok(text),
-        Err(fault) => Err(line_at(bytes, fault.valid_up_to())),
-    }
-}
+use config_text::line_number;
 
 /// The line of the byte at this place, counted from 1 up to `u32::MAX`.
 pub(crate) fn line_at(bytes: &[u8], at: usize) -> u32
@@ -43,15 +29,6 @@ fn line_behind(front: &[u8]) -> u32
     ensures { result ≡ line_behind front.now }
 {
     line_number(front.iter().filter(|b| **b == NEWLINE).count())
-}
-
-/// The number of the line behind so many newlines.
-fn line_number(newlines: usize) -> u32
-    ensures { result ≡ line_number newlines }
-{
-    u32::try_from(newlines)
-        .unwrap_or(u32::MAX)
-        .saturating_add(1)
 }
 
 /// The number of a line, if it isn't past the greatest one.

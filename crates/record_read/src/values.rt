@@ -20,8 +20,9 @@ ghost use Rattle.record_read.specs.declared.fault.RecordFault.TheVariants.{Memor
 
 use crate::fault::RecordFault;
 use crate::file::RecordFile;
-use crate::lines::{line_at, line_from, text_of, value_start};
+use crate::lines::{line_at, line_from, value_start};
 use crate::texts::FileText;
+use config_text::text_of;
 use contents_text::{ContentsFault, Owned, read_contents};
 use dep_tree::{DepTree, TreeTextFault};
 use pkg_state::Class;
