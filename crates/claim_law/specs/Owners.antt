@@ -34,7 +34,8 @@ pub record Wishes (key : Installed → OwnerKey) (c : Change) (ws : List Wish) :
   pub recorded : (a : Installed) (q : List ℕ) → Has c.added a → Has (paths a) q →
       (w : Wish) × Has ws w × (w.path ≡ q) × (w.owner ≡ key a)
   pub marked : (a : Installed) → Has c.added a →
-      (w : Wish) × Has ws w × (w.path ≡ record_path (id_of a) (name_of contents)) × (w.owner ≡ key a)
+      (w : Wish) × Has ws w × (w.path ≡ record_path (id_of a) (name_of contents))
+      × (w.owner ≡ key a)
   pub put : (w : Wish) → Has ws w → IsSome (put c.does w.path)
   pub keys : AreDistinct (map key c.added)
 

@@ -1,7 +1,9 @@
-ghost use Rattle.std.specs.Prelude.{◌≡◌, ◌∷◌, [], true, IfErr, IsErrOf, IsTrue, OnOk};
+ghost use Rattle.std.specs.Prelude.{◌≡◌, ◌∷◌, [], true, IfErr, IsErrOf, IsTrue};
+ghost use Rattle.std.specs.Prelude.{MatchOption, OnOk};
 ghost use Rattle.file_tree.specs.Disk.{CountsFault};
 ghost use Rattle.merge_core.specs.Trail.{IsAtRest};
 ghost use Rattle.group_run.specs.Lines.{AreLines, Wrote};
+ghost use Rattle.group_run.specs.Went.{HasRun};
 ghost use Rattle.package_run.specs.Packages.{GROUP, StopsMerge, WentFor, only_line};
 
 use crate::task::{Addition, task_of};
@@ -23,6 +25,8 @@ pub fn merge_package<T: Tree, S: Sink>(
     requires unclaimed { addition.book.claims ≡ [] }
     ensures went { IsTrue T.tells → WentFor addition.book facts.now addition.owner
         addition.image.items (T.story tree) (T.story result.tree) result.history.items result.end }
+    ensures machine { MatchOption result.machine (result.history.items ≡ [])
+        (HasRun GROUP 2 result.history.items) }
     ensures told { OnOk result.end ((result.history.items ≡ GROUP ∷ []) ×
         (result.acknowledged.items ≡ GROUP ∷ [])) }
     ensures written { IsTrue S.tells → Wrote (AreLines (only_line addition.line.items)

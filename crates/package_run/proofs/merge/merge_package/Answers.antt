@@ -1,11 +1,11 @@
-use Rattle.std.proofs.Common.{ℕ, List, inl, inr, refl, subst}
-use Rattle.std.specs.Prelude.{IfErr}
+use Rattle.std.proofs.Common.{◌≡◌, ℕ, List, [], inl, inr, length, refl, subst}
+use Rattle.std.specs.Prelude.{IfErr, MatchOption}
 use Rattle.journal.specs.Group.{Group}
 use Rattle.owner_book.specs.Book.{Book}
 use Rattle.group_run.specs.Causes.{HasCause}
 use Rattle.group_run.specs.Granted.{IsLetIn}
 use Rattle.group_run.specs.Lines.{AreLines, Wrote}
-use Rattle.group_run.specs.Went.{Went}
+use Rattle.group_run.specs.Went.{HasRun, Went}
 use Rattle.group_run.proofs.Caused.{err_weaker}
 use Rattle.group_run.proofs.Cleared.{went_nowhere}
 use Rattle.package_run.specs.Packages.{GROUP, StopsMerge}
@@ -23,6 +23,13 @@ returns-in-Ok-clause-went g c t =
     let end = c.merge_group.result.end in
     let one = subst (λ (b : Book). Went (IsLetIn old.now.holds b groups task.files task.group) old new history end) e.book (c.merge_group.ensures.went t) in
     inr (task.files, groups, record { made = e.files; none_go = e.none_go }, subst (λ (n : ℕ). Went (IsLetIn old.now.holds c.args.addition.book groups task.files n) old new history end) e.group one)
+
+pub returns-in-Ok-clause-machine : goal.returns-in-Ok-clause-machine
+returns-in-Ok-clause-machine g c =
+    let e = c.in-Ok.ensures in
+    let r = c.merge_group.result in
+    let one = subst (λ (n : ℕ). MatchOption r.machine (r.history.items ≡ []) (HasRun n (length c.in-Ok.task.groups.items) r.history.items)) e.group c.merge_group.ensures.machine in
+    subst (λ (n : ℕ). MatchOption r.machine (r.history.items ≡ []) (HasRun GROUP n r.history.items)) e.count one
 
 pub returns-in-Ok-clause-written : goal.returns-in-Ok-clause-written
 returns-in-Ok-clause-written g c t =
