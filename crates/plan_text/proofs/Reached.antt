@@ -31,7 +31,7 @@ from_one : (words : Texts) (i : ℕ) (d : Bor (List ℕ)) → i < length words �
 from_one words i d lt = ap texts (drop-cons words i d lt)
 
 pub stops_here : (words : Texts) (i : ℕ) (d : Bor (List ℕ)) (s : StandingValue) (gs : List GroupValue) (current : Option GroupValue) → i < length words → IsReadTo (texts words) (texts (drop i words)) i s gs current
-    → Stops s (get_or words i d).now → (f : PlanTextFault) → TellsLine i f → StopsAtFault (texts words) f
+    → Stops s (get_or words i d).now → (f : PlanTextFault) → TellsLine s.groups i f → StopsAtFault (texts words) f
 stops_here words i d s gs current lt to stops f tells = (
   (get_or words i d).now,
   texts (drop (suc i) words),
@@ -112,9 +112,10 @@ only_if text gs (Err f) same err is p form e = err
 
 -- which line of the text is faulty
 
-pub stopped_at : (text : List ℕ) (lines : List (List ℕ)) (tail : List ℕ) (f : PlanTextFault) → slice_split is_newline text ≡ lines ++ (tail ∷ []) → StopsAtFault lines f → (n : ℕ) × IsFaulty text n × TellsLine n f
+pub stopped_at : (text : List ℕ) (lines : List (List ℕ)) (tail : List ℕ) (f : PlanTextFault) → slice_split is_newline text ≡ lines ++ (tail ∷ []) → StopsAtFault lines f → (n groups : ℕ) × IsFaulty text n groups × TellsLine groups n f
 stopped_at text lines tail f cut (here, rest, n, s, stop, tells) = (
   n,
+  s.groups,
   record {
     ls = stop.ls;
     front = stop.front;
@@ -123,6 +124,7 @@ stopped_at text lines tail f cut (here, rest, n, s, stop, tells) = (
     cut = cut ∙ ap (λ l. l ++ (tail ∷ [])) stop.whole ∙ append_assoc stop.front (here ∷ rest) (tail ∷ []);
     number = stop.number;
     read = stop.read;
+    begun = ap (λ (z : StandingValue). z.groups) stop.stands;
     inside = λ some. subst (λ z. Stops z here) (sym stop.stands) stop.stops;
     last = λ none bytes. absurd (some_rest rest none);
   },
@@ -134,9 +136,10 @@ stopped_at text lines tail f cut (here, rest, n, s, stop, tells) = (
     some_rest (t ∷ ts) e = omega (arith, ap length e)
 
 pub stopped_last : (text : List ℕ) (lines : List (List ℕ)) (tail : List ℕ) (f : PlanTextFault) (s : StandingValue) (gs : List GroupValue) (current : Option GroupValue) → slice_split is_newline text ≡ lines ++ (tail ∷ []) → IsReadTo lines [] (length lines) s gs current
-    → (tail ≡ [] → may_end s.place ≡ false) → TellsLine (length lines) f → (n : ℕ) × IsFaulty text n × TellsLine n f
+    → (tail ≡ [] → may_end s.place ≡ false) → TellsLine s.groups (length lines) f → (n groups : ℕ) × IsFaulty text n groups × TellsLine groups n f
 stopped_last text lines tail f s gs current cut to unfinished tells = (
   length lines,
+  s.groups,
   record {
     ls = to.ls;
     front = to.front;
@@ -145,14 +148,15 @@ stopped_last text lines tail f s gs current cut to unfinished tells = (
     cut = cut ∙ ap (λ l. l ++ (tail ∷ [])) (to.whole ∙ append-nil to.front);
     number = to.number;
     read = to.read;
+    begun = ap (λ (z : StandingValue). z.groups) to.holds.stands;
     inside = λ some. absurd (some refl);
     last = λ none bytes. ap (λ (z : StandingValue). may_end z.place) to.holds.stands ∙ unfinished bytes;
   },
   tells,
 )
 
-pub tells_all : (ws : Texts) (f : PlanTextFault) → TellsLine (length ws) f → TellsLine (length (texts ws)) f
-tells_all ws f tells = subst (λ n. TellsLine n f) (same ws) tells
+pub tells_all : (ws : Texts) (groups begun : ℕ) (f : PlanTextFault) → begun ≡ groups → TellsLine groups (length ws) f → TellsLine begun (length (texts ws)) f
+tells_all ws groups begun f is tells = subst (λ g. TellsLine g (length (texts ws)) f) (sym is) (subst (λ n. TellsLine groups n f) (same ws) tells)
   where
     same : (ws : Texts) → length ws ≡ length (texts ws)
     same [] = refl

@@ -28,4 +28,4 @@ pub record AreAllRead (texts : List (List ℕ)) (r : Read) : Type 0 where
 abbrev pub StopsAtFault : List (List ℕ) → PlanTextFault → Type 0
 StopsAtFault texts fault =
     (here : List ℕ) × (rest : List (List ℕ)) × (n : ℕ) × (s : StandingValue)
-    × AreStopped texts here rest n s × TellsLine n fault
+    × AreStopped texts here rest n s × TellsLine s.groups n fault

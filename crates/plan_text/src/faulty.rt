@@ -11,7 +11,7 @@ use std::alloc::Global;
 /// The fault of a line behind which no plan goes on: so many groups have begun before it, and so
 /// many lines stand before it.
 pub(crate) fn fault_at(alloc: Global, groups: u32, before: usize, text: &str) -> PlanTextFault
-    ensures { TellsLine before result }
+    ensures { TellsLine groups before result }
 {
     let line = line_number(before);
     let Ok(words) = words(alloc, text) else {
@@ -28,7 +28,7 @@ pub(crate) fn fault_at(alloc: Global, groups: u32, before: usize, text: &str) ->
 }
 
 fn group_fault(groups: u32, line: u32, said: &[&str]) -> PlanTextFault
-    ensures { Names line result }
+    ensures { Names groups line result }
 {
     let Some((word, _)) = first_word(said) else {
         return PlanTextFault::Line { line };
@@ -46,7 +46,7 @@ fn group_fault(groups: u32, line: u32, said: &[&str]) -> PlanTextFault
 }
 
 fn after_fault(alloc: Global, groups: u32, line: u32, said: &[&str]) -> PlanTextFault
-    ensures { Names line result }
+    ensures { Names groups line result }
 {
     if said.is_empty() {
         return PlanTextFault::Line { line };

@@ -14,10 +14,10 @@
 //! **Proved**: a text is read as a plan exactly where it is the text of that plan, and the plan is
 //! in form; what is printed is the plan's text, in form or not; no two plans in form have one text.
 //! But for want of memory a text is refused at its first faulty line (`IsFaulty` of
-//! `specs/Faults.antt`).
+//! `specs/Faults.antt`), and for a group too many only where 4,096 have begun.
 //!
-//! **Only tested**: which of the faults of that line is told; that with ample memory the text of a
-//! plan is read.
+//! **Only tested**: which of the other faults of that line is told; that with ample memory the text
+//! of a plan is read.
 //!
 //! A text of n bytes is read in a time that is linear in n.
 //!

@@ -34,8 +34,8 @@ impl Plan {
             (text.now ≡ plan_text (plan_value p))) }
         ensures only { (p : List GroupValue) → IsPlan p → text.now ≡ plan_text p →
             MatchResult result (λ r. plan_value r ≡ p) (λ e. e ≡ Memory) }
-        ensures fault { IfErr result (λ e. e ≢ Memory → (n : ℕ) × IsFaulty text.now n ×
-            TellsLine n e) }
+        ensures fault { IfErr result (λ e. e ≢ Memory → (n groups : ℕ) ×
+            IsFaulty text.now n groups × TellsLine groups n e) }
     {
         let pieces = pieces(alloc, text)?;
         let Some((lines, tail)) = split_tail(&pieces) else {

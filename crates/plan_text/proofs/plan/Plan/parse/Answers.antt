@@ -46,10 +46,10 @@ pub returns-then-not-is_empty-clause-fault : goal.returns-then-not-is_empty-clau
 returns-then-not-is_empty-clause-fault c = λ known.
     (let r = c.in-Ok.ensures.found in
     stopped_last c.args.text.now (texts c.in-Some.lines.now) c.in-Some.tail.now c.fault_at.result r.stands (whole_groups c.in-Ok.read.draft) (current_group c.in-Ok.read.draft) (sym c.in_ok-pieces.ensures ∙ ap texts (sym c.deref.ensures.value) ∙ c.in-Some.ensures) r.to
-    (λ none. absurd (some_bytes c.in-Some.tail.now c.is_empty.result c.is_empty.ensures c.if-not-is_empty.true none)) (tells_all c.in-Some.lines.now c.fault_at.result c.fault_at.ensures))
+    (λ none. absurd (some_bytes c.in-Some.tail.now c.is_empty.result c.is_empty.ensures c.if-not-is_empty.true none)) (tells_all c.in-Some.lines.now c.in-Ok.read.groups r.stands.groups c.fault_at.result r.groups c.fault_at.ensures))
 
 pub returns-then-not-may_end-clause-fault : goal.returns-then-not-may_end-clause-fault
 returns-then-not-may_end-clause-fault c = λ known.
     (let r = c.in-Ok.ensures.found in
     stopped_last c.args.text.now (texts c.in-Some.lines.now) c.in-Some.tail.now c.fault_at-then-not-may_end.result r.stands (whole_groups c.in-Ok.read.draft) (current_group c.in-Ok.read.draft) (sym c.in_ok-pieces.ensures ∙ ap texts (sym c.deref.ensures.value) ∙ c.in-Some.ensures) r.to
-    (λ none. ap may_end r.place ∙ sym c.may_end.ensures ∙ c.if-not-may_end.true) (tells_all c.in-Some.lines.now c.fault_at-then-not-may_end.result c.fault_at-then-not-may_end.ensures))
+    (λ none. ap may_end r.place ∙ sym c.may_end.ensures ∙ c.if-not-may_end.true) (tells_all c.in-Some.lines.now c.in-Ok.read.groups r.stands.groups c.fault_at-then-not-may_end.result r.groups c.fault_at-then-not-may_end.ensures))
