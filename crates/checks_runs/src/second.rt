@@ -1,5 +1,6 @@
 //! Crash images of a merge, judged by a plain second reading and not by `recover`.
 
+use crate::stops::{LAST, each_before_or_after};
 use file_tree::Object;
 use samples::{as_read, listing, run_on, sample_image, sample_tree, with_touched};
 use std::alloc::{AllocError, Global};
@@ -105,12 +106,9 @@ fn images_mean_the_tree_before_or_after(rt: HostRuntime) -> Result<(), Fail> {
     let after = meaning(alloc, &whole.tree)?;
     assert_eq!(rt; after.len(), listing(alloc, &whole.tree)?.len());
     let mut came = String::new(alloc);
-    for call in 1..=33 {
+    for call in 1..=LAST {
         came.push_str(stopped(alloc, call, before.as_str(), after.as_str())?.as_str())?;
     }
-    assert_eq!(rt;
-        came.as_str(),
-        "bbbbbbbbbbbbbbbbbbbbbbbbbbbbbbbbbbbbbbbbbbbbbbbbbbbbbbbbbbbbabbaaaaaaaaaaaaaaaaaaaaaaaaaaaaaaaaaaaa"
-    );
+    assert_eq!(rt; came, each_before_or_after(alloc)?);
     Ok(())
 }

@@ -16,6 +16,30 @@ const ONE: &str = "- usr/bin/p";
 /// An image of an executable file, a link and an empty file.
 const SEVERAL: &str = "x usr/bin/p abc\nl usr/lib/p.so p.so.1\n- etc/p";
 
+/// The device's call that places the gate of the one file's merge: behind 6 of recovery, 3 looks at
+/// the candidates and the database, the 4 stages, the record, the token and their sync, and 21 looks
+/// of the claim, one at each of the 4 paths and at each part above it.
+pub(crate) const GATE: u64 = 38;
+
+/// The last call of that merge: behind the gate come its sync, the 4 files with a sync, the gate's
+/// removal with a sync, and the clearing of the journal, with a list, 6 removals and a sync.
+pub(crate) const LAST: u64 = 54;
+
+/// A letter for each of three images that a stop at each call leaves: before the gate's sync the
+/// tree before, at the sync that or the one after, by whether the gate is there, and then the one
+/// after.
+pub(crate) fn each_before_or_after(alloc: Global) -> Result<String, AllocError> {
+    let mut letters = String::new(alloc);
+    for call in 1..=LAST {
+        letters.push_str(match call {
+            call if call <= GATE => "bbb",
+            call if call == GATE + 1 => "abb",
+            _ => "aaa",
+        })?;
+    }
+    Ok(letters)
+}
+
 /// A run that merges `c/p-1` with this image into a tree, whose device stops at a call of this
 /// number.
 fn stopped_with(
@@ -69,7 +93,7 @@ fn a_run_that_is_stopped_at_any_call_ends_well_when_it_is_run_again(
     for image in [ONE, SEVERAL] {
         let whole = ending_with(alloc, image, sample_tree(alloc)?)?;
         let mut ended = false;
-        for call in 1..60 {
+        for call in 1..100 {
             ended = ends_at(alloc, image, call, whole.as_str())?;
             if ended {
                 break;
@@ -93,7 +117,7 @@ const JOURNAL: [&str; 5] = [
 fn files_of_the_journal_that_come_back_are_harmless(rt: HostRuntime) -> Result<(), Fail> {
     let alloc = rt.alloc();
     let whole = ending(alloc, sample_tree(alloc)?)?;
-    for call in 1..=33 {
+    for call in 1..=LAST {
         let run = stopped(alloc, sample_tree(alloc)?, call)?;
         let odd = with_odd(alloc, &run.tree, JOURNAL.as_slice())?;
         assert_eq!(rt; ending(alloc, odd)?, whole, "at call {call}");
@@ -167,18 +191,14 @@ fn images_of_each_call_recover_to_before_or_after(rt: HostRuntime) -> Result<(),
     let alloc = rt.alloc();
     let before = recovered(alloc, sample_tree(alloc)?)?;
     let whole = run_on(alloc, "=c/p-1", sample_tree(alloc)?, sample_image(alloc)?)?;
+    assert_eq!(rt; whole.tree.calls(), LAST);
     let after = recovered(alloc, whole.tree)?;
     let mut came = String::new(alloc);
-    for call in 1..=33 {
+    for call in 1..=LAST {
         let run = stopped(alloc, sample_tree(alloc)?, call)?;
         came.push_str(&images(alloc, &run.tree, &before, &after)?)?;
     }
-    // Recovery is calls 1 to 6, the looks are 7 to 12, the stages, the record, the token and their sync 13 to
-    // 19, and the gate is placed at 20 and synced at 21. What is stopped there has the gate or not.
-    assert_eq!(rt;
-        came.as_str(),
-        "bbbbbbbbbbbbbbbbbbbbbbbbbbbbbbbbbbbbbbbbbbbbbbbbbbbbbbbbbbbbabbaaaaaaaaaaaaaaaaaaaaaaaaaaaaaaaaaaaa"
-    );
+    assert_eq!(rt; came, each_before_or_after(alloc)?);
     Ok(())
 }
 
@@ -196,8 +216,7 @@ fn a_recovery_that_is_stopped_at_any_call_ends_well_when_it_is_run_again(
 ) -> Result<(), Fail> {
     let alloc = rt.alloc();
     let whole = ending(alloc, sample_tree(alloc)?)?;
-    // The gate is placed at call 20, and the journal is cleared by call 33.
-    for first in 19..34 {
+    for first in GATE - 1..=LAST {
         for second in 1..20 {
             assert_eq!(rt;
                 third(alloc, first, second)?,

@@ -284,7 +284,7 @@ fn resting(alloc: Global, words: &str, call: u64) -> Result<usize, AllocError> {
 #[test]
 fn builders_are_at_rest_behind_each_ending(rt: HostRuntime) -> Result<(), Fail> {
     for words in ["=c/p-1", "=c/p-2", "c"] {
-        for call in 1..40 {
+        for call in 1..60 {
             assert_eq!(rt;
                 resting(rt.alloc(), words, call)?,
                 1,

@@ -1,19 +1,13 @@
 -- The answers that come of an image.
-use Rattle.std.proofs.Common.{◌<◌, ℕ, zero, suc, Bool, true, false, List, [], ◌∷◌, length, Global, MatchOption, Option, Vec, refl, arith}
-use Rattle.std.specs.Prelude.{Contains}
+use Rattle.std.proofs.Common.{◌≡◌, ◌<◌, ℕ, zero, suc, Bool, true, false, List, [], ◌∷◌, length, Global, MatchOption, Option, Vec, refl, arith}
+use Rattle.std.specs.Prelude.{Contains, IsTrue}
 use Rattle.file_tree.specs.Disk.{Map}
 use Rattle.file_tree.specs.declared.objects.Entry.{Entry}
 use Rattle.file_tree.specs.declared.objects.Kind.TheVariants.{Plain}
 use Rattle.build_pool.specs.declared.orders.Order.{Order}
-use Rattle.dep_atom.specs.declared.package.PackageId.{PackageId}
-use Rattle.image_fit.specs.Misfits.{Refuses}
-use Rattle.image_fit.specs.declared.fault.Misfit.{Misfit}
-use Rattle.image_fit.specs.declared.fault.Misfit.TheVariants as misfits
 use Rattle.image_fit.specs.declared.limits.TheConstants.{MOST_ENTRIES}
-use Rattle.emerge_run.specs.Images.{HasMany, IsRefusedFor, IsTold}
-use Rattle.emerge_run.specs.Outcomes.{ImageAsks}
+use Rattle.emerge_run.specs.Images.{HasMany, IsTold}
 use Rattle.emerge_run.specs.Answers.{Asks}
-use Rattle.emerge_run.specs.Refusals.{status_of_misfit}
 use Rattle.emerge_run.specs.Words.{EndsAtWords}
 use Rattle.emerge_run.specs.declared.status.Part.TheVariants as part
 use Rattle.emerge_run.specs.declared.status.Status.{Status}
@@ -35,22 +29,17 @@ longer : (n : ℕ) → (image : List Entry) × (n < length image)
 longer zero = (an_entry ∷ [], omega arith)
 longer (suc n) = let rest = longer n in (an_entry ∷ rest.0, omega (arith, rest.1))
 
+-- an image that has too many entries, and is the one told, where the builder tells
+abbrev pub SeesMany : Bool → List Entry → Type 0
+SeesMany tells told = (seen : List Entry) × (MOST_ENTRIES < length seen) × (IsTrue tells → told ≡ seen)
+
 -- of a builder that tells nothing any such image is the one
-untold_refused : (told : List Entry) (m : Map) → (image : List Entry) × (MOST_ENTRIES < length image) → IsRefusedFor misfits.Many false told m
-untold_refused told m (image, many) = (image, (λ t. absurd (cc t)), many)
+untold_many : (told : List Entry) → (image : List Entry) × (MOST_ENTRIES < length image) → SeesMany false told
+untold_many told (image, many) = (image, many, (λ t. absurd (cc t)))
 
--- an image that has too many entries is refused for that, told or not
-pub many_refused : (tells : Bool) (told : List Entry) (m : Map) → HasMany tells told → IsRefusedFor misfits.Many tells told m
-many_refused true told m many = (told, (λ t. refl), many refl)
-many_refused false told m many = untold_refused told m (longer MOST_ENTRIES)
-
--- what judging an image answers
-pub misfit_asked : (tells : Bool) (told image : List Entry) (m : Map) (id : PackageId) (misfit : Misfit) → IsTold tells told image → Refuses m image misfit → ImageAsks tells told m id (status_of_misfit misfit)
-misfit_asked tells told image m id misfits.Many is refuses = (image, is, refuses)
-misfit_asked tells told image m id (misfits.Image b) is refuses = (image, is, refuses)
-misfit_asked tells told image m id (misfits.Collision c) is refuses = (image, is, refuses)
-misfit_asked tells told image m id misfits.Failed is refuses = tt
-misfit_asked tells told image m id misfits.Memory is refuses = tt
+pub many_seen : (tells : Bool) (told : List Entry) → HasMany tells told → SeesMany tells told
+many_seen true told many = (told, many refl, (λ t. refl))
+many_seen false told many = untold_many told (longer MOST_ENTRIES)
 
 -- what reading the words answers
 pub word_refused : (words : List (List ℕ)) (m : Map) (image : Order → List Entry) (s : Status) → EndsAtWords words s → Asks words m image s

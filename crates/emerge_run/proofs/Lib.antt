@@ -1,8 +1,8 @@
 pub mod Asked
 pub mod Built
+pub mod Chosen
 pub mod Endings
-pub mod Free
-pub mod Grouped
 pub mod Lines
+pub mod Merged
 pub mod OnePackage
-pub mod Nested
+pub mod Owners

@@ -2,50 +2,21 @@
 use Rattle.std.proofs.Common.{◌≡◌, ◌⊎◌, ℕ, List, [], ◌∷◌, ◌++◌, inl, inr, refl, ap, sym, ◌∙◌, subst, append_assoc, append-nil, take}
 use Rattle.std.specs.List.{AllByRecursion, flat_map}
 use Rattle.dep_atom.specs.declared.package.PackageId.{PackageId}
-use Rattle.emerge_run.specs.Output.{AreLines, IsBeginning, IsEnd, IsLast, IsLineOf, IsLines, IsOutput, Wrote, unwritten}
+use Rattle.group_run.specs.Lines.{AreLines, IsBeginning, Wrote}
+use Rattle.package_run.specs.Packages.{GROUP, only_line}
+use Rattle.emerge_run.specs.Output.{IsEnd, IsLast, IsLineOf, IsLines, IsOutput, unwritten}
 use Rattle.emerge_run.specs.Texts.{done_line, last_line}
 use Rattle.emerge_run.specs.declared.status.Status.{Status}
 use Rattle.emerge_run.specs.declared.status.Status.TheVariants as status
-
--- the first number of a list
-pub first_pushed : (old new : List ℕ) (n : ℕ) → old ≡ [] → new ≡ old ++ n ∷ [] → new ≡ n ∷ []
-first_pushed old new n none is = is ∙ ap (λ (l : List ℕ). l ++ n ∷ []) none
 
 -- before a group there is no line
 pub no_group : (line : ℕ → List ℕ) → AreLines line [] [] []
 no_group line = record { rest = []; order = refl; cut = []; begun = (0, refl); whole = refl }
 
--- the line of one group, which is acknowledged
-pub line_whole : (line : List ℕ) (history acknowledged : List ℕ) → history ≡ 1 ∷ [] → acknowledged ≡ 1 ∷ [] → AreLines (λ _. line) history acknowledged line
-line_whole line history acknowledged one is = record {
-  rest = [];
-  order = one ∙ ap (λ (a : List ℕ). a ++ []) (sym is);
-  cut = [];
-  begun = (0, refl);
-  whole = sym (ap (λ (a : List ℕ). flat_map (λ _. line) a ++ []) is ∙ (append-nil (line ++ []) ∙ append-nil line));
-}
-
--- some beginning of the line of one group, which isn't acknowledged
-pub line_cut : (line : List ℕ) (history acknowledged : List ℕ) (n : ℕ) → history ≡ 1 ∷ [] → acknowledged ≡ [] → AreLines (λ _. line) history acknowledged (take n line)
-line_cut line history acknowledged n one none = record {
-  rest = 1 ∷ [];
-  order = one ∙ ap (λ (a : List ℕ). a ++ 1 ∷ []) (sym none);
-  cut = take n line;
-  begun = (n, ap (take n) (sym (append-nil line)));
-  whole = ap (λ (a : List ℕ). flat_map (λ _. line) a ++ take n line) (sym none);
-}
-
 -- where there is no group nothing was written
 pub wrote_none : (line : ℕ → List ℕ) (history acknowledged old new : List ℕ) → history ≡ [] → acknowledged ≡ [] → new ≡ old → Wrote (AreLines line history acknowledged) old new
 wrote_none line history acknowledged old new none none' same =
     ([], subst (λ (h : List ℕ). AreLines line h acknowledged []) (sym none) (subst (λ (a : List ℕ). AreLines line [] a []) (sym none') (no_group line)), same ∙ sym (append-nil old))
-
--- what was written, said of equal lists
-pub wrote_same : (line line' : List ℕ) (history history' acknowledged acknowledged' old new new' : List ℕ) → line ≡ line' → history' ≡ history → acknowledged' ≡ acknowledged → new' ≡ new
-    → Wrote (AreLines (λ _. line) history acknowledged) old new → Wrote (AreLines (λ _. line') history' acknowledged') old new'
-wrote_same line line' history history' acknowledged acknowledged' old new new' is one two three (text, are, e) =
-    let same = subst (λ (l : List ℕ). AreLines (λ _. l) history acknowledged text) is are in
-    (text, subst (λ (h : List ℕ). AreLines (λ _. line') h acknowledged' text) (sym one) (subst (λ (a : List ℕ). AreLines (λ _. line') history a text) (sym two) same), three ∙ e)
 
 all_parts : (P : ℕ → Type 0) (xs ys : List ℕ) → AllByRecursion P (xs ++ ys) → AllByRecursion P xs × AllByRecursion P ys
 all_parts P [] ys h = (tt, h)
@@ -68,12 +39,12 @@ lines_same f g history acknowledged text same are =
     }
 
 -- the line that was made for the one group is that of its package
-pub wrote_lines : (id : PackageId) (line history acknowledged old new : List ℕ) → line ≡ done_line id 1 → (history ≡ []) ⊎ (history ≡ 1 ∷ [])
-    → Wrote (AreLines (λ _. line) history acknowledged) old new → Wrote (AreLines (done_line id) history acknowledged) old new
+pub wrote_lines : (id : PackageId) (line history acknowledged old new : List ℕ) → line ≡ done_line id GROUP → (history ≡ []) ⊎ (history ≡ GROUP ∷ [])
+    → Wrote (AreLines (only_line line) history acknowledged) old new → Wrote (AreLines (done_line id) history acknowledged) old new
 wrote_lines id line history acknowledged old new is (inl none) (text, are, e) =
-    (text, lines_same (λ _. line) (done_line id) history acknowledged text (subst (λ (h : List ℕ). AllByRecursion (λ g. line ≡ done_line id g) h) (sym none) tt) are, e)
+    (text, lines_same (only_line line) (done_line id) history acknowledged text (subst (λ (h : List ℕ). AllByRecursion (λ g. only_line line g ≡ done_line id g) h) (sym none) tt) are, e)
 wrote_lines id line history acknowledged old new is (inr one) (text, are, e) =
-    (text, lines_same (λ _. line) (done_line id) history acknowledged text (subst (λ (h : List ℕ). AllByRecursion (λ g. line ≡ done_line id g) h) (sym one) (is, tt)) are, e)
+    (text, lines_same (only_line line) (done_line id) history acknowledged text (subst (λ (h : List ℕ). AllByRecursion (λ g. only_line line g ≡ done_line id g) h) (sym one) (is, tt)) are, e)
 
 all_named : (P : PackageId → Type 0) (id : PackageId) → P id → (history : List ℕ) → AllByRecursion (λ g. IsLineOf P (done_line id g) g) history
 all_named P id is [] = tt

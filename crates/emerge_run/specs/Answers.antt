@@ -1,19 +1,19 @@
 -- The answer that the words, the tree and the image ask for.
-use Rattle.std.specs.Prelude.{◌≡◌, ◌⊎◌, ℕ, true, false, List, [], map}
+use Rattle.std.specs.Prelude.{◌≡◌, ◌⊎◌, ◌<◌, ℕ, true, false, List, [], length, map}
 use Rattle.std.specs.List.{AllByRecursion}
 use Rattle.file_tree.specs.Disk.{HasBelow, Map}
 use Rattle.file_tree.specs.declared.limits.Quantity.{Quantity}
-use Rattle.file_tree.specs.declared.limits.Quantity.TheVariants.{Groups, Paths}
+use Rattle.file_tree.specs.declared.limits.Quantity.TheVariants.{Groups, Paths, RecordBytes}
 use Rattle.file_tree.specs.declared.objects.Entry.{Entry}
 use Rattle.dep_atom.specs.Match.{value_matches}
 use Rattle.dep_atom.specs.Values.{AtomValue, atom_value}
 use Rattle.dep_atom.specs.declared.package.Facts.{Facts}
 use Rattle.dep_atom.specs.declared.package.PackageId.{PackageId}
 use Rattle.build_pool.specs.declared.orders.Order.{Order}
-use Rattle.image_fit.specs.Images.{Fits}
-use Rattle.image_fit.specs.Misfits as fit
-use Rattle.image_fit.specs.declared.fault.Misfit.{Misfit}
-use Rattle.image_fit.specs.declared.fault.Misfit.TheVariants as misfits
+use Rattle.image_fit.specs.declared.limits.TheConstants.{MOST_ENTRIES}
+use Rattle.journal.specs.Group.{Group}
+use Rattle.merge_site.specs.declared.fault.ClaimStop.TheVariants as claims
+use Rattle.group_run.specs.declared.stop.Stop.TheVariants as stops
 use Rattle.merge_record.specs.Recovered.{IsRecovered}
 use Rattle.recovery.specs.Found.{HasTooManyGates}
 use Rattle.recovery.specs.Promise.{IsFaultOf}
@@ -22,7 +22,7 @@ use Rattle.recovery.specs.declared.fault.RecoverFault.TheVariants as recovery
 use Rattle.vdb_text.specs.Database.{IsInstalled}
 use Rattle.vdb_text.specs.Files.{database_path}
 use Rattle.visible_set.specs.Candidates.{AreOffers, HasOddEntry, IsChosen}
-use Rattle.emerge_run.specs.Package.{order_of}
+use Rattle.emerge_run.specs.Package.{MayCome, StopsAt, order_of}
 use Rattle.emerge_run.specs.Words.{AskForOther, AskForPackage, IsRequest, IsUsage}
 use Rattle.emerge_run.specs.declared.judge.Standing.{Standing}
 use Rattle.emerge_run.specs.declared.judge.Standing.TheVariants.{Chosen, Installed, Unmatched}
@@ -81,26 +81,45 @@ Refuses m a Command = ⊥
 Refuses m a Repository = HasOddEntry m a.name
 Refuses m a Database = (HasOddEntry m a.name → ⊥) × (HasBelow m database_path × (IsMet m a → ⊥))
 
--- the image for the package that the atom chooses is refused for this
-abbrev pub RefusesImage : AtomValue → Map → (Order → List Entry) → Misfit → Type 0
-RefusesImage a m image misfit =
-    (f : Facts) × IsReady m a f × fit.Refuses m (image (order_of f)) misfit
+-- the answer of the merge of a package with this image over a tree: each refusal comes exactly
+-- where it is the first, of the objects, of the record, and then of the claim
+abbrev pub AsksMerge : Facts → List Entry → Map → Status → Type 0
+AsksMerge f image m (status.Ok groups) = ((x : Group) × MayCome f image m x) × (groups ≡ 1)
+AsksMerge f image m (status.Collision c) = StopsAt f image m (stops.Claim (claims.Collision c))
+AsksMerge f image m (status.BadImage b) =
+    StopsAt f image m (stops.Image b) ⊎ StopsAt f image m (stops.Claim (claims.Image b))
+AsksMerge f image m (status.Limit Paths) = StopsAt f image m (stops.Claim claims.Limit)
+AsksMerge f image m (status.Limit RecordBytes) = StopsAt f image m stops.Limit
+AsksMerge f image m status.DeviceFault = Unit {0}
+AsksMerge f image m status.OutputFault = Unit {0}
+AsksMerge f image m status.Memory = Unit {0}
+AsksMerge f image m s = ⊥
+
+-- the same, for the package that the atom chooses
+abbrev pub AsksPackage : AtomValue → Map → (Order → List Entry) → Status → Type 0
+AsksPackage a m image s =
+    (f : Facts) × IsReady m a f × AsksMerge f (image (order_of f)) m s
+
+-- the image for the package that the atom chooses has too many entries
+abbrev pub HasMany : AtomValue → Map → (Order → List Entry) → Type 0
+HasMany a m image =
+    (f : Facts) × IsReady m a f × (MOST_ENTRIES < length (image (order_of f)))
 
 -- the answer of a run for this atom over a recovered tree and this image: each refusal comes
--- exactly where it is the first, of the tree and then of the image; Ok means that nothing is
+-- exactly where it is the first, of the tree and then of the merge; Ok means that nothing is
 -- refused, and that the chosen package is merged or one that the atom matches was there. A failure
 -- or want of memory may come in place of any of them.
 abbrev pub AsksFor : AtomValue → Map → (Order → List Entry) → Status → Type 0
-AsksFor a m image (status.Ok groups) =
-    ((f : Facts) × IsReady m a f × (Fits m (image (order_of f)) × (groups ≡ 1))) ⊎
+AsksFor a m image (status.Ok groups) = AsksPackage a m image (status.Ok groups) ⊎
     (((HasOddEntry m a.name → ⊥) × IsMet m a) × (groups ≡ 0))
 AsksFor a m image (status.Usage fault) = ⊥
 AsksFor a m image (status.NotBuilt Command) = ⊥
 AsksFor a m image (status.BadJournal fault) = ⊥
-AsksFor a m image (status.Limit Paths) = RefusesImage a m image misfits.Many
-AsksFor a m image (status.Limit quantity) = ⊥
-AsksFor a m image (status.Collision c) = RefusesImage a m image (misfits.Collision c)
-AsksFor a m image (status.BadImage b) = RefusesImage a m image (misfits.Image b)
+AsksFor a m image (status.Limit Paths) =
+    HasMany a m image ⊎ AsksPackage a m image (status.Limit Paths)
+AsksFor a m image (status.Limit quantity) = AsksPackage a m image (status.Limit quantity)
+AsksFor a m image (status.Collision c) = AsksPackage a m image (status.Collision c)
+AsksFor a m image (status.BadImage b) = AsksPackage a m image (status.BadImage b)
 AsksFor a m image (status.NotBuilt Repository) = Refuses m a Repository
 AsksFor a m image (status.NotBuilt Database) = Refuses m a Database
 AsksFor a m image (status.NoCandidate atom reasons) =
@@ -135,6 +154,8 @@ Asks words opening image (status.Usage fault) = IsUsage words fault
 Asks words opening image (status.NotBuilt Command) = AskForOther words
 Asks words opening image (status.BadJournal fault) = AskForPackage words × IsBroken fault opening
 Asks words opening image (status.Limit Paths) = AsksAfter words opening image (status.Limit Paths)
+Asks words opening image (status.Limit RecordBytes) =
+    AsksAfter words opening image (status.Limit RecordBytes)
 Asks words opening image (status.Limit quantity) = AskForPackage words × HasTooMany quantity opening
 Asks words opening image (status.Collision c) =
     AsksAfter words opening image (status.Collision c)

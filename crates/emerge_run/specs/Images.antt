@@ -1,9 +1,6 @@
 -- What is known of the image that a builder makes.
 use Rattle.std.specs.Prelude.{◌≡◌, ◌<◌, Bool, List, length, IsTrue}
-use Rattle.file_tree.specs.Disk.{Map}
 use Rattle.file_tree.specs.declared.objects.Entry.{Entry}
-use Rattle.image_fit.specs.Misfits.{Refuses}
-use Rattle.image_fit.specs.declared.fault.Misfit.{Misfit}
 use Rattle.image_fit.specs.declared.limits.TheConstants.{MOST_ENTRIES}
 
 -- the image is the one told, where the builder tells
@@ -13,8 +10,3 @@ IsTold tells told image = IsTrue tells → told ≡ image
 -- the image told has too many entries, where the builder tells
 abbrev pub HasMany : Bool → List Entry → Type 0
 HasMany tells told = IsTrue tells → MOST_ENTRIES < length told
-
--- the tree refuses the image for this
-abbrev pub IsRefusedFor : Misfit → Bool → List Entry → Map → Type 0
-IsRefusedFor misfit tells told m =
-    (image : List Entry) × IsTold tells told image × Refuses m image misfit

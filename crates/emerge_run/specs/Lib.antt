@@ -3,7 +3,6 @@ pub mod Images
 pub mod Outcomes
 pub mod Output
 pub mod Package
-pub mod Ready
 pub mod Refusals
 pub mod Texts
 pub mod Words

@@ -1,27 +1,11 @@
 -- What a run writes: the lines of its groups, and its last line.
-use Rattle.std.specs.Prelude.{◌≡◌, ◌⊎◌, ℕ, List, ◌++◌, take}
-use Rattle.std.specs.List.{AllByRecursion, flat_map}
+use Rattle.std.specs.Prelude.{◌≡◌, ◌⊎◌, ℕ, List, ◌++◌}
+use Rattle.std.specs.List.{AllByRecursion}
 use Rattle.dep_atom.specs.declared.package.PackageId.{PackageId}
+use Rattle.group_run.specs.Lines.{AreLines, IsBeginning}
 use Rattle.emerge_run.specs.Texts.{done_line, last_line}
 use Rattle.emerge_run.specs.declared.status.Status.{Status}
 use Rattle.emerge_run.specs.declared.status.Status.TheVariants as status
-
--- what was written since then has P
-abbrev pub Wrote : (List ℕ → Type 0) → List ℕ → List ℕ → Type 0
-Wrote P old new = (text : List ℕ) × P text × (new ≡ old ++ text)
-
--- some beginning of a text
-abbrev pub IsBeginning : List ℕ → List ℕ → Type 0
-IsBeginning whole text = (n : ℕ) × (text ≡ take n whole)
-
--- the lines of the acknowledged groups, in order, and then some beginning of the lines of the
--- groups of the history that are not acknowledged
-pub record AreLines (line : ℕ → List ℕ) (history acknowledged text : List ℕ) : Type 0 where
-  pub rest : List ℕ
-  pub order : history ≡ acknowledged ++ rest
-  pub cut : List ℕ
-  pub begun : IsBeginning (flat_map line rest) cut
-  pub whole : text ≡ flat_map line acknowledged ++ cut
 
 -- the line of a group that adds a package which has P
 abbrev pub IsLineOf : (PackageId → Type 0) → List ℕ → ℕ → Type 0

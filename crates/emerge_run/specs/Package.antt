@@ -1,41 +1,45 @@
--- The files of a package in the tree, and the tree with a package merged.
-use Rattle.std.specs.Prelude.{◌≡◌, ℕ, List, [], ◌∷◌, ◌++◌, Some, length, map}
-use Rattle.md5.specs.Md5.{md5}
-use Rattle.file_tree.specs.Thing.{Thing}
-use Rattle.file_tree.specs.Disk.{Map, with_path}
+-- The package that a run merges, and the group that brings it.
+use Rattle.std.specs.Prelude.{◌≡◌, true, List, []}
+use Rattle.file_tree.specs.Disk.{Map}
 use Rattle.file_tree.specs.declared.objects.Entry.{Entry}
 use Rattle.dep_atom.specs.declared.package.Facts.{Facts}
 use Rattle.build_pool.specs.declared.orders.Order.{Order}
-use Rattle.merge_record.specs.Content.{Content}
-use Rattle.merge_record.specs.declared.record.Placement.{Placement}
-use Rattle.vdb_text.specs.Files.{AreRecordOf}
+use Rattle.journal.specs.Group.{Group}
+use Rattle.merge_record.specs.declared.record.OwnerKey.{OwnerKey}
+use Rattle.merge_site.specs.declared.group.SiteGroup.{SiteGroup}
+use Rattle.owner_book.specs.Book.{Book}
+use Rattle.group_run.specs.Granted.{IsLetIn}
+use Rattle.group_run.specs.declared.files.Files.{Files}
+use Rattle.group_run.specs.declared.stop.Stop.{Stop}
+use Rattle.package_run.specs.Packages.{GROUP, IsFor, StopsMerge}
+use Rattle.package_run.specs.declared.task.Addition.{Addition}
+use Rattle.emerge_run.specs.Texts.{done_line}
 
 -- what a builder is asked for, for this package
 abbrev pub order_of : Facts → Order
 order_of f = record { id = f.id }
 
--- the entries of the image, and then the files of the package's record
-abbrev pub AreFiles : Facts → List Entry → List Entry → Type 0
-AreFiles f image es = (filed : List Entry) × AreRecordOf f image filed × (es ≡ image ++ filed)
+-- nothing is owned, and nothing is claimed
+abbrev pub no_owners : Book
+no_owners = record { owned = []; claims = [] }
 
--- the map in which each path of the entries holds its object, a later entry over an earlier one
-abbrev pub with_files : List Entry → Map → Map
-with_files [] m = m
-with_files (e ∷ es) m = with_files es (with_path m e.path (Some e.object))
+-- who owns the paths of the one package
+abbrev pub OWNER : OwnerKey
+OWNER = record { number = 0 }
 
--- what a file's placement tells of it
-abbrev pub placement_of : Entry → Placement
-placement_of e =
-    record {
-      path = e.path;
-      kind = e.object.kind;
-      length = length e.object.bytes;
-      md5 = md5 e.object.bytes;
-    }
+-- the group places the image of the package and the files of its record, and may come into this
+-- map, where nothing is owned
+abbrev pub MayCome : Facts → List Entry → Map → Group → Type 0
+MayCome f image m x =
+    (files : Files) × (groups : List SiteGroup) × IsFor f OWNER image files groups
+    × IsLetIn m no_owners groups files GROUP x
 
-abbrev pub object_of : Entry → Thing
-object_of e = e.object
+-- the merge of the package into this map is stopped so
+abbrev pub StopsAt : Facts → List Entry → Map → Stop → Type 0
+StopsAt f image m s = StopsMerge true m no_owners f OWNER image s
 
--- a group that removes nothing and places these files
-abbrev pub placing : ℕ → List Entry → Content
-placing g es = record { group = g; removals = []; placements = map placement_of es }
+-- what is made for the merge of the package, beside its image
+pub record IsAddition (f : Facts) (a : Addition) : Type 0 where
+  pub owner_is : a.owner ≡ OWNER
+  pub book_is : a.book ≡ no_owners
+  pub line_is : a.line.items ≡ done_line f.id GROUP

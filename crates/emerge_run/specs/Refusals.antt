@@ -1,12 +1,15 @@
 -- The status that each inner fault becomes, and what the tree is refused for.
+use Rattle.std.specs.Prelude.{ℕ, Result, Ok, Err, ⊤}
 use Rattle.file_tree.specs.Disk.{Map}
 use Rattle.dep_atom.specs.Values.{AtomValue}
 use Rattle.emerge_run.specs.Answers.{Refuses}
-use Rattle.file_tree.specs.declared.limits.Quantity.TheVariants.{Groups, Paths}
+use Rattle.file_tree.specs.declared.limits.Quantity.TheVariants.{Groups, Paths, RecordBytes}
 use Rattle.file_tree.specs.declared.fault.TreeFault.{TreeFault}
 use Rattle.file_tree.specs.declared.fault.TreeFault.TheVariants as tree
-use Rattle.image_fit.specs.declared.fault.Misfit.{Misfit}
-use Rattle.image_fit.specs.declared.fault.Misfit.TheVariants as misfits
+use Rattle.merge_site.specs.declared.fault.ClaimStop.{ClaimStop}
+use Rattle.merge_site.specs.declared.fault.ClaimStop.TheVariants as claims
+use Rattle.group_run.specs.declared.stop.Stop.{Stop}
+use Rattle.group_run.specs.declared.stop.Stop.TheVariants as stops
 use Rattle.recovery.specs.declared.fault.RecoverFault.{RecoverFault}
 use Rattle.recovery.specs.declared.fault.RecoverFault.TheVariants as recovery
 use Rattle.visible_set.specs.declared.fault.CandidateFault.{CandidateFault}
@@ -44,12 +47,26 @@ status_of_recovery recovery.Limit = status.Limit Groups
 status_of_recovery recovery.Failed = status.DeviceFault
 status_of_recovery recovery.Memory = status.Memory
 
-abbrev pub status_of_misfit : Misfit → Status
-status_of_misfit misfits.Many = status.Limit Paths
-status_of_misfit (misfits.Image b) = status.BadImage b
-status_of_misfit (misfits.Collision c) = status.Collision c
-status_of_misfit misfits.Failed = status.DeviceFault
-status_of_misfit misfits.Memory = status.Memory
+-- what the merge of a package is stopped for; its paths never overlap, and it removes none
+abbrev pub status_of_claim : ClaimStop → Status
+status_of_claim claims.Device = status.DeviceFault
+status_of_claim (claims.Collision c) = status.Collision c
+status_of_claim (claims.Image b) = status.BadImage b
+status_of_claim claims.Limit = status.Limit Paths
+status_of_claim s = status.Memory
+
+abbrev pub status_of_stop : Stop → Status
+status_of_stop stops.Device = status.DeviceFault
+status_of_stop stops.Output = status.OutputFault
+status_of_stop (stops.Image b) = status.BadImage b
+status_of_stop (stops.Claim s) = status_of_claim s
+status_of_stop stops.Limit = status.Limit RecordBytes
+status_of_stop stops.Memory = status.Memory
+
+-- how the merge of so many groups ended
+abbrev pub status_of_end : ℕ → Result ⊤ Stop → Status
+status_of_end n (Ok x) = status.Ok n
+status_of_end n (Err s) = status_of_stop s
 
 abbrev pub status_of_word : WordFault → Status
 status_of_word words.Memory = status.Memory

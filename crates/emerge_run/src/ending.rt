@@ -1,6 +1,7 @@
 ghost use Rattle.std.specs.Prelude.{◌≡◌, ◌≤◌, ◌⊎◌, IsTrue};
 ghost use Rattle.file_tree.specs.Disk.{Rose};
-ghost use Rattle.emerge_run.specs.Output.{IsEnd, IsLast, Wrote, unwritten};
+ghost use Rattle.group_run.specs.Lines.{Wrote};
+ghost use Rattle.emerge_run.specs.Output.{IsEnd, IsLast, unwritten};
 ghost use Rattle.emerge_run.specs.Texts.{last_line};
 
 use crate::status::Status;

@@ -15,16 +15,13 @@
 //! ```
 #![tactic(auto)]
 
-mod carry;
+mod choosing;
 mod ending;
-mod group;
 mod images;
 mod judge;
-mod merge;
-mod package;
+mod merging;
 mod prepare;
 mod refusal;
-mod request;
 mod run;
 mod status;
 mod texts;

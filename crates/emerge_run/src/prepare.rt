@@ -1,42 +1,32 @@
-ghost use Rattle.std.specs.Prelude.{◌≡◌, ◌≤◌, ◌<◌, Contains, IfErr, IfOk, IsErrOf, IsTrue, length};
-ghost use Rattle.file_tree.specs.Disk.{Rose};
+ghost use Rattle.std.specs.Prelude.{◌≡◌, ◌≤◌, ◌<◌, Contains, IfErr, IfOk, IsErrOf, length};
 ghost use Rattle.build_pool.specs.Pool.{PoolRose, SameIds, faults_of};
 ghost use Rattle.dep_atom.specs.declared.package.PackageId.{PackageId};
-ghost use Rattle.image_fit.specs.Images.{Fits, IsImage};
 ghost use Rattle.emerge_run.specs.Images.{IsTold};
-ghost use Rattle.emerge_run.specs.Outcomes.{ImageAsks, IsFromBuild};
-ghost use Rattle.emerge_run.specs.Package.{order_of};
+ghost use Rattle.emerge_run.specs.Outcomes.{BuildEnds};
+ghost use Rattle.emerge_run.specs.Package.{IsAddition, no_owners, order_of};
 
 use crate::images::built_image;
 use crate::status::Status;
+use crate::texts::line_of_group;
 use build_pool::{BuildPool, BuildStop, Builder, Order};
 use dep_atom::Facts;
-use file_tree::{Entry, Tree};
-use image_fit::{Misfit, judge_image};
-use std::alloc::Global;
+use file_tree::{Entry, Quantity};
+use merge_record::OwnerKey;
+use owner_book::OwnerBook;
+use package_run::Addition;
+use std::alloc::{AllocError, Global};
 
-/// Has the image of a package built, and judges it over the tree.
-pub fn find_image<T: Tree, B: Builder>(
+/// Has the image of a package built.
+pub fn find_image<B: Builder>(
     alloc: Global,
-    tree: &mut T,
     pool: &mut BuildPool<B>,
     facts: &Facts,
 ) -> Result<Vec<Entry>, Status>
     requires resting { 0 < length pool.old.resting }
-    ensures fits { IsTrue T.tells → IfOk result
-        (λ v. (b : B) × Contains pool.old.resting b ×
-        (IsTold B.tells (B.told b (order_of facts.now)) v.items ×
-        Fits (T.story tree.old).now.holds v.items)) }
-    ensures image { IfOk result (λ v. IsImage v.items) }
-    ensures refused { IsTrue T.tells → IfErr result
-        (λ s. (b : B) × Contains pool.old.resting b ×
-        ImageAsks B.tells (B.told b (order_of facts.now))
-        (T.story tree.old).now.holds facts.now.id s) }
-    ensures early { IfErr result IsFromBuild }
-    ensures same { IsTrue T.tells → T.story tree.new ≡ T.story tree.old }
-    ensures count { T.faults tree.old ≤ T.faults tree.new }
-    ensures device { IsErrOf result Status.DeviceFault →
-        Rose (T.faults tree.old) (T.faults tree.new) }
+    ensures image { IfOk result (λ v. (b : B) × Contains pool.old.resting b ×
+        IsTold B.tells (B.told b (order_of facts.now)) v.items) }
+    ensures ends { IfErr result (λ s. (b : B) × Contains pool.old.resting b ×
+        BuildEnds B.tells (B.told b (order_of facts.now)) facts.now.id s) }
     ensures ids { SameIds B.number pool.old pool.new }
     ensures lent { pool.new.lent ≡ pool.old.lent }
     ensures builds { faults_of B.faults pool.old ≤ faults_of B.faults pool.new }
@@ -47,12 +37,34 @@ pub fn find_image<T: Tree, B: Builder>(
         id: facts.id.try_clone()?,
     };
     match built_image(alloc, pool, &order) {
-        Ok(Some(image)) => match judge_image(alloc, tree, &image) {
-            Ok(()) => Ok(image),
-            Err(misfit) => Err(Status::from(misfit)),
-        },
-        Ok(None) => Err(Status::from(Misfit::Many)),
+        Ok(Some(image)) => Ok(image),
+        Ok(None) => Err(Status::Limit {
+            quantity: Quantity::Paths,
+        }),
         Err(BuildStop::Memory) => Err(Status::Memory),
         Err(BuildStop::Failed) => Err(Status::BuildFailed { package: order.id }),
     }
+}
+
+/// What is made for the merge of a package, with its image.
+pub fn addition_of(alloc: Global, facts: &Facts, image: Vec<Entry>) -> Result<Addition, AllocError>
+    ensures image { IfOk result (λ a. a.image.items ≡ image.items) }
+    ensures added { IfOk result (IsAddition facts.now) }
+{
+    let text = line_of_group(alloc, &facts.id, 1)?;
+    let line = text.as_bytes().to_vec(alloc)?;
+    let book = empty_book(alloc)?;
+    Ok(Addition {
+        owner: OwnerKey { number: 0 },
+        image,
+        line,
+        book,
+    })
+}
+
+/// The book of a tree in which nothing is installed.
+fn empty_book(alloc: Global) -> Result<OwnerBook, AllocError>
+    ensures { IfOk result (λ b. b ≡ no_owners) }
+{
+    OwnerBook::from_records(alloc, &[])
 }

@@ -1,7 +1,6 @@
 use crate::status::{Part, Status};
 use emerge_words::WordFault;
 use file_tree::{Failed, Quantity, TreeFault};
-use image_fit::Misfit;
 use recovery::RecoverFault;
 use std::alloc::AllocError;
 use visible_set::CandidateFault;
@@ -90,25 +89,6 @@ impl From<TreeFault> for Status {
         match fault {
             TreeFault::Failed => Status::DeviceFault,
             TreeFault::Memory => Status::Memory,
-        }
-    }
-}
-
-impl From<Misfit> for Status {
-    ghost use Rattle.std.specs.Prelude.{◌≡◌};
-    ghost use Rattle.emerge_run.specs.Refusals.{status_of_misfit};
-
-    ghost from_gives = { λ f s. s ≡ status_of_misfit f };
-
-    fn from(misfit: Misfit) -> Status {
-        match misfit {
-            Misfit::Many => Status::Limit {
-                quantity: Quantity::Paths,
-            },
-            Misfit::Image(bad) => Status::BadImage(bad),
-            Misfit::Collision(collision) => Status::Collision(collision),
-            Misfit::Failed => Status::DeviceFault,
-            Misfit::Memory => Status::Memory,
         }
     }
 }

@@ -1,20 +1,22 @@
-ghost use Rattle.std.specs.Prelude.{◌≡◌, ◌≤◌, ◌<◌, ◌⊎◌, ◌∷◌, [], ℕ, IsTrue, length, map};
+ghost use Rattle.std.specs.Prelude.{◌≡◌, ◌≤◌, ◌<◌, ◌⊎◌, [], ℕ, IsTrue, MatchOption, length, map};
 ghost use Rattle.std.specs.Prelude.{string_bytes};
 ghost use Rattle.file_tree.specs.Disk.{Rose};
 ghost use Rattle.build_pool.specs.Pool.{PoolRose, SameIds};
 ghost use Rattle.dep_atom.specs.declared.package.PackageId.{PackageId};
 ghost use Rattle.emerge_run.specs.Outcomes.{IsAnswer, IsNamed, IsRefusal, OfSomeBuilder, Outcome};
-ghost use Rattle.emerge_run.specs.Output.{IsLines, IsOutput, Wrote};
+ghost use Rattle.group_run.specs.Applied.{number};
+ghost use Rattle.group_run.specs.Lines.{Wrote};
+ghost use Rattle.emerge_run.specs.Output.{IsLines, IsOutput};
 ghost use Rattle.emerge_run.specs.Words.{AskForPackage, IsOfWords, IsUsage};
 ghost use Rattle.emerge_words.specs.declared.request.WordFault.{WordFault};
 
+use crate::choosing::choose;
 use crate::ending::finish;
-use crate::request::run_request;
+use crate::merging::merge_chosen;
 use crate::status::Status;
-use crate::words::read_request;
 use build_pool::{BuildPool, Builder};
 use file_tree::{Sink, Tree};
-use recovery::recover;
+use merge_core::Core;
 use std::alloc::Global;
 
 /// What a run gives back: how it ended, what it was lent, and its groups.
@@ -24,16 +26,21 @@ pub struct Ended<T, S, B: Builder> {
     pub tree: T,
     pub out: S,
     pub pool: BuildPool<B>,
+    /// The machine as the merge left it, where there was one.
+    pub machine: Option<Core>,
     /// The groups that are in the tree for good, in order.
     pub history: Vec<u32>,
     /// The groups whose line was written, in order.
     pub acknowledged: Vec<u32>,
 }
 
-/// How far a run came.
+/// How far a run came, and what it was lent.
 #[derive(Drop)]
-pub struct Reached {
+pub struct Reached<T, S> {
     pub status: Status,
+    pub tree: T,
+    pub out: S,
+    pub machine: Option<Core>,
     pub history: Vec<u32>,
     pub acknowledged: Vec<u32>,
 }
@@ -48,25 +55,28 @@ pub struct Reached {
 pub fn emerge<T: Tree + Send, S: Sink + Send, B: Builder + Send>(
     alloc: Global,
     words: &[String],
-    mut tree: T,
-    mut out: S,
+    tree: T,
+    out: S,
     mut pool: BuildPool<B>,
 ) -> Ended<T, S, B>
     requires resting { 0 < length pool.resting }
 
-    // The answer is the one that the words, the tree and the image ask for, a crash at any moment
-    // recovers to before or after, and the tree has the groups of the history.
+    // The answer is the one that the words, the tree and the image ask for; a crash at any moment
+    // recovers to before or after; and the tree has the groups of the history.
     ensures outcome { IsTrue T.tells → OfSomeBuilder B.tells B.told pool.resting
         (λ image. Outcome (map string_bytes words.now) image (T.story tree)
         (T.story result.tree) result.history.items result.status) }
     ensures unchanged { IsTrue T.tells → IsOfWords result.status →
         T.story result.tree ≡ T.story tree }
+
+    // The history is the order of the machine, and its beginning is acknowledged.
+    ensures machine { MatchOption result.machine (result.history.items ≡ [])
+        (λ k. result.history.items ≡ map number k.order) }
     ensures ok { (n : ℕ) → result.status ≡ Status.Ok n →
-        ((n ≡ 0) × (result.acknowledged.items ≡ [])) ⊎
-        ((n ≡ 1) × (result.acknowledged.items ≡ 1 ∷ [])) }
-    ensures history { (result.history.items ≡ []) ⊎ (result.history.items ≡ 1 ∷ []) }
+        (n ≡ length result.history.items) ×
+        (result.acknowledged.items ≡ result.history.items) }
     ensures refused { IsRefusal result.status → result.history.items ≡ [] }
-    ensures acknowledged { (result.acknowledged.items ≡ []) ⊎
+    ensures kept { (result.acknowledged.items ≡ []) ⊎
         (result.acknowledged.items ≡ result.history.items) }
 
     // What was written is the lines of the acknowledged groups, some beginning of those of the other
@@ -94,15 +104,23 @@ pub fn emerge<T: Tree + Send, S: Sink + Send, B: Builder + Send>(
     ensures ids { SameIds B.number pool result.pool }
     ensures lent { result.pool.lent ≡ pool.lent }
 {
-    let reached = attempt(alloc, words, &mut tree, &mut out, &mut pool);
-    let status = finish(alloc, &mut out, reached.status);
+    let Reached {
+        status,
+        tree,
+        mut out,
+        machine,
+        history,
+        acknowledged,
+    } = attempt(alloc, words, tree, out, &mut pool);
+    let status = finish(alloc, &mut out, status);
     Ended {
         status,
         tree,
         out,
         pool,
-        history: reached.history,
-        acknowledged: reached.acknowledged,
+        machine,
+        history,
+        acknowledged,
     }
 }
 
@@ -110,27 +128,28 @@ pub fn emerge<T: Tree + Send, S: Sink + Send, B: Builder + Send>(
 fn attempt<T: Tree, S: Sink, B: Builder>(
     alloc: Global,
     words: &[String],
-    tree: &mut T,
-    out: &mut S,
+    mut tree: T,
+    out: S,
     pool: &mut BuildPool<B>,
-) -> Reached
+) -> Reached<T, S>
     requires resting { 0 < length pool.old.resting }
     ensures outcome { IsTrue T.tells → OfSomeBuilder B.tells B.told pool.old.resting
-        (λ image. Outcome (map string_bytes words.now) image (T.story tree.old)
-        (T.story tree.new) result.history.items result.status) }
+        (λ image. Outcome (map string_bytes words.now) image (T.story tree)
+        (T.story result.tree) result.history.items result.status) }
     ensures unchanged { IsTrue T.tells → IsOfWords result.status →
-        T.story tree.new ≡ T.story tree.old }
+        T.story result.tree ≡ T.story tree }
+    ensures machine { MatchOption result.machine (result.history.items ≡ [])
+        (λ k. result.history.items ≡ map number k.order) }
     ensures ok { (n : ℕ) → result.status ≡ Status.Ok n →
-        ((n ≡ 0) × (result.acknowledged.items ≡ [])) ⊎
-        ((n ≡ 1) × (result.acknowledged.items ≡ 1 ∷ [])) }
-    ensures history { (result.history.items ≡ []) ⊎ (result.history.items ≡ 1 ∷ []) }
+        (n ≡ length result.history.items) ×
+        (result.acknowledged.items ≡ result.history.items) }
     ensures refused { IsRefusal result.status → result.history.items ≡ [] }
-    ensures acknowledged { (result.acknowledged.items ≡ []) ⊎
+    ensures kept { (result.acknowledged.items ≡ []) ⊎
         (result.acknowledged.items ≡ result.history.items) }
     ensures written { IsTrue S.tells → Wrote
         (IsLines (IsNamed (map string_bytes words.now) T.tells
-        (T.story tree.old).now.holds) result.history.items result.acknowledged.items)
-        (S.written out.old) (S.written out.new) }
+        (T.story tree).now.holds) result.history.items result.acknowledged.items)
+        (S.written out) (S.written result.out) }
     ensures usage { (f : WordFault) → result.status ≡ Status.Usage f →
         IsUsage (map string_bytes words.now) f }
     ensures no_package { ¬ (AskForPackage (map string_bytes words.now)) →
@@ -138,32 +157,22 @@ fn attempt<T: Tree, S: Sink, B: Builder>(
     ensures build { (id : PackageId) → result.status ≡ Status.BuildFailed id →
         PoolRose B.faults pool.old pool.new }
     ensures device { result.status ≡ Status.DeviceFault →
-        Rose (T.faults tree.old) (T.faults tree.new) }
+        Rose (T.faults tree) (T.faults result.tree) }
     ensures output { result.status ≡ Status.OutputFault →
-        Rose (S.faults out.old) (S.faults out.new) }
-    ensures out_count { S.faults out.old ≤ S.faults out.new }
+        Rose (S.faults out) (S.faults result.out) }
+    ensures out_count { S.faults out ≤ S.faults result.out }
     ensures ids { SameIds B.number pool.old pool.new }
     ensures lent { pool.new.lent ≡ pool.old.lent }
 {
-    let atom = match read_request(alloc, words) {
-        Ok(atom) => atom,
-        Err(status) => return stopped(alloc, status),
-    };
-    match recover(alloc, tree) {
-        Ok(_) => run_request(alloc, atom, tree, out, pool),
-        Err(fault) => stopped(alloc, Status::from(fault)),
-    }
-}
-
-/// A run that ended without a group.
-pub fn stopped(alloc: Global, status: Status) -> Reached
-    ensures status { result.status ≡ status }
-    ensures history { result.history.items ≡ [] }
-    ensures acknowledged { result.acknowledged.items ≡ [] }
-{
-    Reached {
-        status,
-        history: Vec::new(alloc),
-        acknowledged: Vec::new(alloc),
+    match choose(alloc, words, &mut tree, pool) {
+        Ok(chosen) => merge_chosen(alloc, tree, out, chosen),
+        Err(status) => Reached {
+            status,
+            tree,
+            out,
+            machine: None,
+            history: Vec::new(alloc),
+            acknowledged: Vec::new(alloc),
+        },
     }
 }

@@ -58,6 +58,13 @@ pub record IsRefusal (tells : Bool) (opening : Map) (opened : Book) (groups : Li
   pub met : IsTrue tells → (m : Map) × IsOutside opening m ×
       StopsAt m (owner_in book.owned) (wishes_in files) s
 
+-- a stop for what the group has: an object, its record, or its claim
+abbrev pub IsOfGroup : Stop → Type 0
+IsOfGroup (stops.Image b) = Unit {0}
+IsOfGroup (stops.Claim s) = Unit {0}
+IsOfGroup stops.Limit = Unit {0}
+IsOfGroup e = ⊥
+
 -- why the run of a package's group ended
 abbrev pub StopsRun : Bool → Map → Book → List SiteGroup → Files → ℕ → Stop → Type 0
 StopsRun tells opening opened groups files g (stops.Image b) = IsFirstBad (all_in files) b

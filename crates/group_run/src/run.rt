@@ -1,9 +1,9 @@
-ghost use Rattle.std.specs.Prelude.{◌≡◌, ◌∷◌, ◌<◌, ◌^◌, [], ℕ, true, length};
+ghost use Rattle.std.specs.Prelude.{◌≡◌, ◌⊎◌, ◌∷◌, ◌<◌, ◌^◌, [], ℕ, true, length};
 ghost use Rattle.std.specs.Prelude.{IfErr, IsErrOf, IsTrue, MatchOption, OnErr, OnOk};
 ghost use Rattle.std.specs.Prelude.{vec_capacity, vec_len};
 ghost use Rattle.file_tree.specs.Disk.{CountsFault};
 ghost use Rattle.merge_core.specs.Trail.{IsAtRest};
-ghost use Rattle.group_run.specs.Causes.{HasCause};
+ghost use Rattle.group_run.specs.Causes.{HasCause, IsOfGroup};
 ghost use Rattle.group_run.specs.Granted.{IsLetIn};
 ghost use Rattle.group_run.specs.Lines.{AreLines, Wrote, line_in};
 ghost use Rattle.group_run.specs.Went.{HasRun, Went};
@@ -60,6 +60,10 @@ pub fn merge_group<T: Tree, S: Sink>(alloc: Global, tree: T, sink: S, task: Task
         (T.story tree) (T.story result.tree) result.history.items result.end }
     ensures machine { MatchOption result.machine (result.history.items ≡ [])
         (HasRun task.group (length task.groups.items) result.history.items) }
+    ensures one { (result.history.items ≡ []) ⊎ (result.history.items ≡ task.group ∷ []) }
+    ensures early { IfErr result.end (λ e. IsOfGroup e → result.history.items ≡ []) }
+    ensures kept { (result.acknowledged.items ≡ []) ⊎
+        (result.acknowledged.items ≡ result.history.items) }
     ensures told { OnOk result.end ((result.history.items ≡ task.group ∷ []) ×
         (result.acknowledged.items ≡ task.group ∷ [])) }
     ensures written { IsTrue S.tells → Wrote

@@ -1,4 +1,4 @@
-ghost use Rattle.std.specs.Prelude.{◌≡◌, ◌++◌, ◌∷◌, ◌<◌, [], true, length, map};
+ghost use Rattle.std.specs.Prelude.{◌≡◌, ◌⊎◌, ◌++◌, ◌∷◌, ◌<◌, [], true, length, map};
 ghost use Rattle.std.specs.Prelude.{IfErr, IsErrOf, IsTrue, OnErr, OnOk, vec_capacity, vec_len};
 ghost use Rattle.file_tree.specs.Disk.{CountsFault};
 ghost use Rattle.merge_core.specs.Payloads.{IsAt};
@@ -8,7 +8,7 @@ ghost use Rattle.merge_core.specs.declared.phase.Phase.TheVariants as phases;
 ghost use Rattle.merge_core.specs.declared.step.Step.TheVariants as steps;
 ghost use Rattle.group_run.specs.Applied.{number};
 ghost use Rattle.merge_site.specs.Booking.{wishes_at};
-ghost use Rattle.group_run.specs.Causes.{StopsRun};
+ghost use Rattle.group_run.specs.Causes.{IsOfGroup, StopsRun};
 ghost use Rattle.group_run.specs.Granted.{IsLetIn};
 ghost use Rattle.group_run.specs.Lines.{AreLines, Wrote, line_in};
 ghost use Rattle.group_run.specs.Went.{Drove, HasRun};
@@ -41,6 +41,9 @@ fn merge<T: Tree, S: Sink>(
     ensures works { Works group site.old site.new }
     ensures history { history.new.items ≡ map number site.new.keeping.order }
     ensures merged { OnOk result (history.new.items ≡ history.old.items ++ group ∷ []) }
+    ensures one { (history.new.items ≡ history.old.items) ⊎
+        (history.new.items ≡ history.old.items ++ group ∷ []) }
+    ensures early { IfErr result (λ e. IsOfGroup e → history.new.items ≡ history.old.items) }
     ensures at { OnOk result (IsAt site.new.keeping group phases.Done) }
     ensures let_in { IsTrue T.tells → was_opened (standing_at site.new group).phase ≡ true →
         IsLetIn (T.story site.old.opened).now.holds site.old.opened_book site.old.groups files
@@ -81,6 +84,8 @@ pub(crate) fn merge_and_tell<T: Tree, S: Sink>(
     requires untold { acknowledged.old.items ≡ [] }
     ensures works { Works group site.old site.new }
     ensures history { history.new.items ≡ map number site.new.keeping.order }
+    ensures one { (history.new.items ≡ []) ⊎ (history.new.items ≡ group ∷ []) }
+    ensures early { IfErr result (λ e. IsOfGroup e → history.new.items ≡ []) }
     ensures told { OnOk result ((history.new.items ≡ group ∷ []) ×
         (acknowledged.new.items ≡ group ∷ [])) }
     ensures untold { OnErr result (acknowledged.new.items ≡ []) }
@@ -129,6 +134,8 @@ pub(crate) fn drive<T: Tree, S: Sink>(
         (T.story site.old.tree) (T.story site.new.tree) history.new.items result }
     ensures machine { HasRun group (length site.old.keeping.standings) history.new.items
         site.new.keeping }
+    ensures one { (history.new.items ≡ []) ⊎ (history.new.items ≡ group ∷ []) }
+    ensures early { IfErr result (λ e. IsOfGroup e → history.new.items ≡ []) }
     ensures told { OnOk result ((history.new.items ≡ group ∷ []) ×
         (acknowledged.new.items ≡ group ∷ [])) }
     ensures untold { OnErr result (acknowledged.new.items ≡ []) }

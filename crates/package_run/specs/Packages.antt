@@ -5,6 +5,7 @@ use Rattle.file_tree.specs.declared.objects.Entry.{Entry}
 use Rattle.dep_atom.specs.declared.package.Facts.{Facts}
 use Rattle.merge_record.specs.declared.record.OwnerKey.{OwnerKey}
 use Rattle.merge_site.specs.Booking.{dying_at}
+use Rattle.merge_site.specs.declared.fault.ClaimStop.TheVariants as claims
 use Rattle.merge_site.specs.declared.group.SiteGroup.{SiteGroup}
 use Rattle.owner_book.specs.Book.{Book}
 use Rattle.vdb_text.specs.Files.{AreRecordOf}
@@ -35,6 +36,14 @@ pub record IsFor (f : Facts) (owner : OwnerKey) (image : List Entry) (files : Fi
     (groups : List SiteGroup) : Type 0 where
   pub made : AreMadeOf f owner image files
   pub none_go : dying_at groups GROUP ≡ []
+
+-- the stops that the merge of a package may come to: nothing is removed, and its paths are apart
+abbrev pub MayStop : Stop → Type 0
+MayStop (stops.Claim (claims.Image b)) = Unit {0}
+MayStop (stops.Claim (claims.Collision c)) = Unit {0}
+MayStop (stops.Claim claims.Limit) = Unit {0}
+MayStop (stops.Claim s) = ⊥
+MayStop s = Unit {0}
 
 -- how the merge of the package went: as a run of the one group of its files, where this book and
 -- the tree from before grant their paths; or nothing came in

@@ -1,10 +1,11 @@
-ghost use Rattle.std.specs.Prelude.{◌≡◌, ◌∷◌, [], true, IfErr, IsErrOf, IsTrue};
+ghost use Rattle.std.specs.Prelude.{◌≡◌, ◌⊎◌, ◌∷◌, [], true, IfErr, IsErrOf, IsTrue};
 ghost use Rattle.std.specs.Prelude.{MatchOption, OnOk};
 ghost use Rattle.file_tree.specs.Disk.{CountsFault};
 ghost use Rattle.merge_core.specs.Trail.{IsAtRest};
+ghost use Rattle.group_run.specs.Causes.{IsOfGroup};
 ghost use Rattle.group_run.specs.Lines.{AreLines, Wrote};
 ghost use Rattle.group_run.specs.Went.{HasRun};
-ghost use Rattle.package_run.specs.Packages.{GROUP, StopsMerge, WentFor, only_line};
+ghost use Rattle.package_run.specs.Packages.{GROUP, MayStop, StopsMerge, WentFor, only_line};
 
 use crate::task::{Addition, task_of};
 use dep_atom::Facts;
@@ -27,6 +28,10 @@ pub fn merge_package<T: Tree, S: Sink>(
         addition.image.items (T.story tree) (T.story result.tree) result.history.items result.end }
     ensures machine { MatchOption result.machine (result.history.items ≡ [])
         (HasRun GROUP 2 result.history.items) }
+    ensures one { (result.history.items ≡ []) ⊎ (result.history.items ≡ GROUP ∷ []) }
+    ensures early { IfErr result.end (λ e. IsOfGroup e → result.history.items ≡ []) }
+    ensures kept { (result.acknowledged.items ≡ []) ⊎
+        (result.acknowledged.items ≡ result.history.items) }
     ensures told { OnOk result.end ((result.history.items ≡ GROUP ∷ []) ×
         (result.acknowledged.items ≡ GROUP ∷ [])) }
     ensures written { IsTrue S.tells → Wrote (AreLines (only_line addition.line.items)
@@ -34,6 +39,7 @@ pub fn merge_package<T: Tree, S: Sink>(
         (S.written sink) (S.written result.sink) }
     ensures cause { IfErr result.end (StopsMerge T.tells (T.story tree).now.holds addition.book
         facts.now addition.owner addition.image.items) }
+    ensures stops { IfErr result.end MayStop }
     ensures device { CountsFault (IsErrOf result.end Stop.Device) (T.faults tree)
         (T.faults result.tree) }
     ensures output { CountsFault (IsErrOf result.end Stop.Output) (S.faults sink)

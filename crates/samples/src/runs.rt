@@ -77,6 +77,7 @@ fn summary(alloc: Global, ended: Ended<MemTree, MemSink, ImageBuilder>) -> Resul
         pool,
         history,
         acknowledged,
+        ..
     } = ended;
     let code = number_of(status);
     let resting = pool.resting();

@@ -12,19 +12,19 @@ returns-clause-written g c t =
     let words = map string_bytes c.args.words.now in
     let b = some_builder resting c.requires.resting in
     wrote_all (IsNamed words g.T.Tree.tells opening) (IsAnswer g.T.Tree.tells g.B.Builder.tells g.B.Builder.told resting words opening)
-    c.attempt-reached.result.history.items c.attempt-reached.result.acknowledged.items c.attempt-reached.result.status c.finish-status.result
-    (g.S.Sink.written c.args.out) (g.S.Sink.written c.attempt-reached.new.out) (g.S.Sink.written c.finish-status.new.out)
-    (λ u. came_asked g.B.Builder.tells g.B.Builder.told resting words (g.T.Tree.story c.args.tree) (g.T.Tree.story c.attempt-reached.new.tree) c.attempt-reached.result.history.items c.attempt-reached.result.status (c.attempt-reached.ensures.outcome u))
+    c.attempt-status.result.history.items c.attempt-status.result.acknowledged.items c.attempt-status.result.status c.finish-status.result
+    (g.S.Sink.written c.args.out) (g.S.Sink.written c.attempt-status.result.out) (g.S.Sink.written c.finish-status.new.out)
+    (λ u. came_asked g.B.Builder.tells g.B.Builder.told resting words (g.T.Tree.story c.args.tree) (g.T.Tree.story c.attempt-status.result.tree) c.attempt-status.result.history.items c.attempt-status.result.status (c.attempt-status.ensures.outcome u))
     (λ u. memory_asked g.B.Builder.tells g.B.Builder.told resting words opening b.0 b.1)
-    (c.attempt-reached.ensures.written t) (c.finish-status.ensures.written t)
+    (c.attempt-status.ensures.written t) (c.finish-status.ensures.written t)
 
 pub returns-clause-outcome : goal.returns-clause-outcome
 returns-clause-outcome g c t =
-    outcome_finished g.B.Builder.tells g.B.Builder.told c.args.pool.resting _ (g.T.Tree.story c.args.tree) (g.T.Tree.story c.attempt-reached.new.tree) c.attempt-reached.result.history.items c.attempt-reached.result.status c.finish-status.result _
-    c.finish-status.ensures.status c.finish-status.ensures.device (c.attempt-reached.ensures.outcome t)
+    outcome_finished g.B.Builder.tells g.B.Builder.told c.args.pool.resting _ (g.T.Tree.story c.args.tree) (g.T.Tree.story c.attempt-status.result.tree) c.attempt-status.result.history.items c.attempt-status.result.status c.finish-status.result _
+    c.finish-status.ensures.status c.finish-status.ensures.device (c.attempt-status.ensures.outcome t)
 
 pub returns-clause-build : goal.returns-clause-build
-returns-clause-build g c id is = c.attempt-reached.ensures.build id (built_before c.attempt-reached.result.status c.finish-status.result id _ c.finish-status.ensures.status is)
+returns-clause-build g c id is = c.attempt-status.ensures.build id (built_before c.attempt-status.result.status c.finish-status.result id _ c.finish-status.ensures.status is)
 
 pub returns-clause-usage : goal.returns-clause-usage
-returns-clause-usage g c f is = c.attempt-reached.ensures.usage f (usage_kept c.attempt-reached.result.status c.finish-status.result f c.finish-status.ensures.status is)
+returns-clause-usage g c f is = c.attempt-status.ensures.usage f (usage_kept c.attempt-status.result.status c.finish-status.result f c.finish-status.ensures.status is)

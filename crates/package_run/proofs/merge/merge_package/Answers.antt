@@ -8,8 +8,8 @@ use Rattle.group_run.specs.Lines.{AreLines, Wrote}
 use Rattle.group_run.specs.Went.{HasRun, Went}
 use Rattle.group_run.proofs.Caused.{err_weaker}
 use Rattle.group_run.proofs.Cleared.{went_nowhere}
-use Rattle.package_run.specs.Packages.{GROUP, StopsMerge}
-use Rattle.package_run.proofs.Merges.{merge_stopped}
+use Rattle.package_run.specs.Packages.{GROUP, MayStop, StopsMerge}
+use Rattle.package_run.proofs.Merges.{merge_may_stop, merge_stopped}
 use Rattle.package_run.proofs.merge.merge_package.Goals as goal
 
 pub returns-in-Ok-clause-went : goal.returns-in-Ok-clause-went
@@ -50,6 +50,20 @@ returns-in-Ok-clause-cause g c =
     let two = subst (λ (n : ℕ). IfErr end (HasCause tells m a.book groups task.files n machine)) e.group one in
     err_weaker (HasCause tells m a.book groups task.files GROUP machine) (StopsMerge tells m a.book c.args.facts.now a.owner a.image.items)
     (λ s h. merge_stopped tells m a.book c.args.facts.now a.owner a.image.items task.files groups (record { made = e.files; none_go = e.none_go }) machine s h) end two
+
+pub returns-in-Ok-clause-stops : goal.returns-in-Ok-clause-stops
+returns-in-Ok-clause-stops g c =
+    let m = (g.T.Tree.story c.args.tree).now.holds in
+    let tells = g.T.Tree.tells in
+    let task = c.in-Ok.task in
+    let e = c.in-Ok.ensures in
+    let a = c.args.addition in
+    let groups = task.groups.items in
+    let machine = c.merge_group.result.machine in
+    let end = c.merge_group.result.end in
+    let one = subst (λ (n : ℕ). IfErr end (HasCause tells m task.book groups task.files n machine)) e.group c.merge_group.ensures.cause in
+    err_weaker (HasCause tells m task.book groups task.files GROUP machine) MayStop
+    (λ s h. merge_may_stop tells m task.book c.args.facts.now a.owner a.image.items task.files groups (record { made = e.files; none_go = e.none_go }) machine s h) end one
 
 pub returns-in-Err-clause-went : goal.returns-in-Err-clause-went
 returns-in-Err-clause-went g c t =

@@ -1,0 +1,110 @@
+ghost use Rattle.std.specs.Prelude.{◌≡◌, ◌⊎◌, [], ℕ, IfErr, IsTrue, MatchOption, length, map};
+ghost use Rattle.file_tree.specs.Disk.{CountsFault};
+ghost use Rattle.group_run.specs.Applied.{number};
+ghost use Rattle.group_run.specs.Lines.{AreLines, Wrote};
+ghost use Rattle.merge_core.specs.Trail.{IsAtRest};
+ghost use Rattle.package_run.specs.Packages.{MayStop};
+ghost use Rattle.emerge_run.specs.Outcomes.{IsOfMerge, IsRefusal, MergedTo};
+ghost use Rattle.emerge_run.specs.Package.{IsAddition};
+ghost use Rattle.emerge_run.specs.Refusals.{status_of_claim, status_of_end, status_of_stop};
+ghost use Rattle.emerge_run.specs.Texts.{done_line};
+
+use crate::choosing::Chosen;
+use crate::run::Reached;
+use crate::status::Status;
+use file_tree::{Quantity, Sink, Tree};
+use group_run::{Merged, Stop};
+use merge_site::ClaimStop;
+use package_run::merge_package;
+use std::alloc::Global;
+
+/// Merges the package that was chosen, and tells how that ended.
+pub fn merge_chosen<T: Tree, S: Sink>(
+    alloc: Global,
+    tree: T,
+    out: S,
+    chosen: Chosen,
+) -> Reached<T, S>
+    requires rest { IsTrue T.tells → IsAtRest (T.story tree).now.holds (T.story tree).now }
+    requires added { IsAddition chosen.facts chosen.addition }
+    ensures merged { IsTrue T.tells → MergedTo chosen.facts chosen.addition.image.items
+        (T.story tree) (T.story result.tree) result.history.items result.status }
+    ensures machine { MatchOption result.machine (result.history.items ≡ [])
+        (λ k. result.history.items ≡ map number k.order) }
+    ensures of { IsOfMerge result.status }
+    ensures ok { (n : ℕ) → result.status ≡ Status.Ok n →
+        (n ≡ length result.history.items) ×
+        (result.acknowledged.items ≡ result.history.items) }
+    ensures refused { IsRefusal result.status → result.history.items ≡ [] }
+    ensures kept { (result.acknowledged.items ≡ []) ⊎
+        (result.acknowledged.items ≡ result.history.items) }
+    ensures written { IsTrue S.tells → Wrote (AreLines (done_line chosen.facts.id)
+        result.history.items result.acknowledged.items)
+        (S.written out) (S.written result.out) }
+    ensures device { CountsFault (result.status ≡ Status.DeviceFault) (T.faults tree)
+        (T.faults result.tree) }
+    ensures output { CountsFault (result.status ≡ Status.OutputFault) (S.faults out)
+        (S.faults result.out) }
+{
+    let Chosen { facts, addition } = chosen;
+    let Merged {
+        tree,
+        sink,
+        machine,
+        end,
+        history,
+        acknowledged,
+    } = merge_package(alloc, tree, out, &facts, addition);
+    let status = status_of_end(end, history.len() as u32);
+    Reached {
+        status,
+        tree,
+        out: sink,
+        machine,
+        history,
+        acknowledged,
+    }
+}
+
+/// The status of a merge that ended so, with so many groups.
+fn status_of_end(end: Result<(), Stop>, groups: u32) -> Status
+    requires { IfErr end MayStop }
+    ensures { result ≡ status_of_end groups end }
+{
+    match end {
+        Ok(()) => Status::Ok { groups },
+        Err(stop) => status_of_stop(stop),
+    }
+}
+
+fn status_of_stop(stop: Stop) -> Status
+    requires { MayStop stop }
+    ensures { result ≡ status_of_stop stop }
+{
+    match stop {
+        Stop::Device => Status::DeviceFault,
+        Stop::Output => Status::OutputFault,
+        Stop::Image(bad) => Status::BadImage(bad),
+        Stop::Claim(claim) => status_of_claim(claim),
+        Stop::Limit => Status::Limit {
+            quantity: Quantity::RecordBytes,
+        },
+        Stop::Memory => Status::Memory,
+    }
+}
+
+/// The status of a claim that was stopped so: the paths of a package never overlap, and none is
+/// removed.
+fn status_of_claim(claim: ClaimStop) -> Status
+    requires { MayStop (Stop.Claim claim) }
+    ensures { result ≡ status_of_claim claim }
+{
+    match claim {
+        ClaimStop::Collision(collision) => Status::Collision(collision),
+        ClaimStop::Image(bad) => Status::BadImage(bad),
+        ClaimStop::Limit => Status::Limit {
+            quantity: Quantity::Paths,
+        },
+        _ => unreachable!(),
+    }
+}
