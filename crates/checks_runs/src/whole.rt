@@ -119,6 +119,11 @@ fn images_that_are_refused(rt: HostRuntime) -> Result<(), Fail> {
         ),
         ("usr", "- usr/bin/p", "13 emerge: Collision: Unowned usr\n"),
         (
+            "var/db/pkg",
+            "- usr/bin/p",
+            "13 emerge: Collision: Unowned var/db/pkg\n",
+        ),
+        (
             "usr/bin/p/x",
             "- b\n- usr/bin/p",
             "13 emerge: Collision: Unowned usr/bin/p\n",

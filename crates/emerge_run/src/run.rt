@@ -49,9 +49,10 @@ pub struct Reached<T, S> {
 ///
 /// The words are those of the whole product; what is done today is the merge of one atom. First an
 /// interrupted merge is completed or dropped. Of the candidates of the atom's name the greatest
-/// version that it matches is merged, unless a package that it matches is installed. A package that is merged has its files at their paths and its record below
-/// `var/db/pkg`; its line comes after they are synced, and last the journal is cleared. Want of memory
-/// may be answered in place of anything.
+/// version that it matches is merged, unless a package that it matches is installed. A package that
+/// is merged has its files at their paths and its record below `var/db/pkg`; its line comes after
+/// they are synced, and last the journal is cleared. Want of memory may be answered in place of
+/// anything.
 pub fn emerge<T: Tree + Send, S: Sink + Send, B: Builder + Send>(
     alloc: Global,
     words: &[String],
