@@ -10,10 +10,9 @@ use Rattle.merge_core.specs.Trail.{IsAtRest}
 use Rattle.merge_record.specs.Names.{gate_path}
 use Rattle.merge_record.specs.Names.Part.{Gate}
 use Rattle.merge_record.specs.Recovered.{IsRecovered}
-use Rattle.group_merge.proofs.Images.{shut_leaves}
-use Rattle.group_merge.proofs.Survives.{part_below}
-use Rattle.group_merge.specs.Group.{cleared}
-use Rattle.group_merge.specs.Phases.{IsShut}
+use Rattle.merge_core.proofs.Paths.{file_below}
+use Rattle.recovery.proofs.Shut.{shut_leaves}
+use Rattle.recovery.specs.Phases.{IsShut, cleared}
 use Rattle.group_run.specs.Applied.{AreOf, Recovers, number}
 use Rattle.group_run.specs.Went.{Drove, Went}
 use Rattle.group_run.specs.declared.stop.Stop.{Stop}
@@ -59,7 +58,7 @@ went Of old mid new history end end' d same stays clears reads settled = elim (d
 rest_shut : (d : Disk) → IsAtRest d.holds d → IsShut d.holds d
 rest_shut d rest = record {
   outside = λ q out. record { untouched = rest.untouched q; reads = refl };
-  gates = λ h small. record { untouched = rest.untouched (gate_path h); reads = rest.empty (gate_path h) (part_below h Gate) };
+  gates = λ h small. record { untouched = rest.untouched (gate_path h); reads = rest.empty (gate_path h) (file_below h Gate) };
 }
 
 -- a run that never began

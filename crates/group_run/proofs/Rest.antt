@@ -14,7 +14,7 @@ use Rattle.merge_core.specs.Payloads.{IsAt}
 use Rattle.merge_core.specs.declared.phase.Phase.TheVariants as phases
 use Rattle.merge_site.specs.Site.{Account}
 use Rattle.merge_core.proofs.Words.{gate_kept, tree_kept}
-use Rattle.group_merge.specs.Phases.{IsShut}
+use Rattle.recovery.specs.Phases.{IsShut}
 use Rattle.group_run.specs.Applied.{LeavesHistory, number}
 use Rattle.group_run.specs.Working.{is_shut, standing_at}
 use Rattle.group_run.specs.declared.stop.Stop.{Stop}

@@ -3,10 +3,10 @@ use Rattle.std.specs.Prelude.{◌≡◌, ℕ, List, [], IsErrOf, Result, length,
 use Rattle.file_tree.specs.Disk.{Story}
 use Rattle.file_tree.specs.Moments.{Leaves, Since}
 use Rattle.journal.specs.Group.{Group, with_groups}
-use Rattle.group_merge.specs.Phases.{IsShut}
 use Rattle.merge_core.specs.Core.{standing_in}
 use Rattle.merge_core.specs.Keeping.{Keeping}
 use Rattle.merge_core.specs.Roll.{resting}
+use Rattle.recovery.specs.Phases.{IsShut}
 use Rattle.group_run.specs.Applied.{AreOf, HasHistory, LeavesHistory, Recovers, number}
 use Rattle.group_run.specs.declared.stop.Stop.{Stop}
 use Rattle.group_run.specs.declared.stop.Stop.TheVariants as stops

@@ -1,11 +1,11 @@
 -- One open group after another is applied.
-use Rattle.std.proofs.Common.{◌≡◌, ◌≤◌, ◌<◌, ◌||◌, ◌++◌, ◌^◌, ℕ, zero, suc, true, false, length, get_or, None, List, [], ◌∷◌, Result, Ok, refl, sym, ap, subst, ◌∙◌, inl, inr, arith}
+use Rattle.std.proofs.Common.{◌≡◌, ◌≤◌, ◌<◌, ◌++◌, ◌^◌, ℕ, zero, suc, true, false, length, get_or, List, [], ◌∷◌, Result, Ok, refl, sym, ap, subst, ◌∙◌, inl, inr, arith}
 use Rattle.std.specs.Prelude.{IsSome, bytes_eq}
 use Rattle.std.proofs.lemmas.Bool.{cases_Bool, cond-false}
 use Rattle.std.proofs.lemmas.Slice.Eq.{bytes_eq-Decides}
 use Rattle.basics.specs.Members.{Has}
 use Rattle.basics.proofs.Membership.{has-append_cases}
-use Rattle.file_tree.specs.Disk.{write, Disk, Map, Moves, Story}
+use Rattle.file_tree.specs.Disk.{Disk, Map, Moves, Story}
 use Rattle.file_tree.specs.Paths.{is_below}
 use Rattle.merge_record.specs.Content.{Content}
 use Rattle.merge_record.specs.Judging.{are_free, footprint, judged, judged_all, judged_open, ◌>>=◌}
@@ -13,13 +13,11 @@ use Rattle.merge_record.specs.Names.{jobs}
 use Rattle.merge_record.specs.Open.{open_groups}
 use Rattle.merge_record.specs.declared.fault.JudgeFault.{JudgeFault}
 use Rattle.merge_record.proofs.Form.{are_free-if, are_free-words, bind_ok, judged_words}
-use Rattle.group_merge.specs.Calls as calls
 use Rattle.merge_core.specs.Recovery.{Asked, Recovers, found_content, redo, with_placed, with_redone, with_removed}
 use Rattle.merge_core.proofs.Redo.{form_found, judged_opens}
 use Rattle.merge_core.proofs.Redone.{redone_reads}
 use Rattle.merge_core.specs.Roll.{stood}
 use Rattle.merge_record.specs.Names.{stage_path}
-use Rattle.merge_record.specs.declared.record.Placement.{Placement}
 use Rattle.std.proofs.Common.{drop}
 use Rattle.merge_core.proofs.Walk.{redo_walks}
 use Rattle.recovery.specs.Found.{AreApplicable}
@@ -31,10 +29,6 @@ all_good rs = Ok rs
 
 same_records : (xs ys : List Content) → all_good xs ≡ all_good ys → xs ≡ ys
 same_records xs ys e = cc
-
-pub same_asked : (ps : List (List ℕ)) (old new : Story) → calls.Asked ps old new → Asked ps old new
-same_asked [] old new h = h
-same_asked (p ∷ ps) old new h = (h.0, h.1, same_asked ps h.0 new h.2)
 
 -- the records that were judged good are what is found
 record_found : (c : Map) (taken : List (List ℕ)) (ns : List ℕ) (rs : List Content) → judged_all c taken ns ≡ Ok rs → (r : Content) → Has rs r → Has ns r.group × (found_content c r.group ≡ r)
@@ -50,19 +44,19 @@ record_found c taken (k ∷ ns) rs h r has =
     ]
 
 -- one more group
-pub one_walks : (a : Map) (rs : List Content) (old mid new : Story) (r : Content) → judged_open a ≡ Ok rs → Has rs r → Recovers a (redo a) old mid → calls.Asked (footprint r) mid new → Recovers a (redo a) old new
+pub one_walks : (a : Map) (rs : List Content) (old mid new : Story) (r : Content) → judged_open a ≡ Ok rs → Has rs r → Recovers a (redo a) old mid → Asked (footprint r) mid new → Recovers a (redo a) old new
 one_walks a rs old mid new r judged_is has walks asked =
     let k = record_found a [] (open_groups a) rs (judged_opens a rs judged_is) r has in
-    redo_walks a rs judged_is old mid new r.group k.0 walks (subst (λ (x : Content). Asked (footprint x) mid new) (sym k.1) (same_asked (footprint r) mid new asked))
+    redo_walks a rs judged_is old mid new r.group k.0 walks (subst (λ (x : Content). Asked (footprint x) mid new) (sym k.1) asked)
 
 -- the disk once these records are redone, one after the other
 abbrev pub redone_by : List Content → Disk → Disk
 redone_by [] d = d
-redone_by (r ∷ rs) d = redone_by rs (calls.placed r.group 0 r.placements (calls.removed r.removals d))
+redone_by (r ∷ rs) d = redone_by rs (with_placed r.group 0 r.placements (with_removed r.removals d))
 
-pub redone_step : (rs : List Content) (i : ℕ) (r : Content) (d : Disk) → i < length rs → r ≡ get_or rs i r → redone_by (drop (suc i) rs) (calls.placed r.group 0 r.placements (calls.removed r.removals d)) ≡ redone_by (drop i rs) d
+pub redone_step : (rs : List Content) (i : ℕ) (r : Content) (d : Disk) → i < length rs → r ≡ get_or rs i r → redone_by (drop (suc i) rs) (with_placed r.group 0 r.placements (with_removed r.removals d)) ≡ redone_by (drop i rs) d
 redone_step [] i r d lt is = absurd (omega arith)
-redone_step (x ∷ rs) zero r d lt is = ap (λ (y : Content). redone_by rs (calls.placed y.group 0 y.placements (calls.removed y.removals d))) is
+redone_step (x ∷ rs) zero r d lt is = ap (λ (y : Content). redone_by rs (with_placed y.group 0 y.placements (with_removed y.removals d))) is
 redone_step (x ∷ rs) (suc i) r d lt is = redone_step rs i r d (omega arith) is
 
 pub redone_end : (rs : List Content) (i : ℕ) (d : Disk) → length rs ≤ i → redone_by (drop i rs) d ≡ d
@@ -70,14 +64,6 @@ redone_end [] zero d le = refl
 redone_end [] (suc i) d le = refl
 redone_end (r ∷ rs) zero d le = absurd (omega arith)
 redone_end (r ∷ rs) (suc i) d le = redone_end rs i d (omega arith)
-
-same_removed : (ps : List (List ℕ)) (d : Disk) → calls.removed ps d ≡ with_removed ps d
-same_removed [] d = refl
-same_removed (p ∷ ps) d = same_removed ps (write d p None)
-
-same_placed : (g i : ℕ) (ps : List Placement) (d : Disk) → calls.placed g i ps d ≡ with_placed g i ps d
-same_placed g i [] d = refl
-same_placed g i (p ∷ ps) d = same_placed g (suc i) ps (write d p.path (d.holds (stage_path g i)))
 
 same_redone : (c : Map) (taken : List (List ℕ)) (ns : List ℕ) (rs : List Content) (d : Disk) → judged_all c taken ns ≡ Ok rs → redone_by rs d ≡ with_redone c ns d
 unfolding judged_all
@@ -91,10 +77,8 @@ same_redone c taken (k ∷ ns) rs d h =
     let d1 = with_placed k 0 r.placements (with_removed r.removals d) in
     ap (λ (l : List Content). redone_by l d) (sym (same_records (a.0 ∷ b.0) rs b.2))
     ∙ (ap (redone_by b.0)
-    (same_placed a.0.group 0 a.0.placements (calls.removed a.0.removals d)
-    ∙ (ap (with_placed a.0.group 0 a.0.placements) (same_removed a.0.removals d)
-    ∙ (ap (λ (n : ℕ). with_placed n 0 a.0.placements (with_removed a.0.removals d)) form.number
-    ∙ ap (λ (x : Content). with_placed k 0 x.placements (with_removed x.removals d)) (sym found))))
+    (ap (λ (n : ℕ). with_placed n 0 a.0.placements (with_removed a.0.removals d)) form.number
+    ∙ ap (λ (x : Content). with_placed k 0 x.placements (with_removed x.removals d)) (sym found))
     ∙ same_redone c (taken ++ footprint a.0) ns b.0 d1 b.1)
 
 -- once all records are redone, the disk reads as it shall
@@ -110,11 +94,11 @@ moves_below old new p q out below (inr k) = ap (λ (s : Story). s.now.holds q) k
   | inr e ↦ e
 ])
 
-asked_below : (ps : List (List ℕ)) (old new : Story) (q : List ℕ) → ((p : List ℕ) → Has ps p → is_below jobs p ≡ false) → is_below jobs q ≡ true → calls.Asked ps old new → new.now.holds q ≡ old.now.holds q
+asked_below : (ps : List (List ℕ)) (old new : Story) (q : List ℕ) → ((p : List ℕ) → Has ps p → is_below jobs p ≡ false) → is_below jobs q ≡ true → Asked ps old new → new.now.holds q ≡ old.now.holds q
 asked_below [] old new q out below e = ap (λ (s : Story). s.now.holds q) e
 asked_below (p ∷ ps) old new q out below h = asked_below ps h.0 new q (λ x has. out x (inr has)) below h.2 ∙ moves_below old h.0 p q (out p (inl refl)) below h.1
 
-pub footprint_below : (r : Content) (old new : Story) (q : List ℕ) → are_free [] (footprint r) ≡ true → is_below jobs q ≡ true → calls.Asked (footprint r) old new → new.now.holds q ≡ old.now.holds q
+pub footprint_below : (r : Content) (old new : Story) (q : List ℕ) → are_free [] (footprint r) ≡ true → is_below jobs q ≡ true → Asked (footprint r) old new → new.now.holds q ≡ old.now.holds q
 footprint_below r old new q free below asked = asked_below (footprint r) old new q (free_outside r free) below asked
 
 -- each placement has an object in its stage

@@ -9,14 +9,13 @@ use Rattle.file_tree.proofs.Moments.{Runs, runs_start, runs_sync}
 use Rattle.merge_record.specs.Judging.{is_in}
 use Rattle.merge_record.specs.Names.{gate_path, jobs}
 use Rattle.merge_record.proofs.Form.{in_if_has}
-use Rattle.group_merge.specs.Calls.{Asked, removed}
-use Rattle.group_merge.specs.Group.{cleared}
-use Rattle.group_merge.specs.Phases.{IsShut}
-use Rattle.group_merge.proofs.Asked.{runs_asked}
-use Rattle.group_merge.proofs.Images.{shut_leaves}
-use Rattle.group_merge.proofs.Survives.{fixed_write, quiet_write, shut_settled}
-use Rattle.group_merge.proofs.Turns.{removed_holds}
-use Rattle.group_merge.proofs.Walk.{Before}
+use Rattle.merge_record.specs.Recovered.{IsRecovered}
+use Rattle.merge_core.specs.Recovery.{Asked, with_removed}
+use Rattle.merge_core.proofs.Keeps.{fixed_write}
+use Rattle.recovery.specs.Phases.{IsShut, cleared}
+use Rattle.recovery.proofs.Asked.{runs_asked}
+use Rattle.recovery.proofs.Shut.{quiet_write, shut_leaves, shut_settled}
+use Rattle.recovery.proofs.Stages.{removed_holds}
 use Rattle.basics.proofs.Membership.{has-from_contains, contains-from_has}
 use Rattle.basics.proofs.Tests.{none_is_not_some}
 
@@ -31,7 +30,7 @@ shut_below m p below none d x k = record {
 abbrev pub AreBelow : List (List ℕ) → Disk → Type 0
 AreBelow ps d = (q : List ℕ) → Contains ps q ↔ ((is_below jobs q ≡ true) × IsSome (d.holds q))
 
-pub cleared_at_end : (m : Map) (ps : List (List ℕ)) (d d' : Disk) → AreBelow ps d → IsShut m d' → d' ≡ settled (removed ps d) → (q : List ℕ) → d'.holds q ≡ cleared m q
+pub cleared_at_end : (m : Map) (ps : List (List ℕ)) (d d' : Disk) → AreBelow ps d → IsShut m d' → d' ≡ settled (with_removed ps d) → (q : List ℕ) → d'.holds q ≡ cleared m q
 cleared_at_end m ps d d' all k is q = go (is_below jobs q) refl
   where
     gone : is_below jobs q ≡ true → (x : Option Thing) → d.holds q ≡ x → cond (is_in ps q) None (d.holds q) ≡ None
@@ -46,6 +45,9 @@ cleared_at_end m ps d d' all k is q = go (is_below jobs q) refl
 pub listed : (folder : List ℕ) (items ps : List (List ℕ)) (d : Disk) → folder ≡ jobs → ps ≡ items → ((q : List ℕ) → Contains items q ↔ ((is_below folder q ≡ true) × IsSome (d.holds q))) → AreBelow ps d
 listed folder items ps d is same told =
     subst (λ (l : List (List ℕ)). AreBelow l d) (sym same) (subst (λ (j : List ℕ). (q : List ℕ) → Contains items q ↔ ((is_below j q ≡ true) × IsSome (d.holds q))) is told)
+
+abbrev pub Before : Map → Map → Type 0
+Before m c = IsRecovered c (cleared m)
 
 pub shut_begins : (m : Map) (s : Story) → IsShut m s.now → Runs (IsShut m) (Before m) s s
 shut_begins m s k = runs_start (IsShut m) (Before m) (shut_leaves m) s k

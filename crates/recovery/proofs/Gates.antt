@@ -1,6 +1,6 @@
 -- What is found at the gates of a map.
-use Rattle.std.proofs.Common.{◌≡◌, ◌<◌, ◌≤◌, ◌^◌, ℕ, [], Bool, true, false, not, length, List, Option, None, Some, Result, Ok, refl, sym, ap, subst, ◌∙◌, arith}
-use Rattle.std.specs.Prelude.{◌↔◌, Err, IsSome, filter}
+use Rattle.std.proofs.Common.{◌≡◌, ◌≤◌, ◌^◌, ℕ, [], Bool, true, not, length, List, Option, None, Some, Result, Ok, refl, sym, ap, subst, ◌∙◌, arith}
+use Rattle.std.specs.Prelude.{◌↔◌, IsSome, filter}
 use Rattle.basics.specs.Members.{Has}
 use Rattle.file_tree.specs.Disk.{Map, Story}
 use Rattle.file_tree.specs.Thing.{Thing}
@@ -9,7 +9,7 @@ use Rattle.file_tree.specs.declared.fault.TreeFault.TheVariants as tree_faults
 use Rattle.merge_record.specs.Content.{Content}
 use Rattle.merge_record.specs.Judging.{Misses, judged_all, judged_open}
 use Rattle.merge_record.specs.Names.{gate_path}
-use Rattle.merge_record.specs.Open.{IsRising, is_open, open_groups}
+use Rattle.merge_record.specs.Open.{is_open, open_groups}
 use Rattle.merge_record.proofs.Opened.{Opens, open_groups_only, same_list}
 use Rattle.merge_record.specs.declared.fault.JudgeFault.{JudgeFault}
 use Rattle.merge_record.specs.declared.fault.JudgeFault.TheVariants as judge_faults

@@ -1,7 +1,10 @@
 pub mod Applied
+pub mod Asked
 pub mod Cleared
 pub mod Gates
 pub mod Lists
 pub mod Places
+pub mod Shut
+pub mod Stages
 pub mod Steps
 pub mod Stretches

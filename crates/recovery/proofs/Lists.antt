@@ -1,6 +1,6 @@
 -- Membership told in two ways, and lists without repetition.
-use Rattle.std.proofs.Common.{◌≡◌, ◌⊎◌, ◌<◌, ◌≤◌, ◌+◌, ◌^◌, ℕ, zero, suc, Bool, true, false, cond, List, [], ◌∷◌, ◌++◌, Option, None, Some, inl, inr, refl, sym, ap, subst, ◌∙◌, arith, add-one, append_assoc, append-nil, drop, drop-cons, eqb, get_or, length, map, take}
-use Rattle.std.specs.Prelude.{◌↔◌, Contains, MatchOption, filter}
+use Rattle.std.proofs.Common.{◌≡◌, ◌⊎◌, ◌<◌, ◌≤◌, ◌+◌, ◌^◌, ℕ, zero, suc, Bool, true, false, List, [], ◌∷◌, ◌++◌, Option, None, Some, inl, inr, refl, sym, ap, subst, ◌∙◌, arith, add-one, append_assoc, append-nil, drop, eqb, get_or, length, map, take}
+use Rattle.std.specs.Prelude.{◌↔◌, MatchOption, filter}
 use Rattle.std.specs.Cmp.Lexicographic.{slice_cmp}
 use Rattle.std.specs.List.{AllByRecursion, AllPairs, IsDistinct}
 use Rattle.std.specs.List.Sorted.{IsPermutation, IsSorted, IsStrictlySortedBy}
@@ -17,7 +17,6 @@ use Rattle.basics.specs.Members.{AreDistinct, Has}
 use Rattle.basics.proofs.Membership.{has-append_cases, has-append_left, has-append_right, has-from_contains, contains-from_has, has-filter_back}
 use Rattle.merge_record.specs.Names.{gate_path}
 use Rattle.merge_record.specs.Open.{IsRising}
-use Rattle.group_merge.proofs.Walk.{has_at}
 use Rattle.recovery.proofs.Places.{gates_same}
 
 -- ---- a loop over a list that makes another
@@ -50,7 +49,10 @@ kept_pass p front gs i x total lt is fails so_far =
 pub kept_end : (p : ℕ → Bool) (front gs : List ℕ) (i : ℕ) (total : List ℕ) → length gs ≤ i → front ++ filter p (drop i gs) ≡ total → front ≡ total
 kept_end p front gs i total le so_far = sym (append-nil front) ∙ (ap (λ (l : List ℕ). front ++ filter p l) (sym (drop_all i gs le)) ∙ so_far)
 
--- ---- what a filter keeps
+-- ---- an element by its place
+
+pub has_at : {A : Type 0} (xs : List A) (i : ℕ) (x : A) → i < length xs → x ≡ get_or xs i x → Has xs x
+has_at xs i x lt is = has-from_contains xs x (i, lt, sym is)
 
 -- ---- the front of a list, one element at a time
 

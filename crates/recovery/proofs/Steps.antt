@@ -1,8 +1,7 @@
 -- From call to call.
-use Rattle.std.proofs.Common.{◌≡◌, ◌<◌, ◌^◌, ℕ, zero, suc, false, List, [], ◌∷◌, ◌++◌, Some, refl, ap, subst, ◌∙◌, inl, inr, arith, length, drop, get_or, map}
+use Rattle.std.proofs.Common.{◌≡◌, ◌<◌, ◌^◌, ℕ, zero, suc, false, List, [], ◌∷◌, Some, refl, ap, subst, ◌∙◌, inl, inr, arith, length, drop, get_or, map}
 use Rattle.std.specs.Prelude.{bytes_eq}
 use Rattle.std.proofs.lemmas.Bool.{cases_Bool, cond-false, cond-true}
-use Rattle.std.proofs.lemmas.List.{length-append}
 use Rattle.std.proofs.lemmas.Slice.Eq.{bytes_eq-Decides}
 use Rattle.basics.specs.Members.{Has}
 use Rattle.file_tree.specs.Disk.{Disk, Moves, Story, write}
@@ -10,22 +9,15 @@ use Rattle.file_tree.specs.Paths.{is_below}
 use Rattle.file_tree.specs.Thing.{Thing}
 use Rattle.merge_record.specs.Names.{jobs, record_path}
 use Rattle.merge_record.specs.Names.Part.{Changes}
-use Rattle.merge_record.specs.Spelling.{PassesLimit, number_text, spelling}
+use Rattle.merge_record.specs.Spelling.{PassesLimit}
 use Rattle.merge_record.specs.declared.record.Placement.{Placement}
-use Rattle.merge_record.proofs.Numbers.{length-number_text}
 use Rattle.merge_core.specs.Recovery.{empty_content}
-use Rattle.group_merge.specs.Calls.{Asked}
-use Rattle.group_merge.proofs.Asked.{AskedOn, asked_step}
-use Rattle.group_merge.proofs.Survives.{journal_apart, part_below}
-use Rattle.group_merge.proofs.Turns.{held_here, held_there}
 use Rattle.recovery.specs.Calls.{empty_record, emptied}
-use Rattle.recovery.proofs.Places.{records_same}
+use Rattle.recovery.proofs.Asked.{AskedOn, asked_step}
+use Rattle.recovery.proofs.Places.{journal_apart, records_same}
+use Rattle.merge_core.proofs.Keeps.{write_reads}
+use Rattle.merge_core.proofs.Paths.{file_below}
 use Rattle.merge_core.proofs.Redo.{empty_length}
-
--- calls on some paths, and then on others
-pub asked_both : (ps qs : List (List ℕ)) (old mid new : Story) → Asked ps old mid → Asked qs mid new → Asked (ps ++ qs) old new
-asked_both [] qs old mid new a b = subst (λ (s : Story). Asked qs s new) a b
-asked_both (p ∷ ps) qs old mid new a b = (a.0, a.1, asked_both ps qs a.0 mid new a.2 b)
 
 record_at : (gs : List ℕ) (i : ℕ) (p : List ℕ) → i < length gs → p ≡ record_path (get_or gs i 0) → p ≡ get_or (map record_path gs) i p
 record_at [] i p lt is = absurd (omega arith)
@@ -51,7 +43,7 @@ pub emptied_outside : (gs : List ℕ) (d : Disk) (q : List ℕ) → is_below job
 emptied_outside [] d q out = refl
 emptied_outside (g ∷ gs) d q out =
     emptied_outside gs (write d (record_path g) (Some (empty_record g))) q out
-    ∙ held_there d (record_path g) q (Some (empty_record g)) (journal_apart (record_path g) q (part_below g Changes) out)
+    ∙ write_reads d (record_path g) q (Some (empty_record g)) (d.holds q) (inr (journal_apart (record_path g) q (file_below g Changes) out, refl))
 
 emptied_stays : (gs : List ℕ) (d : Disk) (h : ℕ) → h < 2 ^ 32 → ((g : ℕ) → Has gs g → g < 2 ^ 32) → d.holds (record_path h) ≡ Some (empty_record h) → (emptied gs d).holds (record_path h) ≡ Some (empty_record h)
 emptied_stays [] d h hs small e = e
@@ -68,7 +60,7 @@ pub emptied_has : (gs : List ℕ) (d : Disk) (h : ℕ) → h < 2 ^ 32 → ((g : 
 emptied_has [] d h hs small has = absurd has
 emptied_has (g ∷ gs) d h hs small (inl e) =
     emptied_stays gs (write d (record_path g) (Some (empty_record g))) h hs (λ k has. small k (inr has))
-    (subst (λ (n : ℕ). (write d (record_path g) (Some (empty_record g))).holds (record_path n) ≡ Some (empty_record n)) e (held_here d (record_path g) (Some (empty_record g))))
+    (subst (λ (n : ℕ). (write d (record_path g) (Some (empty_record g))).holds (record_path n) ≡ Some (empty_record n)) e (write_reads d (record_path g) (record_path g) (Some (empty_record g)) (Some (empty_record g)) (inl (refl, refl))))
 emptied_has (g ∷ gs) d h hs small (inr k) = emptied_has gs (write d (record_path g) (Some (empty_record g))) h hs (λ k has. small k (inr has)) k
 
 -- ---- a record without paths passes no limit

@@ -19,20 +19,16 @@ use Rattle.merge_record.specs.Recovered.{IsRecovered}
 use Rattle.merge_record.proofs.Form.{in_if_has}
 use Rattle.merge_core.specs.Order.{IsFirm}
 use Rattle.merge_core.specs.Phase.{gate_owed}
-use Rattle.merge_core.specs.Recovery.{Recovers, found_content, found_group, recovered, redo, redone, redone_phase, shut}
-use Rattle.merge_core.specs.Roll.{Standing, phase_at, stood}
+use Rattle.merge_core.specs.Recovery.{Asked, Recovers, found_group, recovered, redo, redone, redone_phase, shut, with_removed}
+use Rattle.merge_core.specs.Roll.{phase_at, stood}
 use Rattle.merge_core.proofs.Paths.{covered_outside, live_if_working}
 use Rattle.merge_core.proofs.Redo.{beginning_recovers, found_by, gates_settle, judged_opens, redo_firm, redo_recovers, redo_settles, redo_sound, redone_recovers, working_among}
 use Rattle.merge_core.proofs.Walk.{first_sync, gates_walk, odd_walks, walk_start, walk_synced}
-use Rattle.group_merge.specs.Calls.{Asked, removed}
-use Rattle.group_merge.specs.Group.{cleared}
-use Rattle.group_merge.specs.Phases.{IsShut}
-use Rattle.group_merge.proofs.Turns.{removed_holds}
 use Rattle.recovery.specs.Calls.{emptied}
-use Rattle.recovery.specs.Found.{AreGates, AreOdd, Found, IsFound}
-use Rattle.recovery.specs.Phases.{IsRedone}
+use Rattle.recovery.specs.Found.{AreOdd, Found, IsFound}
+use Rattle.recovery.specs.Phases.{IsRedone, IsShut, cleared}
 use Rattle.recovery.specs.Promise.{RecoversAlike}
-use Rattle.recovery.proofs.Applied.{same_asked}
+use Rattle.recovery.proofs.Stages.{removed_holds}
 use Rattle.recovery.proofs.Steps.{emptied_has, emptied_outside}
 use Rattle.basics.proofs.Tests.{none_is_not_some}
 
@@ -46,7 +42,7 @@ applied_begins s rs form untouched =
 
 pub odd_emptied : (a : Map) (rs : List Content) (gs : List ℕ) (old mid new : Story) → judged_open a ≡ Ok rs → AreOdd a gs → Recovers a (redo a) old mid → Asked (map record_path gs) mid new → Recovers a (redo a) old new
 odd_emptied a rs gs old mid new form odd walks asked =
-    odd_walks a rs form old mid new gs (λ g has. let k = (odd g).0 has in (k.small, k.odd)) walks (same_asked (map record_path gs) mid new asked)
+    odd_walks a rs form old mid new gs (λ g has. let k = (odd g).0 has in (k.small, k.odd)) walks asked
 
 pub redo_synced : (a : Map) (rs : List Content) (old mid new : Story) → judged_open a ≡ Ok rs → Recovers a (redo a) old mid → Syncs mid new → Recovers a (redo a) old new
 redo_synced a rs old mid new form walks = walk_synced a (redo a) old mid new (redo_recovers a rs (judged_opens a rs form)) walks
@@ -75,7 +71,7 @@ gates_begin a gs s k = walk_start a (redone a) s (redone_recovers a k.records (j
 
 pub gates_go : (a : Map) (gs : List ℕ) (s new : Story) → IsRedone a gs s.now → Asked (map gate_path gs) s new → Recovers a (redone a) s new
 gates_go a gs s new k asked =
-    gates_walk a k.records k.form s s new gs (λ g has. (k.gates.has g).0 has) (gates_begin a gs s k) (same_asked (map gate_path gs) s new asked)
+    gates_walk a k.records k.form s s new gs (λ g has. (k.gates.has g).0 has) (gates_begin a gs s k) asked
 
 pub gates_synced : (a : Map) (gs : List ℕ) (s mid new : Story) → IsRedone a gs s.now → Recovers a (redone a) s mid → Syncs mid new → Recovers a (redone a) s new
 gates_synced a gs s mid new k walks = walk_synced a (redone a) s mid new (redone_recovers a k.records (judged_opens a k.records k.form)) walks
@@ -96,7 +92,7 @@ bare_gate a d g small firm none =
           (λ i low is e. absurd (none_is_open (a (gate_path i)) e is)) (λ i low is some e. absurd (none_is_not_some (a (gate_path i)) e some)) (λ i bare e. refl) g none;
     }))).reads
 
-gate_gone : (a : Map) (gs : List ℕ) (d : Disk) (g : ℕ) → IsRedone a gs d → g < 2 ^ 32 → (removed (map gate_path gs) d).holds (gate_path g) ≡ None
+gate_gone : (a : Map) (gs : List ℕ) (d : Disk) (g : ℕ) → IsRedone a gs d → g < 2 ^ 32 → (with_removed (map gate_path gs) d).holds (gate_path g) ≡ None
 gate_gone a gs d g k small = removed_holds (map gate_path gs) d (gate_path g) ∙ go (a (gate_path g)) refl
   where
     go : (x : Option Thing) → a (gate_path g) ≡ x → cond (is_in (map gate_path gs) (gate_path g)) None (d.holds (gate_path g)) ≡ None
@@ -113,7 +109,7 @@ shut_if_firm a d firm = record {
   gates = λ h small. firm.keeps (gate_path h) None (inl (record { group = h; small = small; part = Gate; path = refl; owed = refl }));
 }
 
-pub shut_if_gone : (a : Map) (gs : List ℕ) (s mid new : Disk) → IsRedone a gs s → IsFirm a (redone a) mid → mid ≡ removed (map gate_path gs) s → new ≡ settled mid → IsShut (stood a (redo a)) new
+pub shut_if_gone : (a : Map) (gs : List ℕ) (s mid new : Disk) → IsRedone a gs s → IsFirm a (redone a) mid → mid ≡ with_removed (map gate_path gs) s → new ≡ settled mid → IsShut (stood a (redo a)) new
 shut_if_gone a gs s mid new k firm gone synced =
     subst (λ (d : Disk). IsShut (stood a (redo a)) d) (sym synced)
     (shut_if_firm a (settled mid) (gates_settle a k.records (judged_opens a k.records k.form) mid firm (λ g small. ap (λ (d : Disk). d.holds (gate_path g)) gone ∙ gate_gone a gs s g k small)))

@@ -3,3 +3,4 @@ pub mod Faults
 pub mod Found
 pub mod Phases
 pub mod Promise
+pub mod Stages

@@ -5,12 +5,10 @@ ghost use Rattle.merge_record.specs.Names.{gate_path};
 ghost use Rattle.merge_record.specs.Recovered.{IsRecovered};
 ghost use Rattle.merge_core.specs.Recovery.{recovered, redo};
 ghost use Rattle.merge_core.specs.Roll.{stood};
-ghost use Rattle.group_merge.specs.Group.{cleared};
-ghost use Rattle.group_merge.specs.Phases.{IsShut};
-ghost use Rattle.recovery.specs.Phases.{IsRedone};
+ghost use Rattle.recovery.specs.Phases.{IsRedone, IsShut, cleared};
 
+use crate::changes::remove_all;
 use file_tree::{Path, Tree, TreeFault};
-use group_merge::remove_all;
 use merge_record::{gate_path, jobs_folder};
 use std::alloc::{AllocError, Global};
 

@@ -16,10 +16,12 @@
 //! ```
 #![tactic(auto)]
 
+mod changes;
 mod clearing;
 mod fault;
 mod finding;
 mod limits;
+mod paths;
 mod redoing;
 mod run;
 

@@ -3,16 +3,16 @@ ghost use Rattle.std.specs.Prelude.{IsErrOf, IsSome, IsTrue, OnOk};
 ghost use Rattle.file_tree.specs.Disk.{CountsFault, IsUntouched};
 ghost use Rattle.merge_record.specs.Judging.{are_free, footprint, judged_open};
 ghost use Rattle.merge_record.specs.Names.{record_path, stage_path};
-ghost use Rattle.merge_core.specs.Recovery.{Recovers, redo};
+ghost use Rattle.merge_core.specs.Recovery.{Asked, Recovers, redo, with_placed, with_removed};
 ghost use Rattle.merge_core.specs.Roll.{stood};
-ghost use Rattle.group_merge.specs.Calls.{Asked, placed, removed};
 ghost use Rattle.recovery.specs.Calls.{empty_record, emptied};
 ghost use Rattle.recovery.specs.Found.{AreApplicable, IsFound};
 ghost use Rattle.recovery.specs.Phases.{IsRedone};
 
+use crate::changes::{place_all, remove_all};
 use crate::finding::Journal;
+use crate::paths::StagePaths;
 use file_tree::{Kind, Object, Tree, TreeFault};
-use group_merge::{JournalPaths, place_all, remove_all};
 use merge_record::{Record, RecordFault, encode, record_path};
 use std::alloc::{AllocError, Global};
 
@@ -25,13 +25,13 @@ fn apply<T: Tree>(alloc: Global, tree: &mut T, what: &Record) -> Result<(), Tree
     ensures asked { IsTrue T.tells → Asked (footprint what.now) (T.story tree.old)
         (T.story tree.new) }
     ensures ok { IsTrue T.tells → OnOk result
-        ((T.story tree.new).now ≡ placed what.now.group 0 what.now.placements
-        (removed what.now.removals (T.story tree.old).now)) }
+        ((T.story tree.new).now ≡ with_placed what.now.group 0 what.now.placements
+        (with_removed what.now.removals (T.story tree.old).now)) }
     ensures faults { CountsFault (IsErrOf result TreeFault.Failed) (T.faults tree.old)
         (T.faults tree.new) }
 {
     let count = what.placements.len() as u32;
-    let paths = JournalPaths::new(alloc, what.group, count)?;
+    let paths = StagePaths::new(alloc, what.group, count)?;
     remove_all(tree, &what.removals)?;
     place_all(tree, &paths, &what.placements)?;
     Ok(())

@@ -1,9 +1,8 @@
 use Rattle.std.proofs.Common.{◌∙◌, ap, subst, sym}
 use Rattle.file_tree.specs.Disk.{Story, settled}
 use Rattle.file_tree.specs.Moments.{Since}
-use Rattle.group_merge.specs.Calls.{Asked, removed}
-use Rattle.group_merge.proofs.Walk.{Before}
-use Rattle.recovery.proofs.Cleared.{cleared_at_end, listed, shut_begins, shut_cleared, shut_synced}
+use Rattle.merge_core.specs.Recovery.{Asked, with_removed}
+use Rattle.recovery.proofs.Cleared.{Before, cleared_at_end, listed, shut_begins, shut_cleared, shut_synced}
 use Rattle.recovery.proofs.clearing.clear_journal.Goals as goal
 
 pub returns-in_err-jobs-clause-moments : goal.returns-in_err-jobs-clause-moments
@@ -49,5 +48,5 @@ returns-clause-cleared g c t m shut =
     let asked = subst (λ (x : Story). Asked c.deref.result.now x s2) (c.list.ensures.same t) (c.remove_all.ensures.asked t) in
     let run = shut_synced m s s2 s3 (shut_cleared m c.deref.result.now s s2 all shut asked) (c.sync.ensures.moved t) in
     let gone = ap (λ (x : Story). x.now) (c.in_ok-sync.ensures.ok t)
-    ∙ (ap settled (c.in_ok-remove_all.ensures.ok t) ∙ ap (λ (x : Story). settled (removed c.deref.result.now x.now)) (c.list.ensures.same t)) in
+    ∙ (ap settled (c.in_ok-remove_all.ensures.ok t) ∙ ap (λ (x : Story). settled (with_removed c.deref.result.now x.now)) (c.list.ensures.same t)) in
     cleared_at_end m c.deref.result.now s.now s3.now all run.phase gone

@@ -1,6 +1,6 @@
 use Rattle.std.proofs.Common.{◌∙◌, ℕ, List, ap, subst}
 use Rattle.file_tree.specs.Disk.{Story}
-use Rattle.group_merge.specs.Calls.{Asked, removed}
+use Rattle.merge_core.specs.Recovery.{Asked, with_removed}
 use Rattle.recovery.proofs.Stretches.{gates_begin, gates_go, gates_synced, shut_if_gone}
 use Rattle.recovery.proofs.clearing.remove_gates.Goals as goal
 
@@ -38,4 +38,4 @@ returns-clause-ok g c t a k =
     let paths = c.deref.ensures.value ∙ c.in_ok-paths.ensures in
     let asked = subst (λ (l : List (List ℕ)). Asked l s s1) paths (c.remove_all.ensures.asked t) in
     shut_if_gone a c.args.groups.now s.now s1.now s2.now k (gates_go a c.args.groups.now s s1 k asked).1
-    (c.in_ok-remove_all.ensures.ok t ∙ ap (λ (l : List (List ℕ)). removed l s.now) paths) (ap (λ (x : Story). x.now) (c.in_ok-sync.ensures.ok t))
+    (c.in_ok-remove_all.ensures.ok t ∙ ap (λ (l : List (List ℕ)). with_removed l s.now) paths) (ap (λ (x : Story). x.now) (c.in_ok-sync.ensures.ok t))

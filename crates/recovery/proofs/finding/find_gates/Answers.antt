@@ -3,7 +3,7 @@ use Rattle.basics.specs.Members.{Has}
 use Rattle.file_tree.specs.Paths.{is_below}
 use Rattle.merge_record.specs.Names.{gate_path}
 use Rattle.merge_record.specs.Names.Part.{Gate}
-use Rattle.group_merge.proofs.Survives.{part_below}
+use Rattle.merge_core.proofs.Paths.{file_below}
 use Rattle.recovery.proofs.Lists.{distinct_if_sorted}
 use Rattle.recovery.proofs.finding.find_gates.Goals as goal
 use Rattle.basics.proofs.Membership.{has-from_contains, contains-from_has}
@@ -18,7 +18,7 @@ returns-clause-gates g c t = record {
       let moved = c.in_ok-rising.ensures.same h in
       let listed = c.in_ok-groups.ensures.gates h in
       let told = c.in_ok-paths.ensures.answer t (gate_path h) in
-      let below : is_below c.in_ok-jobs.jobs (gate_path h) ≡ true = ap (λ (j : List ℕ). is_below j (gate_path h)) c.in_ok-jobs.ensures ∙ part_below h Gate in (
+      let below : is_below c.in_ok-jobs.jobs (gate_path h) ≡ true = ap (λ (j : List ℕ). is_below j (gate_path h)) c.in_ok-jobs.ensures ∙ file_below h Gate in (
         λ has.
             let b = listed.0 (moved.0 has) in
             (b.0, (told.0 (contains-from_has c.in_ok-paths.paths.items (gate_path h) (subst (λ (l : List (List ℕ)). Has l (gate_path h)) c.deref.ensures.value b.1))).1),

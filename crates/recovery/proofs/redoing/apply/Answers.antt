@@ -6,11 +6,10 @@ use Rattle.merge_record.specs.Content.{Content}
 use Rattle.merge_record.specs.Judging.{footprint, path_of}
 use Rattle.merge_record.specs.Names.{stage_path}
 use Rattle.merge_record.specs.declared.record.Placement.{Placement}
-use Rattle.group_merge.specs.Calls.{Asked}
-use Rattle.group_merge.proofs.Asked.{asked_stays}
-use Rattle.group_merge.proofs.Turns.{removed_stays}
+use Rattle.merge_core.specs.Recovery.{Asked}
+use Rattle.recovery.proofs.Asked.{asked_both, asked_stays}
+use Rattle.recovery.proofs.Stages.{removed_stays}
 use Rattle.recovery.proofs.Places.{placement_outside, removal_outside}
-use Rattle.recovery.proofs.Steps.{asked_both}
 use Rattle.recovery.proofs.redoing.apply.Goals as goal
 
 pub returns-in_err-paths-clause-asked : goal.returns-in_err-paths-clause-asked

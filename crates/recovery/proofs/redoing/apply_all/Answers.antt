@@ -4,7 +4,7 @@ use Rattle.file_tree.specs.Thing.{Thing}
 use Rattle.merge_record.specs.Names.{stage_path}
 use Rattle.merge_record.specs.Names.Part.{Stage}
 use Rattle.merge_record.specs.Open.{open_groups}
-use Rattle.group_merge.proofs.Walk.{has_at}
+use Rattle.recovery.proofs.Lists.{has_at}
 use Rattle.merge_core.proofs.Paths.{file_below}
 use Rattle.merge_core.proofs.Redo.{judged_opens}
 use Rattle.recovery.proofs.Applied.{all_read, footprint_below, one_walks, record_staged, redone_by, redone_end, redone_step}

@@ -1,7 +1,7 @@
 use Rattle.std.proofs.Common.{◌≡◌, ◌≤◌, drop, map}
 use Rattle.std.specs.Prelude.{IsTrue}
 use Rattle.merge_record.specs.Names.{record_path}
-use Rattle.group_merge.proofs.Asked.{AskedOn}
+use Rattle.recovery.proofs.Asked.{AskedOn}
 use Rattle.recovery.specs.Calls.{emptied}
 use Rattle.recovery.proofs.redoing.empty_records.Given as goal
 

@@ -3,7 +3,7 @@ use Rattle.file_tree.specs.Disk.{Story}
 use Rattle.merge_record.specs.Content.{Content}
 use Rattle.merge_record.specs.Judging.{judged_open}
 use Rattle.merge_record.specs.Names.{record_path}
-use Rattle.group_merge.specs.Calls.{Asked}
+use Rattle.merge_core.specs.Recovery.{Asked}
 use Rattle.recovery.specs.Calls.{emptied}
 use Rattle.recovery.specs.Found.{AreApplicable, Found}
 use Rattle.recovery.proofs.Stretches.{odd_emptied, redo_synced, redone_if_synced}

@@ -1,7 +1,7 @@
 use Rattle.std.proofs.Common.{ℕ, List, ◌++◌, ◌∷◌, [], ap, ◌∙◌, sym, length, arith, length-append}
 use Rattle.merge_record.specs.Names.{stage_path}
-use Rattle.group_merge.proofs.Stages.{stages_more}
-use Rattle.group_merge.proofs.paths.stage_paths.Goals as goal
+use Rattle.recovery.proofs.Stages.{stages_more}
+use Rattle.recovery.proofs.paths.stage_paths.Goals as goal
 
 pub loop-index-preserved : goal.loop-index-preserved
 loop-index-preserved c =

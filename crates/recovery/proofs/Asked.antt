@@ -1,19 +1,24 @@
 -- From call to call, where each is asked to change the next of a list of paths.
-use Rattle.std.proofs.Common.{◌≡◌, ◌<◌, ℕ, zero, suc, List, [], ◌∷◌, ap, Option, inl, inr, refl, subst, arith, length, drop, get_or, map}
+use Rattle.std.proofs.Common.{◌≡◌, ◌<◌, ℕ, zero, suc, List, [], ◌∷◌, ◌++◌, Option, inl, inr, refl, subst, arith, length, drop, get_or, map}
 use Rattle.basics.specs.Members.{Has}
 use Rattle.file_tree.specs.Disk.{Disk, Map, Moves, Story, write}
 use Rattle.file_tree.specs.Moments.{Leaves}
 use Rattle.file_tree.specs.Thing.{Thing}
 use Rattle.file_tree.proofs.Moments.{Runs, runs_move, runs_same}
 use Rattle.merge_record.specs.Judging.{path_of}
-use Rattle.merge_record.proofs.Free.{length-paths}
+use Rattle.merge_record.proofs.Free.{length-paths, path_at_map}
 use Rattle.merge_record.specs.declared.record.Placement.{Placement}
-use Rattle.group_merge.specs.Calls.{Asked}
+use Rattle.merge_core.specs.Recovery.{Asked}
 
 -- no call was made
 pub asked_stays : (ps : List (List ℕ)) (s : Story) → Asked ps s s
 asked_stays [] s = refl
 asked_stays (p ∷ ps) s = (s, inl refl, asked_stays ps s)
+
+-- calls on some paths, and then on others
+pub asked_both : (ps qs : List (List ℕ)) (old mid new : Story) → Asked ps old mid → Asked qs mid new → Asked (ps ++ qs) old new
+asked_both [] qs old mid new a b = subst (λ (s : Story). Asked qs s new) a b
+asked_both (p ∷ ps) qs old mid new a b = (a.0, a.1, asked_both ps qs a.0 mid new a.2 b)
 
 -- what the calls from a place on make of a whole that went well so far
 abbrev pub AskedOn : List (List ℕ) → ℕ → Story → Story → Type 0
@@ -32,15 +37,11 @@ asked_step i ps p old mid next lt is so_far moves new rest = so_far new (asked_f
 pub asked_whole : (i : ℕ) (ps : List (List ℕ)) (old new : Story) → AskedOn ps i old new → Asked ps old new
 asked_whole i ps old new so_far = so_far new (asked_stays (drop i ps) new)
 
-placed_path : (ps : List Placement) (i : ℕ) (p : Placement) → i < length ps → p ≡ get_or ps i p → path_of p ≡ get_or (map path_of ps) i (path_of p)
-placed_path [] i p lt is = absurd (omega arith)
-placed_path (x ∷ ps) zero p lt is = ap path_of is
-placed_path (x ∷ ps) (suc i) p lt is = placed_path ps i p (omega arith) is
-
+-- one more placement
 pub placed_asked : (i : ℕ) (ps : List Placement) (p : Placement) (old mid next : Story) → i < length ps → p ≡ get_or ps i p → AskedOn (map path_of ps) i old mid → Moves mid (path_of p) next
     → AskedOn (map path_of ps) (suc i) old next
 placed_asked i ps p old mid next lt is so_far moves =
-    asked_step i (map path_of ps) (path_of p) old mid next (omega (arith, lt, length-paths ps)) (placed_path ps i p lt is) so_far moves
+    asked_step i (map path_of ps) (path_of p) old mid next (omega (arith, lt, length-paths ps)) (path_at_map ps i p lt is) so_far moves
 
 -- a phase that survives whatever the calls are asked goes on, and so does what its images have
 pub runs_asked : (Q : Disk → Type 0) (P : Map → Type 0) → ((d : Disk) → Q d → Leaves P d) → (ps : List (List ℕ)) (old mid new : Story)

@@ -1,4 +1,0 @@
-pub mod Calls
-pub mod Files
-pub mod Group
-pub mod Phases
