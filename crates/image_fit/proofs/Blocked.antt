@@ -4,11 +4,12 @@ use Rattle.std.specs.Prelude.{IsSome, is_some}
 use Rattle.std.proofs.lemmas.Bool.{cases_lt, false≢true, true≢false}
 use Rattle.std.proofs.lemmas.List.{length-take-le}
 use Rattle.file_tree.specs.Disk.{Looks, Map}
+use Rattle.file_tree.specs.Paths.{is_below}
 use Rattle.file_tree.specs.declared.objects.Look.{Look}
 use Rattle.file_tree.specs.declared.objects.Look.TheVariants.{Folder, Item, Nothing}
-use Rattle.image_fit.specs.Images.{HoldsPart, IsBlock, IsClear, IsFirstBlock, IsFirstInWay, IsFolder, IsInWay, is_passed}
+use Rattle.image_fit.specs.Images.{HoldsPart, IsBlock, IsClear, IsFirstBlock, IsFolder, is_passed}
 use Rattle.image_fit.proofs.Parts.{above_is_part, none_above_by_parts}
-use Rattle.image_fit.proofs.Ways.{NoneBefore, first_part}
+use Rattle.image_fit.proofs.Ways.{NoneBefore, part_is_above}
 
 not_shorter : (m : Map) (held : Bool) (path r : List ℕ) (at : ℕ) → at ≤ length path → NoneBefore m path at → IsBlock m held path r → at ≤ length r
 not_shorter m held path r at within none (inl (below, some)) =
@@ -22,15 +23,11 @@ not_shorter m held path r at within none (inr (is, there)) = subst (λ (p : List
 -- the part before this place is the first that blocks
 pub first_part_blocks : (m : Map) (held : Bool) (path above : List ℕ) (at : ℕ) → at < length path → NoneBefore m path at → HoldsPart m path at → above ≡ take at path → IsFirstBlock m held path above
 first_part_blocks m held path above at within none holds is =
-    let way = first_part m path above at within none holds is in
-    by way.there (first_length way)
-  where
-    first_length : IsFirstInWay m path above → length above ≡ at
-    first_length way = ap length is ∙ length-take-le at path (omega (arith, within))
-
-    by : IsInWay m path above → length above ≡ at → IsFirstBlock m held path above
-    by (inl part) n = record { there = inl part; least = λ r block. subst (λ (k : ℕ). k ≤ length r) (sym n) (not_shorter m held path r at (omega (arith, within)) none block) }
-    by (inr whole) n = absurd (omega (arith, within, n, ap length whole.0))
+    let n : length above ≡ at = ap length is ∙ length-take-le at path (omega (arith, within)) in
+    record {
+      there = inl (subst (λ (p : List ℕ). is_below p path ≡ true) (sym is) (part_is_above path at within holds.0), subst (λ (p : List ℕ). IsSome (m p)) (sym is) holds.1);
+      least = λ r block. subst (λ (k : ℕ). k ≤ length r) (sym n) (not_shorter m held path r at (omega (arith, within)) none block);
+    }
 
 -- a path that isn't passed is itself the first that blocks
 pub first_whole_blocks : (m : Map) (held : Bool) (path q : List ℕ) (l : Look) → NoneBefore m path (length path) → q ≡ path → Looks m path l → is_passed l held ≡ false → IsFirstBlock m held path q

@@ -1,5 +1,3 @@
 pub mod Blocked
-pub mod Judged
 pub mod Parts
 pub mod Ways
-pub mod Wished

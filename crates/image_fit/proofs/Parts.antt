@@ -4,17 +4,13 @@ use Rattle.std.specs.Prelude.{IsSome, bytes_eq}
 use Rattle.std.proofs.lemmas.Bool.{and_parts, eqb-true, cases_lt}
 use Rattle.std.proofs.lemmas.Slice.Eq.{bytes_eq-Decides}
 use Rattle.std.proofs.Math.ListN.{get_or-eq_default}
-use Rattle.file_tree.specs.Disk.{HasBelow, Map}
+use Rattle.file_tree.specs.Disk.{Map}
 use Rattle.file_tree.specs.Paths.{is_below}
 use Rattle.image_fit.specs.Images.{HoldsPart}
 
-pub none_or_some : {A : Type 0} (x : Option A) → (IsSome x → ⊥) → x ≡ None
+none_or_some : {A : Type 0} (x : Option A) → (IsSome x → ⊥) → x ≡ None
 none_or_some None h = refl
 none_or_some (Some x) h = absurd (h refl)
-
--- a path below one that has nothing below it holds nothing
-pub none_if_bare : (m : Map) (top path : List ℕ) → (HasBelow m top → ⊥) → is_below top path ≡ true → m path ≡ None
-none_if_bare m top path bare below = none_or_some (m path) (λ some. bare (path, below, some))
 
 -- a path above is the part before a slash
 pub above_is_part : (q path : List ℕ) → is_below q path ≡ true → (get_or path (length q) 0 ≡ 47) × (take (length q) path ≡ q)

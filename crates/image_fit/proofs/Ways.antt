@@ -1,65 +1,26 @@
--- What is in the way of a path, by its parts.
-use Rattle.std.proofs.Common.{◌≡◌, ◌⊎◌, ◌<◌, ◌≤◌, ◌+◌, ◌==◌, ℕ, zero, suc, true, List, [], ◌∷◌, ◌++◌, length, take, drop, get_or, Option, Some, refl, ap, sym, ◌∙◌, subst, inl, inr, arith}
-use Rattle.std.specs.Prelude.{IsSome, bytes_eq, slice_get}
+-- The parts of a path one after the other, and the first element of a list.
+use Rattle.std.proofs.Common.{◌≡◌, ◌<◌, ◌+◌, ◌==◌, ℕ, zero, suc, true, List, [], ◌∷◌, ◌++◌, length, take, drop, get_or, Some, ap, sym, ◌∙◌, subst, inl, inr, arith}
+use Rattle.std.specs.Prelude.{bytes_eq, slice_get}
 use Rattle.std.specs.List.{AllByRecursion}
 use Rattle.std.proofs.lemmas.Bool.{cases_lt, eq-eqb}
 use Rattle.std.proofs.lemmas.Slice.Eq.{bytes_eq-Decides}
 use Rattle.std.proofs.lemmas.List.{length-take-le}
-use Rattle.file_tree.specs.Disk.{HasBelow, Looks, Map}
+use Rattle.file_tree.specs.Disk.{Map}
 use Rattle.file_tree.specs.Paths.{is_below}
-use Rattle.file_tree.specs.Thing.{Thing}
-use Rattle.file_tree.specs.declared.objects.Look.{Look}
-use Rattle.file_tree.specs.declared.objects.Look.TheVariants.{Folder, Item, Nothing}
 use Rattle.merge_record.proofs.Steps.{and_both}
-use Rattle.image_fit.specs.Images.{HoldsPart, IsFirst, IsFirstInWay, IsInWay}
-use Rattle.image_fit.proofs.Parts.{above_is_part}
+use Rattle.image_fit.specs.Images.{HoldsPart, IsFirst}
 
 -- no part before this place holds anything
 abbrev pub NoneBefore : Map → List ℕ → ℕ → Type 0
 NoneBefore m path at = (k : ℕ) → k < at → HoldsPart m path k → ⊥
 
--- what is in the way isn't shorter than a place before which no part holds anything
-not_shorter : (m : Map) (path r : List ℕ) (at : ℕ) → at ≤ length path → NoneBefore m path at → IsInWay m path r → at ≤ length r
-not_shorter m path r at within none (inl (below, some)) =
-    let part = above_is_part r path below in
-    elim (cases_lt (length r) at) [
-      | inl lt ↦ absurd (none (length r) lt (part.0, subst (λ (p : List ℕ). IsSome (m p)) (sym part.1) some))
-      | inr ge ↦ ge
-    ]
-not_shorter m path r at within none (inr (is, there)) = subst (λ (p : List ℕ). at ≤ length p) (sym is) within
-
 -- what stands before a slash is above the path
-part_is_above : (path : List ℕ) (at : ℕ) → at < length path → get_or path at 0 ≡ 47 → is_below (take at path) path ≡ true
+pub part_is_above : (path : List ℕ) (at : ℕ) → at < length path → get_or path at 0 ≡ 47 → is_below (take at path) path ≡ true
 part_is_above path at within slash =
     let n : length (take at path) ≡ at = length-take-le at path (omega (arith, within)) in
     and_both (bytes_eq (take at path) (take (length (take at path)) path)) (get_or path (length (take at path)) 0 == 47)
     ((bytes_eq-Decides (take at path) (take (length (take at path)) path)).1 (sym (ap (λ (k : ℕ). take k path) n)))
     (eq-eqb (get_or path (length (take at path)) 0) 47 (ap (λ (k : ℕ). get_or path k 0) n ∙ slash))
-
--- the part before this place is the first in the way
-pub first_part : (m : Map) (path above : List ℕ) (at : ℕ) → at < length path → NoneBefore m path at → HoldsPart m path at → above ≡ take at path → IsFirstInWay m path above
-first_part m path above at within none holds is =
-    let n : length above ≡ at = ap length is ∙ length-take-le at path (omega (arith, within)) in
-    record {
-      there = inl (subst (λ (p : List ℕ). is_below p path ≡ true) (sym is) (part_is_above path at within holds.0), subst (λ (p : List ℕ). IsSome (m p)) (sym is) holds.1);
-      least = λ r way. subst (λ (k : ℕ). k ≤ length r) (sym n) (not_shorter m path r at (omega (arith, within)) none way);
-    }
-
-some_there : (x : Option Thing) (t : Thing) → x ≡ Some t → IsSome x
-some_there x t e = subst (λ (y : Option Thing). IsSome y) (sym e) refl
-
--- something stands at the path or below it, where it looks as anything but nothing
-pub looks_taken : (m : Map) (path : List ℕ) (l : Look) → Looks m path l → (l ≡ Nothing → ⊥) → IsSome (m path) ⊎ HasBelow m path
-looks_taken m path Nothing looks some = absurd (some refl)
-looks_taken m path (Item kind) looks some = inl (some_there (m path) looks.0 looks.1)
-looks_taken m path Folder looks some = inr looks.1
-
--- the path itself is the first in the way
-pub first_whole : (m : Map) (path q : List ℕ) → NoneBefore m path (length path) → q ≡ path → IsSome (m path) ⊎ HasBelow m path → IsFirstInWay m path q
-first_whole m path q none is there = record {
-  there = inr (is, there);
-  least = λ r way. subst (λ (p : List ℕ). length p ≤ length r) (sym is) (not_shorter m path r (length path) (omega arith) none way);
-}
 
 -- one more place at which no part holds anything
 pub none_more : (m : Map) (path : List ℕ) (at : ℕ) → NoneBefore m path at → (HoldsPart m path at → ⊥) → NoneBefore m path (at + 1)

@@ -1,7 +1,6 @@
--- Which images a tree takes, and what each rule says.
-use Rattle.std.specs.Prelude.{◌≡◌, ◌⊎◌, ◌≤◌, ℕ, Bool, true, false, List, ◌∷◌, ◌++◌, None, length, map, nat_le, slice_index, take, IsSome}
+-- Which objects may be placed, and what keeps one from being put at a path.
+use Rattle.std.specs.Prelude.{◌≡◌, ◌⊎◌, ◌≤◌, ℕ, Bool, true, false, List, ◌∷◌, ◌++◌, None, length, nat_le, slice_index, take, IsSome}
 use Rattle.std.specs.List.{AllByRecursion}
-use Rattle.basics.specs.Members.{AreDistinct, Has}
 use Rattle.file_tree.specs.Disk.{HasBelow, Map}
 use Rattle.file_tree.specs.Paths.{is_below}
 use Rattle.file_tree.specs.declared.objects.Entry.{Entry}
@@ -11,8 +10,6 @@ use Rattle.file_tree.specs.declared.objects.Look.TheVariants.{Folder, Item, Noth
 use Rattle.file_tree.specs.declared.objects.Kind.TheVariants.{Exec, Link, Plain}
 use Rattle.link_target.specs.Targets.{is_target}
 use Rattle.merge_record.specs.declared.limits.TheConstants.{MOST_FILE_BYTES}
-use Rattle.owner_book.specs.Rules.{is_reserved}
-use Rattle.image_fit.specs.declared.limits.TheConstants.{MOST_ENTRIES}
 
 -- a file that isn't too large, or a link whose target is in form
 abbrev pub is_good_by : Kind → List ℕ → Bool
@@ -26,43 +23,9 @@ is_good e = is_good_by e.object.kind e.object.bytes
 abbrev pub path_of : Entry → List ℕ
 path_of e = e.path
 
--- nothing stands at a path, below it or above it
-pub record IsFree (m : Map) (path : List ℕ) : Type 0 where
-  pub nothing : m path ≡ None
-  pub none_below : HasBelow m path → ⊥
-  pub none_above : (q : List ℕ) → is_below q path ≡ true → m q ≡ None
-
--- each path stands once, and none is above another
-pub record AreApart (paths : List (List ℕ)) : Type 0 where
-  pub distinct : AreDistinct paths
-  pub flat : (p q : List ℕ) → Has paths p → Has paths q → is_below p q ≡ false
-
--- what is asked of an image, whatever the tree holds
-pub record IsImage (image : List Entry) : Type 0 where
-  pub few : length image ≤ MOST_ENTRIES
-  pub good : AllByRecursion (λ e. is_good e ≡ true) image
-  pub unreserved : AllByRecursion (λ e. is_reserved e.path ≡ false) image
-  pub apart : AreApart (map path_of image)
-
--- the tree takes the image: nothing stands in the way of its paths
-pub record Fits (m : Map) (image : List Entry) : Type 0 where
-  pub is : IsImage image
-  pub free : AllByRecursion (λ e. IsFree m e.path) image
-
 -- a slash stands at a place of the path, and what is before it holds an object
 abbrev pub HoldsPart : Map → List ℕ → ℕ → Type 0
 HoldsPart m path at = (slice_index path at ≡ 47) × IsSome (m (take at path))
-
--- q is in the way of a path: an object above it, or the path itself, where something stands at it
--- or below it
-abbrev pub IsInWay : Map → List ℕ → List ℕ → Type 0
-IsInWay m path q = ((is_below q path ≡ true) × IsSome (m q)) ⊎
-    ((q ≡ path) × (IsSome (m path) ⊎ HasBelow m path))
-
--- the shortest that is in the way
-pub record IsFirstInWay (m : Map) (path q : List ℕ) : Type 0 where
-  pub there : IsInWay m path q
-  pub least : (r : List ℕ) → IsInWay m path r → length q ≤ length r
 
 -- the first element that has Q, where those before it have P
 pub record IsFirst {A : Type 0} (P Q : A → Type 0) (xs : List A) : Type 0 where

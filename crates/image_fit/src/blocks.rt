@@ -1,11 +1,9 @@
-ghost use Rattle.std.specs.Prelude.{◌≡◌, IfErr, IfOk, IsErrOf, IsTrue, MatchOption};
+ghost use Rattle.std.specs.Prelude.{◌≡◌, IfOk, IsErrOf, IsTrue, MatchOption};
 ghost use Rattle.file_tree.specs.Disk.{CountsFault};
 ghost use Rattle.image_fit.specs.Images.{IsClear, IsFirstBlock, is_passed};
-ghost use Rattle.image_fit.specs.Misfits.{IsFault};
 
-use crate::fault::Misfit;
-use crate::places::held_part;
-use file_tree::{Look, Path, Tree};
+use crate::above::held_part;
+use file_tree::{Look, Path, Tree, TreeFault};
 use std::alloc::Global;
 
 /// Whether a path that looks so may be written, where it may hold an object or not.
@@ -26,13 +24,12 @@ pub fn block_of<T: Tree>(
     tree: &mut T,
     path: &Path,
     held: bool,
-) -> Result<Option<Path>, Misfit>
+) -> Result<Option<Path>, TreeFault>
     ensures block { IsTrue T.tells → IfOk result (λ r.
         MatchOption r (IsClear (T.story tree.old).now.holds held path.now)
         (IsFirstBlock (T.story tree.old).now.holds held path.now)) }
-    ensures few { IfErr result IsFault }
     ensures same { IsTrue T.tells → T.story tree.new ≡ T.story tree.old }
-    ensures faults { CountsFault (IsErrOf result Misfit.Failed) (T.faults tree.old)
+    ensures faults { CountsFault (IsErrOf result TreeFault.Failed) (T.faults tree.old)
         (T.faults tree.new) }
 {
     for at in 0..path.text().len() {

@@ -1,28 +1,24 @@
-//! Which images a tree takes, and why it takes one not.
+//! What may be put at a path of a tree, and which objects may be placed.
 //!
-//! **A contract sees** an image as its list of entries, and the tree as what each path holds.
+//! **A contract sees** an entry as its path and its object, and the tree as what each path holds.
 //!
-//! **Proved**: an image that is taken fits, and one that is refused is refused by the first rule
-//! that it breaks: an object, a path, or something in the tree that is in the way. It is judged in
-//! an order of its paths, so the cost of an image grows with its number of entries but for the
-//! logarithm.
+//! **Proved**: an object is good exactly where it is a file that isn't too large, or a link whose
+//! target is in form. `block_of` tells exactly the shortest path that keeps an object from being
+//! put at a path: one above it that holds an object, or the path itself. It leaves the tree as it
+//! is, and looks once for each part of the path.
 //!
-//! **Only tested**: whole runs with ample memory.
+//! **Only tested**: that with ample memory a path is judged.
 //!
 //! ```
-//! judge_image(alloc, &mut tree, &image)?;
+//! let block = block_of(alloc, &mut tree, &entry.path, false)?;
 //! ```
 #![tactic(auto)]
 
+mod above;
 mod blocks;
-mod fault;
-mod judging;
 mod limits;
-mod paths;
-mod places;
+mod objects;
 
 pub use blocks::block_of;
-pub use fault::Misfit;
-pub use judging::judge_image;
 pub use limits::MOST_ENTRIES;
-pub use paths::{bad_by, is_good};
+pub use objects::{bad_by, is_good};

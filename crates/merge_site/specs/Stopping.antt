@@ -1,7 +1,7 @@
 -- What the book's refusals and a look's failures are to a claim.
 use Rattle.std.specs.Prelude.{◌≡◌, true, false, [], List, ℕ}
-use Rattle.image_fit.specs.declared.fault.Misfit.{Misfit}
-use Rattle.image_fit.specs.declared.fault.Misfit.TheVariants as misfits
+use Rattle.file_tree.specs.declared.fault.TreeFault.{TreeFault}
+use Rattle.file_tree.specs.declared.fault.TreeFault.TheVariants as tree_faults
 use Rattle.merge_record.specs.Judging.{are_free}
 use Rattle.owner_book.specs.declared.fault.ClaimFault.{ClaimFault}
 use Rattle.owner_book.specs.declared.fault.ClaimFault.TheVariants as claims
@@ -15,9 +15,9 @@ stop_of (claims.Collision c) = stops.Collision c
 stop_of claims.Limit = stops.Limit
 stop_of claims.Memory = stops.Memory
 
-abbrev pub stop_at : Misfit → ClaimStop
-stop_at misfits.Failed = stops.Device
-stop_at m = stops.Memory
+abbrev pub stop_at : TreeFault → ClaimStop
+stop_at tree_faults.Failed = stops.Device
+stop_at tree_faults.Memory = stops.Memory
 
 -- how a claim is stopped that the book has taken: by the paths of the record, else by the tree
 abbrev pub LateStops : List (List ℕ) → ClaimStop → Type 0

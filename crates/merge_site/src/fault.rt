@@ -1,5 +1,4 @@
-use file_tree::Path;
-use image_fit::Misfit;
+use file_tree::{Path, TreeFault};
 use merge_core::Refusal;
 use owner_book::{ClaimFault, Collision, ImageBad};
 use std::alloc::AllocError;
@@ -92,7 +91,6 @@ impl From<AllocError> for ClaimStop {
 
 impl ClaimStop {
     ghost use Rattle.std.specs.Prelude.{◌≡◌};
-    ghost use Rattle.image_fit.specs.Misfits.{IsFault};
     ghost use Rattle.merge_site.specs.Stopping.{stop_of, stop_at};
 
     /// What a refusal of the book is.
@@ -108,12 +106,12 @@ impl ClaimStop {
     }
 
     /// What a look that failed is.
-    pub(crate) fn at(misfit: Misfit) -> ClaimStop
-        ensures { result ≡ stop_at misfit }
+    pub(crate) fn at(fault: TreeFault) -> ClaimStop
+        ensures { result ≡ stop_at fault }
     {
-        match misfit {
-            Misfit::Failed => ClaimStop::Device,
-            _ => ClaimStop::Memory,
+        match fault {
+            TreeFault::Failed => ClaimStop::Device,
+            TreeFault::Memory => ClaimStop::Memory,
         }
     }
 }

@@ -129,7 +129,7 @@ fn judge_looks<T: Tree>(
         match block_of(alloc, tree, &wish.path, may_hold(book, wish)) {
             Ok(None) => {}
             Ok(Some(path)) => return Err(ClaimStop::Collision(Collision::Unowned { path })),
-            Err(misfit) => return Err(ClaimStop::at(misfit)),
+            Err(fault) => return Err(ClaimStop::at(fault)),
         }
     }
     Ok(())
