@@ -1,0 +1,3 @@
+mod Again
+mod Below
+pub mod Sets
