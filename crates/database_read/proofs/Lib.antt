@@ -1,0 +1,7 @@
+mod Cuts
+mod Files
+mod Listed
+mod Owners
+mod Record
+mod Steps
+mod Whole

@@ -1,0 +1,17 @@
+use Rattle.std.proofs.Common.{List, subst, ℕ}
+use Rattle.std.specs.Prelude.{◌↔◌}
+use Rattle.basics.specs.Members.{Has}
+use Rattle.file_tree.specs.Disk.{Lists}
+use Rattle.vdb_text.specs.Files.{database_path}
+use Rattle.database_read.specs.Folders.{IsAmong}
+use Rattle.database_read.proofs.Listed.{folders_of_map}
+use Rattle.database_read.proofs.folders.list_folders.Goals as goal
+
+pub returns-clause-folders : goal.returns-clause-folders
+returns-clause-folders g c t =
+    let m = (g.T.Tree.story c.args.tree.now).now.holds in
+    let paths = c.in_ok-listed.listed.items in
+    let texts = c.in_ok-folders_among.field-0.items in
+    let lists : Lists m database_path paths = subst (λ (p : List ℕ). Lists m p paths) c.in_ok-database.ensures (c.in_ok-listed.ensures.answer t) in
+    let members = subst (λ (ps : List (List ℕ)). (x : List ℕ) → Has texts x ↔ IsAmong ps x) c.deref.ensures.value c.in_ok-folders_among.ensures.members in
+    record { rising = c.in_ok-folders_among.ensures.rising; members = folders_of_map m paths lists texts members }

@@ -1,0 +1,16 @@
+use Rattle.std.proofs.Common.{◌≡◌, ◌∙◌, List, ℕ}
+use Rattle.std.proofs.lemmas.Result.{IfOk-weaker}
+use Rattle.record_read.specs.Texts.{folder_texts}
+use Rattle.record_read.specs.Views.{texts_in}
+use Rattle.database_law.specs.Database.{folder}
+use Rattle.database_read.specs.Telling.{texts_at}
+use Rattle.database_read.proofs.Files.{own_texts}
+use Rattle.database_read.proofs.texts.read_folder.Goals as goal
+
+pub returns-clause-texts : goal.returns-clause-texts
+returns-clause-texts g c t =
+    let m = (g.T.Tree.story c.args.tree.now).now.holds in
+    let text : List ℕ = c.as_str.result.now in
+    let id = c.args.id.now in
+    IfOk-weaker c.read_texts.result (λ r. texts_in r ≡ texts_at m text) (λ r. texts_in r ≡ folder_texts (folder m id))
+    (λ r e. e ∙ own_texts m id text (c.as_str.ensures.value ∙ c.in_ok-folder.ensures)) (c.read_texts.ensures.texts t)

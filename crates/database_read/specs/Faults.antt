@@ -1,0 +1,63 @@
+-- The first fault of a map that has no database.
+use Rattle.std.specs.Prelude.{◌≡◌, ◌⊎◌, ℕ, List, ◌∷◌, ◌++◌}
+use Rattle.std.specs.declared.cmp.Ordering.TheVariants.{Less}
+use Rattle.basics.specs.Members.{Has}
+use Rattle.pms_names.specs.Flags.{byte_order}
+use Rattle.dep_atom.specs.Ids.{IsId, id_text}
+use Rattle.dep_atom.specs.declared.package.PackageId.{PackageId}
+use Rattle.file_tree.specs.Disk.{Map}
+use Rattle.database_law.specs.Database.{folder}
+use Rattle.database_law.specs.Fields.{eapi}
+use Rattle.database_law.specs.Packages.{Installed}
+use Rattle.record_read.specs.Faults as records
+use Rattle.record_read.specs.Texts.{folder_texts}
+use Rattle.record_read.specs.Views.{field_of}
+use Rattle.record_read.specs.declared.fault.RecordFault.{RecordFault}
+use Rattle.record_read.specs.declared.fault.RecordFault.TheVariants as record_faults
+use Rattle.database_read.specs.Folders.{IsFolder}
+use Rattle.database_read.specs.Telling.{IsNameless, Tells, file_path, folder_path}
+use Rattle.database_read.specs.declared.fault.DatabaseFault.{DatabaseFault}
+use Rattle.database_read.specs.declared.fault.DatabaseFault.TheVariants.{Name, Missing, Eapi, Text, Dep, Memory}
+
+-- a fault of a record, by the path of its file in the folder of this text
+abbrev pub located : List ℕ → RecordFault → DatabaseFault
+located text (record_faults.Missing file) = Missing (file_path text (field_of file))
+located text record_faults.Eapi = Eapi (file_path text eapi)
+located text (record_faults.Text file line) = Text (file_path text (field_of file)) line
+located text (record_faults.Dep file at) = Dep (file_path text (field_of file)) at
+located text record_faults.Memory = Memory
+
+-- no package has the folder of this text, and its path is told
+pub record IsBadName (text : List ℕ) (fault : DatabaseFault) : Type 0 where
+  pub nameless : IsNameless text
+  pub told : fault ≡ Name (folder_path text)
+
+-- a package has the folder of this text, and the first fault of its record is told
+pub record IsBadRecord (m : Map) (text : List ℕ) (fault : DatabaseFault) : Type 0 where
+  pub id : PackageId
+  pub is : IsId id
+  pub named : text ≡ id_text id
+  pub first : RecordFault
+  pub of : records.FirstFault (folder_texts (folder m id)) first
+  pub told : fault ≡ located text first
+
+-- the first fault of the folder of this text
+abbrev pub FolderFault : Map → List ℕ → DatabaseFault → Type 0
+FolderFault m text fault = IsBadName text fault ⊎ IsBadRecord m text fault
+
+-- in byte order of the folders, the first that tells no package has this fault
+pub record IsFirstFault (m : Map) (fault : DatabaseFault) : Type 0 where
+  pub text : List ℕ
+  pub there : IsFolder m text
+  pub before : (t : List ℕ) → IsFolder m t → byte_order t text ≡ Less →
+      (p : Installed) × Tells m t p
+  pub has : FolderFault m text fault
+
+-- the same of the folders of a list, by their places
+pub record IsFirstOf (m : Map) (texts : List (List ℕ)) (fault : DatabaseFault) : Type 0 where
+  pub front : List (List ℕ)
+  pub text : List ℕ
+  pub behind : List (List ℕ)
+  pub is : texts ≡ front ++ (text ∷ behind)
+  pub before : (t : List ℕ) → Has front t → (p : Installed) × Tells m t p
+  pub has : FolderFault m text fault

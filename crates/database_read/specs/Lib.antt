@@ -1,0 +1,4 @@
+pub mod Folders
+pub mod Telling
+pub mod Machine
+pub mod Faults

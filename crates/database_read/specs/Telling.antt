@@ -1,0 +1,42 @@
+-- What the folders of a map's database tell of their packages.
+use Rattle.std.specs.Prelude.{◌≡◌, ℕ, List, ◌∷◌, ◌++◌, codes}
+use Rattle.std.specs.List.{AllZip}
+use Rattle.dep_atom.specs.Ids.{IsId, id_text}
+use Rattle.dep_atom.specs.declared.package.PackageId.{PackageId}
+use Rattle.file_tree.specs.Disk.{Map}
+use Rattle.database_law.specs.Database.{folder, folder_name}
+use Rattle.database_law.specs.Fields.{Field, Says, name_of, text_of}
+use Rattle.database_law.specs.Packages.{Installed, id_of}
+use Rattle.record_read.specs.Texts.{Texts}
+
+-- the path of the folder of this text
+abbrev pub folder_path : List ℕ → List ℕ
+folder_path text = codes "var/db/pkg/" ++ text
+
+-- the path of a file in the folder of this text
+abbrev pub file_path : List ℕ → Field → List ℕ
+file_path text k = codes "var/db/pkg/" ++ (text ++ (47 ∷ name_of k))
+
+-- the texts of the files in the folder of this text
+abbrev pub texts_at : Map → List ℕ → Texts
+texts_at m text k = text_of (m (file_path text k))
+
+-- no package has the folder of this text
+abbrev pub IsNameless : List ℕ → Type 0
+IsNameless text = (id : PackageId) → IsId id → ¬ (text ≡ id_text id)
+
+-- this package, and no other, has the folder of this text
+pub record IsOwner (text : List ℕ) (id : PackageId) : Type 0 where
+  pub is : IsId id
+  pub named : text ≡ id_text id
+  pub only : (other : PackageId) → IsId other → text ≡ id_text other → other ≡ id
+
+-- the folder of this text tells this package
+pub record Tells (m : Map) (text : List ℕ) (p : Installed) : Type 0 where
+  pub is : IsId (id_of p)
+  pub named : text ≡ folder_name p
+  pub says : Says (folder m (id_of p)) p
+
+-- each of these folders tells its package
+abbrev pub TellAll : Map → List (List ℕ) → List Installed → Type 0
+TellAll m texts ps = AllZip (Tells m) texts ps

@@ -1,0 +1,56 @@
+ghost use Rattle.std.specs.Prelude.{◌≡◌, ◌⊎◌, List, IfErr, IfOk, IsErrOf, IsTrue, MatchResult};
+ghost use Rattle.file_tree.specs.Disk.{CountsFault};
+ghost use Rattle.database_law.specs.Database.{IsDatabase};
+ghost use Rattle.database_law.specs.Packages.{Installed as InstalledValue};
+ghost use Rattle.database_read.specs.Faults.{IsFirstFault, IsFirstOf};
+ghost use Rattle.database_read.specs.Machine.{IsOfMachine};
+ghost use Rattle.database_read.specs.Telling.{TellAll};
+
+use crate::fault::DatabaseFault;
+use crate::folders::list_folders;
+use crate::package::read_package;
+use basics::Text;
+use file_tree::Tree;
+use record_read::Installed;
+use std::alloc::Global;
+
+/// The installed packages of a tree, in byte order of their folders.
+pub fn read_database<T: Tree>(alloc: Global, tree: &mut T) -> Result<Vec<Installed>, DatabaseFault>
+    ensures found { IsTrue T.tells → IfOk result
+        (λ v. IsDatabase (T.story tree.old).now.holds v.items) }
+    ensures only { IsTrue T.tells → (ps : List InstalledValue) →
+        IsDatabase (T.story tree.old).now.holds ps →
+        MatchResult result (λ v. v.items ≡ ps) IsOfMachine }
+    ensures fault { IsTrue T.tells → IfErr result
+        (λ e. IsOfMachine e ⊎ IsFirstFault (T.story tree.old).now.holds e) }
+    ensures same { IsTrue T.tells → T.story tree.new ≡ T.story tree.old }
+    ensures faults { CountsFault (IsErrOf result DatabaseFault.Failed) (T.faults tree.old)
+        (T.faults tree.new) }
+{
+    let folders = list_folders(alloc, tree)?;
+    read_packages(alloc, tree, &folders)
+}
+
+/// The packages of these folders, one after the other.
+fn read_packages<T: Tree>(
+    alloc: Global,
+    tree: &mut T,
+    folders: &[Text],
+) -> Result<Vec<Installed>, DatabaseFault>
+    ensures found { IsTrue T.tells → IfOk result
+        (λ v. TellAll (T.story tree.old).now.holds folders.now v.items) }
+    ensures only { IsTrue T.tells → (ps : List InstalledValue) →
+        TellAll (T.story tree.old).now.holds folders.now ps →
+        MatchResult result (λ v. v.items ≡ ps) IsOfMachine }
+    ensures fault { IsTrue T.tells → IfErr result
+        (λ e. IsOfMachine e ⊎ IsFirstOf (T.story tree.old).now.holds folders.now e) }
+    ensures same { IsTrue T.tells → T.story tree.new ≡ T.story tree.old }
+    ensures faults { CountsFault (IsErrOf result DatabaseFault.Failed) (T.faults tree.old)
+        (T.faults tree.new) }
+{
+    let mut packages = Vec::new(alloc);
+    for folder in folders {
+        packages.push(read_package(alloc, tree, folder)?)?;
+    }
+    Ok(packages)
+}

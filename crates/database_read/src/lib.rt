@@ -1,0 +1,27 @@
+//! The installed packages of a tree, read from its database.
+//!
+//! **A contract sees** a tree as its story, the files of a package's folder as the map of their
+//! texts, and an installed package as plain data.
+//!
+//! **Proved**: a tree's database is read exactly where its map has one, as just its packages in
+//! byte order of their folders; else it is refused with the first fault of the first folder in that
+//! order that tells no package, with the path of the folder or of the file. The tree is only read.
+//!
+//! **Only tested**: nothing yet.
+//!
+//! ```
+//! let packages = read_database(alloc, &mut tree)?;
+//! ```
+#![tactic(auto)]
+
+mod database;
+mod fault;
+mod folders;
+mod package;
+mod paths;
+mod texts;
+
+pub use database::read_database;
+pub use fault::DatabaseFault;
+pub use folders::list_folders;
+pub use texts::read_folder;

@@ -1,0 +1,108 @@
+ghost use Rattle.std.specs.Prelude.{◌≡◌, ◌⊎◌, IfErr, IfOk, IsErrOf, IsTrue, MatchOption};
+ghost use Rattle.std.specs.Prelude.{MatchResult};
+ghost use Rattle.file_tree.specs.Disk.{CountsFault};
+ghost use Rattle.database_law.specs.Packages.{Installed as InstalledValue};
+ghost use Rattle.record_read.specs.Faults.{FirstFault};
+ghost use Rattle.record_read.specs.Texts.{Tell};
+ghost use Rattle.record_read.specs.Views.{texts_in};
+ghost use Rattle.record_read.specs.declared.fault.RecordFault.{RecordFault as RecordFaultValue};
+ghost use Rattle.database_read.specs.Faults.{FolderFault, located};
+ghost use Rattle.database_read.specs.Machine.{IsOfMachine};
+ghost use Rattle.database_read.specs.Telling.{IsNameless, IsOwner, Tells};
+ghost use Rattle.database_read.specs.declared.fault.DatabaseFault.TheVariants.{Memory};
+
+use crate::fault::DatabaseFault;
+use crate::paths::{file_path, folder_path};
+use crate::texts::read_texts;
+use basics::Text;
+use dep_atom::{AtomFault, PackageId};
+use file_tree::Tree;
+use record_read::{Installed, RecordFault, RecordFile, RecordTexts, read_record};
+use std::alloc::{AllocError, Global};
+
+/// The package that the folder of this text tells.
+pub(crate) fn read_package<T: Tree>(
+    alloc: Global,
+    tree: &mut T,
+    folder: &Text,
+) -> Result<Installed, DatabaseFault>
+    ensures found { IsTrue T.tells → IfOk result
+        (Tells (T.story tree.old).now.holds folder.now) }
+    ensures only { IsTrue T.tells → (p : InstalledValue) →
+        Tells (T.story tree.old).now.holds folder.now p →
+        MatchResult result (λ r. r ≡ p) IsOfMachine }
+    ensures fault { IsTrue T.tells → IfErr result
+        (λ e. IsOfMachine e ⊎ FolderFault (T.story tree.old).now.holds folder.now e) }
+    ensures same { IsTrue T.tells → T.story tree.new ≡ T.story tree.old }
+    ensures faults { CountsFault (IsErrOf result DatabaseFault.Failed) (T.faults tree.old)
+        (T.faults tree.new) }
+{
+    let folder = folder.as_str();
+    let Some(id) = package_of(alloc, folder)? else {
+        let path = folder_path(alloc, folder)?;
+        return Err(DatabaseFault::Name { path });
+    };
+    let texts = read_texts(alloc, tree, folder)?;
+    package_in(alloc, folder, id, &texts)
+}
+
+/// The package that the texts of the files in its folder tell.
+fn package_in(
+    alloc: Global,
+    folder: &str,
+    id: PackageId,
+    texts: &RecordTexts,
+) -> Result<Installed, DatabaseFault>
+    ensures found { IfOk result (λ p. Tell (texts_in texts.now) id p) }
+    ensures only { (p : InstalledValue) → Tell (texts_in texts.now) id p →
+        MatchResult result (λ r. r ≡ p) (λ e. e ≡ Memory) }
+    ensures fault { IfErr result
+        (λ e. (e ≡ Memory) ⊎ ((f : RecordFaultValue) × FirstFault (texts_in texts.now) f
+        × (e ≡ located folder.now f))) }
+    ensures quiet { IfErr result (λ e. ¬ (e ≡ DatabaseFault.Failed)) }
+{
+    match read_record(alloc, id, texts) {
+        Ok(package) => Ok(package),
+        Err(fault) => Err(located(alloc, folder, fault)?),
+    }
+}
+
+/// The package whose folder has this text.
+fn package_of(alloc: Global, folder: &str) -> Result<Option<PackageId>, AllocError>
+    ensures { IfOk result (λ r. MatchOption r (IsNameless folder.now) (IsOwner folder.now)) }
+{
+    let Some((category, pf)) = folder.split_once('/') else {
+        return Ok(None);
+    };
+    match PackageId::parse(alloc, category, pf) {
+        Ok(id) => Ok(Some(id)),
+        Err(fault) => match fault {
+            AtomFault::Memory => Err(AllocError),
+            _ => Ok(None),
+        },
+    }
+}
+
+/// The fault of a record, by the path of its file.
+fn located(alloc: Global, folder: &str, fault: RecordFault) -> Result<DatabaseFault, AllocError>
+    ensures told { IfOk result (λ e. e ≡ located folder.now fault) }
+    ensures quiet { IfOk result (λ e. ¬ (e ≡ DatabaseFault.Failed)) }
+{
+    match fault {
+        RecordFault::Missing { file } => Ok(DatabaseFault::Missing {
+            path: file_path(alloc, folder, file)?,
+        }),
+        RecordFault::Eapi => Ok(DatabaseFault::Eapi {
+            path: file_path(alloc, folder, RecordFile::Eapi)?,
+        }),
+        RecordFault::Text { file, line } => Ok(DatabaseFault::Text {
+            path: file_path(alloc, folder, file)?,
+            line,
+        }),
+        RecordFault::Dep { file, at } => Ok(DatabaseFault::Dep {
+            path: file_path(alloc, folder, file)?,
+            at,
+        }),
+        RecordFault::Memory => Ok(DatabaseFault::Memory),
+    }
+}

@@ -1,0 +1,31 @@
+ghost use Rattle.std.specs.Prelude.{◌≡◌, IfOk};
+ghost use Rattle.record_read.specs.Views.{field_of};
+ghost use Rattle.database_read.specs.Telling.{file_path, folder_path};
+
+use file_tree::Path;
+use record_read::RecordFile;
+use std::alloc::{AllocError, Global};
+
+/// The path of the folder of this text.
+pub(crate) fn folder_path(alloc: Global, folder: &str) -> Result<Path, AllocError>
+    ensures { IfOk result (λ p. p ≡ folder_path folder.now) }
+{
+    let text = format!(in alloc; "var/db/pkg/{folder}")?;
+    path_of(alloc, text.as_str())
+}
+
+/// The path of a file in it.
+pub(crate) fn file_path(alloc: Global, folder: &str, file: RecordFile) -> Result<Path, AllocError>
+    ensures { IfOk result (λ p. p ≡ file_path folder.now (field_of file)) }
+{
+    let name = file.name();
+    let text = format!(in alloc; "var/db/pkg/{folder}/{name}")?;
+    path_of(alloc, text.as_str())
+}
+
+/// The path that a text spells.
+fn path_of(alloc: Global, text: &str) -> Result<Path, AllocError>
+    ensures { IfOk result (λ p. p ≡ text.now) }
+{
+    Path::parse(alloc, text).map_err(|_| AllocError)
+}
