@@ -4,4 +4,5 @@ mod Listed
 mod Owners
 mod Record
 mod Steps
+mod Tidy
 mod Whole

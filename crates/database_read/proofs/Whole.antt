@@ -10,7 +10,7 @@ use Rattle.database_law.specs.Database.{IsDatabase, folder, folder_name}
 use Rattle.database_law.specs.Packages.{Installed, id_of}
 use Rattle.database_law.proofs.Places.{mark, says_mark}
 use Rattle.path_overlap.proofs.Sets.{behind_later, not_less, same_rising}
-use Rattle.database_read.specs.Faults.{IsFirstFault, IsFirstOf}
+use Rattle.database_read.specs.Faults.{IsFirstBadFolder, IsFirstOf}
 use Rattle.database_read.specs.Folders.{AreFolders, folder_text}
 use Rattle.database_read.specs.Telling.{TellAll, Tells}
 use Rattle.database_read.specs.declared.fault.DatabaseFault.{DatabaseFault}
@@ -62,7 +62,7 @@ module _ (m : Map) (texts : List (List ℕ)) (are : AreFolders m texts) where
     tell_all = subst (λ (ts : List (List ℕ)). TellAll m ts ps) (sym (same_rising texts (map folder_name ps) are.rising db.rising is_named is_listed))
         (each_tells ps (λ p has. record { is = db.ids p has; named = refl; says = db.says p has }))
 
-  pub first_fault : (e : DatabaseFault) → IsFirstOf m texts e → IsFirstFault m e
+  pub first_fault : (e : DatabaseFault) → IsFirstOf m texts e → IsFirstBadFolder m e
   first_fault e f = record {
     text = f.text;
     there = (are.members f.text).0 (subst (λ (l : List (List ℕ)). Has l f.text) (sym f.is) (has-append_right f.front (f.text ∷ f.behind) f.text (inl refl)));

@@ -6,7 +6,7 @@ use Rattle.pms_names.specs.Flags.{byte_order}
 use Rattle.dep_atom.specs.Ids.{IsId, id_text}
 use Rattle.dep_atom.specs.declared.package.PackageId.{PackageId}
 use Rattle.file_tree.specs.Disk.{Map}
-use Rattle.database_law.specs.Database.{folder}
+use Rattle.database_law.specs.Database.{IsDatabase, folder}
 use Rattle.database_law.specs.Fields.{eapi}
 use Rattle.database_law.specs.Packages.{Installed}
 use Rattle.record_read.specs.Faults as records
@@ -14,10 +14,14 @@ use Rattle.record_read.specs.Texts.{folder_texts}
 use Rattle.record_read.specs.Views.{field_of}
 use Rattle.record_read.specs.declared.fault.RecordFault.{RecordFault}
 use Rattle.record_read.specs.declared.fault.RecordFault.TheVariants as record_faults
+use Rattle.path_overlap.specs.Overlaps.{IsFirst}
+use Rattle.path_overlap.specs.declared.overlap.Overlap.{Overlap}
+use Rattle.path_overlap.specs.declared.overlap.Overlap.TheVariants as overlaps
 use Rattle.database_read.specs.Folders.{IsFolder}
+use Rattle.database_read.specs.Owned.{IsAbove, IsOwnedBelow, IsOwnedTwice}
 use Rattle.database_read.specs.Telling.{IsNameless, Tells, file_path, folder_path}
 use Rattle.database_read.specs.declared.fault.DatabaseFault.{DatabaseFault}
-use Rattle.database_read.specs.declared.fault.DatabaseFault.TheVariants.{Name, Missing, Eapi, Text, Dep, Memory}
+use Rattle.database_read.specs.declared.fault.DatabaseFault.TheVariants.{Name, Missing, Eapi, Text, Dep, OwnedTwice, Nested, Memory}
 
 -- a fault of a record, by the path of its file in the folder of this text
 abbrev pub located : List ℕ → RecordFault → DatabaseFault
@@ -45,8 +49,8 @@ pub record IsBadRecord (m : Map) (text : List ℕ) (fault : DatabaseFault) : Typ
 abbrev pub FolderFault : Map → List ℕ → DatabaseFault → Type 0
 FolderFault m text fault = IsBadName text fault ⊎ IsBadRecord m text fault
 
--- in byte order of the folders, the first that tells no package has this fault
-pub record IsFirstFault (m : Map) (fault : DatabaseFault) : Type 0 where
+-- in byte order of the folders the first that tells no package has this fault
+pub record IsFirstBadFolder (m : Map) (fault : DatabaseFault) : Type 0 where
   pub text : List ℕ
   pub there : IsFolder m text
   pub before : (t : List ℕ) → IsFolder m t → byte_order t text ≡ Less →
@@ -61,3 +65,26 @@ pub record IsFirstOf (m : Map) (texts : List (List ℕ)) (fault : DatabaseFault)
   pub is : texts ≡ front ++ (text ∷ behind)
   pub before : (t : List ℕ) → Has front t → (p : Installed) × Tells m t p
   pub has : FolderFault m text fault
+
+-- the fault of paths that are in each other's way
+abbrev pub overlap_fault : Overlap → DatabaseFault
+overlap_fault (overlaps.Twice path) = OwnedTwice path
+overlap_fault (overlaps.Nested path below) = Nested path below
+
+-- the first path with two owners; where none has two, the first that is above another, and the
+-- first below it
+abbrev pub Overlaps : List Installed → DatabaseFault → Type 0
+Overlaps ps (OwnedTwice q) = IsFirst (IsOwnedTwice ps) q
+Overlaps ps (Nested q s) = ((t : List ℕ) → ¬ IsOwnedTwice ps t)
+    × IsFirst (IsAbove ps) q × IsFirst (IsOwnedBelow ps q) s
+Overlaps ps fault = ⊥
+
+-- the map has a database, and this fault tells how its packages are in each other's way
+pub record IsUntidy (m : Map) (fault : DatabaseFault) : Type 0 where
+  pub packages : List Installed
+  pub database : IsDatabase m packages
+  pub overlaps : Overlaps packages fault
+
+-- the first fault of a map: that of its first bad folder, or else of its packages
+abbrev pub FirstFault : Map → DatabaseFault → Type 0
+FirstFault m fault = IsFirstBadFolder m fault ⊎ IsUntidy m fault

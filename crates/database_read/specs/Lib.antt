@@ -1,4 +1,5 @@
 pub mod Folders
 pub mod Telling
 pub mod Machine
+pub mod Owned
 pub mod Faults

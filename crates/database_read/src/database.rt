@@ -1,28 +1,48 @@
 ghost use Rattle.std.specs.Prelude.{◌≡◌, ◌⊎◌, List, IfErr, IfOk, IsErrOf, IsTrue, MatchResult};
 ghost use Rattle.file_tree.specs.Disk.{CountsFault};
-ghost use Rattle.database_law.specs.Database.{IsDatabase};
+ghost use Rattle.database_law.specs.Database.{IsDatabase, IsTidy};
 ghost use Rattle.database_law.specs.Packages.{Installed as InstalledValue};
-ghost use Rattle.database_read.specs.Faults.{IsFirstFault, IsFirstOf};
+ghost use Rattle.database_read.specs.Faults.{FirstFault, IsFirstBadFolder, IsFirstOf};
 ghost use Rattle.database_read.specs.Machine.{IsOfMachine};
 ghost use Rattle.database_read.specs.Telling.{TellAll};
 
 use crate::fault::DatabaseFault;
 use crate::folders::list_folders;
+use crate::owned::tidy;
 use crate::package::read_package;
 use basics::Text;
 use file_tree::Tree;
 use record_read::Installed;
 use std::alloc::Global;
 
-/// The installed packages of a tree, in byte order of their folders.
+/// The installed packages of a tree, in byte order of their folders. First come the faults of the
+/// folders, one after the other in that order, and then those of what the packages own.
 pub fn read_database<T: Tree>(alloc: Global, tree: &mut T) -> Result<Vec<Installed>, DatabaseFault>
+    ensures found { IsTrue T.tells → IfOk result
+        (λ v. IsDatabase (T.story tree.old).now.holds v.items) }
+    ensures tidy { IfOk result (λ v. IsTidy v.items) }
+    ensures only { IsTrue T.tells → (ps : List InstalledValue) →
+        IsDatabase (T.story tree.old).now.holds ps → IsTidy ps →
+        MatchResult result (λ v. v.items ≡ ps) IsOfMachine }
+    ensures fault { IsTrue T.tells → IfErr result
+        (λ e. IsOfMachine e ⊎ FirstFault (T.story tree.old).now.holds e) }
+    ensures same { IsTrue T.tells → T.story tree.new ≡ T.story tree.old }
+    ensures faults { CountsFault (IsErrOf result DatabaseFault.Failed) (T.faults tree.old)
+        (T.faults tree.new) }
+{
+    let packages = read_folders(alloc, tree)?;
+    tidy(alloc, packages)
+}
+
+/// The packages of all folders that count.
+fn read_folders<T: Tree>(alloc: Global, tree: &mut T) -> Result<Vec<Installed>, DatabaseFault>
     ensures found { IsTrue T.tells → IfOk result
         (λ v. IsDatabase (T.story tree.old).now.holds v.items) }
     ensures only { IsTrue T.tells → (ps : List InstalledValue) →
         IsDatabase (T.story tree.old).now.holds ps →
         MatchResult result (λ v. v.items ≡ ps) IsOfMachine }
     ensures fault { IsTrue T.tells → IfErr result
-        (λ e. IsOfMachine e ⊎ IsFirstFault (T.story tree.old).now.holds e) }
+        (λ e. IsOfMachine e ⊎ IsFirstBadFolder (T.story tree.old).now.holds e) }
     ensures same { IsTrue T.tells → T.story tree.new ≡ T.story tree.old }
     ensures faults { CountsFault (IsErrOf result DatabaseFault.Failed) (T.faults tree.old)
         (T.faults tree.new) }

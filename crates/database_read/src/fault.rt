@@ -20,6 +20,12 @@ pub enum DatabaseFault {
     /// The first place of the value that is no tree, counted from its first byte that is no blank.
     #[error("a value of a record is no tree at {at}")]
     Dep { path: Path, at: usize },
+    /// The first path that two packages own.
+    #[error("two packages own a path")]
+    OwnedTwice { path: Path },
+    /// The first owned path that is above another, and the first of those.
+    #[error("an owned path is above another")]
+    Nested { path: Path, below: Path },
     /// The tree's device failed.
     #[error("the device failed")]
     Failed,

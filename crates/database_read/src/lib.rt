@@ -3,9 +3,11 @@
 //! **A contract sees** a tree as its story, the files of a package's folder as the map of their
 //! texts, and an installed package as plain data.
 //!
-//! **Proved**: a tree's database is read exactly where its map has one, as just its packages in
-//! byte order of their folders; else it is refused with the first fault of the first folder in that
-//! order that tells no package, with the path of the folder or of the file. The tree is only read.
+//! **Proved**: a tree's database is read exactly where its map has one in which no path has two
+//! owners or is above another, as just its packages in byte order of their folders. Else the first
+//! fault is told: that of the first folder in this order that tells no package, with the path of
+//! the folder or of the file; else the first path that two packages own, or that is above another.
+//! The tree is only read.
 //!
 //! **Only tested**: nothing yet.
 //!
@@ -17,6 +19,7 @@
 mod database;
 mod fault;
 mod folders;
+mod owned;
 mod package;
 mod paths;
 mod texts;

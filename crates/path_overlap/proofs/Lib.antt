@@ -1,3 +1,3 @@
-mod Again
+pub mod Again
 mod Below
 pub mod Sets

@@ -1,0 +1,62 @@
+ghost use Rattle.std.specs.Prelude.{◌≡◌, ◌⊎◌, ◌++◌, ℕ, IfErr, IfOk, List, MatchOption, OnOk, map};
+ghost use Rattle.contents_text.specs.Contents.{path_of};
+ghost use Rattle.database_law.specs.Database.{IsTidy};
+ghost use Rattle.path_overlap.specs.Indexes.{IsSeen};
+ghost use Rattle.path_overlap.specs.Overlaps.{AreApart, IsFirstOverlap};
+ghost use Rattle.path_overlap.specs.declared.overlap.Overlap.{Overlap as OverlapValue};
+ghost use Rattle.database_read.specs.Faults.{overlap_fault};
+ghost use Rattle.database_read.specs.Owned.{all_paths};
+ghost use Rattle.database_read.specs.declared.fault.DatabaseFault.TheVariants.{Memory};
+
+use crate::fault::DatabaseFault;
+use contents_text::Owned;
+use path_overlap::{Overlap, PathIndex};
+use record_read::Installed;
+use std::alloc::{AllocError, Global};
+
+/// The packages, if their paths are not in each other's way.
+pub(crate) fn tidy(alloc: Global, packages: Vec<Installed>) -> Result<Vec<Installed>, DatabaseFault>
+    ensures same { IfOk result (λ v. v.items ≡ packages.items) }
+    ensures tidy { IfOk result (λ v. IsTidy v.items) }
+    ensures fault { IfErr result
+        (λ e. (e ≡ Memory) ⊎ ((o : OverlapValue) × IsFirstOverlap (all_paths packages.items) o
+        × (e ≡ overlap_fault o))) }
+    ensures quiet { IfErr result (λ e. ¬ (e ≡ DatabaseFault.Failed)) }
+{
+    match first_overlap(alloc, &packages)? {
+        None => Ok(packages),
+        Some(overlap) => Err(fault_of(overlap)),
+    }
+}
+
+fn fault_of(overlap: Overlap) -> DatabaseFault
+    ensures told { result ≡ overlap_fault overlap }
+    ensures quiet { ¬ (result ≡ DatabaseFault.Failed) }
+{
+    match overlap {
+        Overlap::Twice { path } => DatabaseFault::OwnedTwice { path },
+        Overlap::Nested { path, below } => DatabaseFault::Nested { path, below },
+    }
+}
+
+/// The first overlap of the paths that the packages own.
+fn first_overlap(alloc: Global, packages: &[Installed]) -> Result<Option<Overlap>, AllocError>
+    ensures { IfOk result (λ r. MatchOption r (AreApart (all_paths packages.now))
+        (IsFirstOverlap (all_paths packages.now))) }
+{
+    let mut index = PathIndex::new(alloc);
+    for package in packages {
+        add_paths(alloc, &mut index, &package.owned)?;
+    }
+    index.first_overlap(alloc)
+}
+
+fn add_paths(alloc: Global, index: &mut PathIndex, owned: &[Owned]) -> Result<(), AllocError>
+    ensures { (ps : List (List ℕ)) → IsSeen ps index.old →
+        OnOk result (IsSeen (ps ++ map path_of owned.now) index.new) }
+{
+    for one in owned {
+        index.add(alloc, &one.path)?;
+    }
+    Ok(())
+}
