@@ -9,7 +9,7 @@
 //! the folder or of the file; else the first path that two packages own, or that is above another.
 //! The tree is only read.
 //!
-//! **Only tested**: nothing yet.
+//! **Only tested**: that with ample memory a database is read, on rows for each kind of fault.
 //!
 //! ```
 //! let packages = read_database(alloc, &mut tree)?;

@@ -1,4 +1,5 @@
-ghost use Rattle.std.specs.Prelude.{◌≡◌, ◌++◌, ◌∷◌, ℕ, [], false, IfOk, List, MatchOption, OnErr, OnOk};
+ghost use Rattle.std.specs.Prelude.{◌≡◌, ◌++◌, ◌∷◌, ℕ, [], false, IfOk, List, MatchOption};
+ghost use Rattle.std.specs.Prelude.{OnErr, OnOk};
 ghost use Rattle.basics.specs.Members.{Has};
 ghost use Rattle.file_tree.specs.Paths.{is_below};
 ghost use Rattle.path_overlap.specs.Indexes.{IsLesser, IsSeen};

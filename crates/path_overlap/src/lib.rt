@@ -5,7 +5,7 @@
 //! **Proved**: the first overlap is told exactly where there is one, by the first path in byte
 //! order that stands twice, else by the first with a path below it and the first of those.
 //!
-//! **Only tested**: nothing yet.
+//! **Only tested**: that with ample memory paths are taken and their first overlap told.
 //!
 //! ```
 //! index.add(alloc, &path)?;
