@@ -1,15 +1,15 @@
 -- The folders of the paths of a list, and those of a map's database.
-use Rattle.std.proofs.Common.{◌≡◌, ◌∙◌, ◌<◌, ◌+◌, ℕ, true, List, [], ◌∷◌, ◌++◌, length, get_or, take, refl, ap, sym, subst, inl, inr}
+use Rattle.std.proofs.Common.{◌≡◌, ◌∙◌, ◌<◌, ◌+◌, ℕ, List, [], ◌∷◌, ◌++◌, length, get_or, take, refl, ap, sym, subst, inl, inr}
 use Rattle.std.specs.Prelude.{◌↔◌}
 use Rattle.std.specs.BTreeSet.{insert_key}
 use Rattle.std.proofs.lemmas.List.{take_more}
 use Rattle.basics.specs.Members.{Has}
 use Rattle.basics.proofs.Membership.{contains-from_has, has-append_cases, has-append_left, has-append_right, has-from_contains}
 use Rattle.file_tree.specs.Disk.{Lists, Map}
-use Rattle.file_tree.specs.Paths.{is_below}
 use Rattle.pms_names.specs.Flags.{byte_order}
 use Rattle.vdb_text.specs.Files.{database_path}
 use Rattle.database_law.specs.Database.{IsCounted}
+use Rattle.database_law.proofs.Places.{counted_below}
 use Rattle.path_overlap.proofs.Sets.{is_there, was_there}
 use Rattle.database_read.specs.Folders.{IsAmong, IsFolder, IsInFolder, folder_text}
 
@@ -60,10 +60,6 @@ module _ (paths : List (List ℕ)) (i : ℕ) (path : List ℕ) (lt : i < length 
 -- nothing is among no paths
 pub none_yet : (t : List ℕ) → Has [] t ↔ IsAmong [] t
 none_yet t = (λ h. absurd h, λ h. absurd h.listed)
-
-counted_below : (q : List ℕ) → IsCounted q → is_below database_path q ≡ true
-unfolding database_path
-counted_below q c = subst (λ (p : List ℕ). is_below database_path p ≡ true) (sym c.is) refl
 
 -- the folders of the listed paths are those of the map
 pub folders_of_map : (m : Map) (paths : List (List ℕ)) → Lists m database_path paths → (texts : List (List ℕ)) → ((t : List ℕ) → Has texts t ↔ IsAmong paths t) → (t : List ℕ) → Has texts t ↔ IsFolder m t
