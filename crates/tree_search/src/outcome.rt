@@ -1,0 +1,10 @@
+/// How a search ends.
+#[derive(Debug, Drop)]
+pub enum Outcome<C> {
+    /// With the first good leaf.
+    Found(C),
+    /// There is no good leaf.
+    NoneGood,
+    /// With as many dead leaves as are allowed: these, in their order.
+    Limit(Vec<C>),
+}
