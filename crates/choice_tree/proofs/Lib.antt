@@ -1,0 +1,6 @@
+pub mod Numbers
+pub mod Conflicts
+pub mod Packages
+pub mod Pick
+pub mod Placed
+pub mod Found

@@ -1,0 +1,10 @@
+use Rattle.std.proofs.Common.{◌≡◌, ◌-◌, length}
+use Rattle.std.specs.List.{find, flat_map}
+use Rattle.choice_tree.specs.Open.{is_open_of, obligations_of}
+use Rattle.choice_tree.specs.Places.{numbers}
+use Rattle.choice_tree.specs.Seen.{places_of}
+use Rattle.choice_tree.proofs.taking_up.first_of_packages.Given as goal
+
+abbrev pub invariant-loop-line : goal.invariant-loop-line
+invariant-loop-line l =
+    find (is_open_of (places_of l.places)) (flat_map (obligations_of (length l.places)) (numbers (length l.places - l.line) l.line)) ≡ find (is_open_of (places_of l.places)) (flat_map (obligations_of (length l.places)) (numbers (length l.places) 0))

@@ -1,0 +1,214 @@
+ghost use Rattle.std.specs.Prelude.{◌≡◌, ◌<◌, IfOk, length, map};
+ghost use Rattle.std.specs.List.{find, flat_map};
+ghost use Rattle.std.specs.Option.{option_map};
+ghost use Rattle.dep_atom.specs.Values.{atom_value};
+ghost use Rattle.choice_law.specs.Tree.{absence, conflict, required, tree, wanted};
+ghost use Rattle.choice_tree.specs.Open.{classes, first_open, is_open_of, obligation_of, obligations};
+ghost use Rattle.choice_tree.specs.Open.{obligations_of, opposes};
+ghost use Rattle.choice_tree.specs.Places.{is_one, numbers, package_in};
+ghost use Rattle.choice_tree.specs.Seen.{place_of, places_of};
+ghost use Rattle.choice_law.specs.Universe.{Value as TheValue, counts, is_new};
+ghost use Rattle.choice_tree.specs.Views.{universe_of};
+
+use crate::choice::Choice;
+use crate::obligation::Obligation;
+use crate::place::Place;
+use crate::places::{Around, all_places, any_decides, any_opposes, opposes};
+use crate::universe::Universe;
+use crate::value::Value;
+use dep_atom::Atom;
+use pkg_state::Class;
+use pms_names::Flags;
+use std::alloc::{AllocError, Global};
+
+/// The first wanted atom that no decided line serves.
+fn first_wanted<'a>(alloc: Global, atoms: &'a [Atom], places: &[Place<'_>]) -> Option<&'a Atom>
+    ensures { option_map (λ a. atom_value a.now) result ≡
+        find (λ a. is_open_of (places_of places.now) (wanted a)) (map atom_value atoms.now) }
+{
+    let nobody = Flags::new(alloc);
+    for atom in atoms {
+        if !any_decides(places, atom, &nobody) {
+            return Some(atom);
+        }
+    }
+    None
+}
+
+fn lacks_flags(places: &[Place<'_>], line: usize) -> bool
+    requires { line < length places.now }
+    ensures { result ≡ is_open_of (places_of places.now) (required line) }
+{
+    match &places[line].standing {
+        Some(standing) => !standing.owner.fits_required(),
+        None => false,
+    }
+}
+
+fn has_conflict(places: &[Place<'_>], line: usize, other: usize) -> bool
+    requires line { line < length places.now }
+    requires other { other < length places.now }
+    ensures { result ≡ is_open_of (places_of places.now) (conflict line other) }
+{
+    line != other && are_opposed(&places[line], &places[other])
+}
+
+/// The first line whose package the package of this line can't stand beside.
+fn first_conflict(places: &[Place<'_>], line: usize) -> Option<usize>
+    requires { line < length places.now }
+    ensures { result ≡ find (λ m. is_open_of (places_of places.now) (conflict line m))
+        (numbers (length places.now) 0) }
+{
+    for other in 0..places.len() {
+        if has_conflict(places, line, other) {
+            return Some(other);
+        }
+    }
+    None
+}
+
+fn are_opposed(place: &Place<'_>, other: &Place<'_>) -> bool
+    ensures { result ≡ is_one (λ q. opposes q (place_of place.now))
+        (package_in (place_of other.now)) }
+{
+    match &other.standing {
+        Some(standing) => opposes(place, standing.owner, standing.text.as_str()),
+        None => false,
+    }
+}
+
+fn counts(class: Class, new: bool) -> bool
+    ensures { (v : TheValue) → is_new v ≡ new → result ≡ counts class v }
+{
+    match class {
+        Class::Rdepend => true,
+        _ => new,
+    }
+}
+
+fn is_unmet(places: &[Place<'_>], line: usize, class: Class) -> bool
+    requires { line < length places.now }
+    ensures { result ≡ is_open_of (places_of places.now) (tree line class) }
+{
+    match &places[line].standing {
+        Some(standing) => {
+            counts(class, standing.is_new) && !standing.owner.is_met(class, &Around { places })
+        }
+        None => false,
+    }
+}
+
+/// The first class whose needs are not met.
+fn first_unmet(places: &[Place<'_>], line: usize) -> Option<Class>
+    requires { line < length places.now }
+    ensures { result ≡ find (λ class. is_open_of (places_of places.now) (tree line class)) classes }
+{
+    let classes = [
+        Class::Rdepend,
+        Class::Pdepend,
+        Class::Depend,
+        Class::Bdepend,
+        Class::Idepend,
+    ];
+    for class in &classes {
+        if is_unmet(places, line, *class) {
+            return Some(*class);
+        }
+    }
+    None
+}
+
+/// What is first open of the package on a line.
+fn first_of_line<'a>(places: &[Place<'_>], line: usize) -> Option<Obligation<'a>>
+    requires { line < length places.now }
+    ensures { option_map obligation_of result ≡
+        find (is_open_of (places_of places.now)) (obligations_of (length places.now) line) }
+{
+    if lacks_flags(places, line) {
+        return Some(Obligation::Required(line));
+    }
+    if let Some(other) = first_conflict(places, line) {
+        return Some(Obligation::Conflict(line, other));
+    }
+    match first_unmet(places, line) {
+        Some(class) => Some(Obligation::Tree(line, class)),
+        None => None,
+    }
+}
+
+/// What is first open of the packages, line by line.
+fn first_of_packages<'a>(places: &[Place<'_>]) -> Option<Obligation<'a>>
+    ensures { option_map obligation_of result ≡ find (is_open_of (places_of places.now))
+        (flat_map (obligations_of (length places.now)) (numbers (length places.now) 0)) }
+{
+    for line in 0..places.len() {
+        if let Some(found) = first_of_line(places, line) {
+            return Some(found);
+        }
+    }
+    None
+}
+
+fn is_forsaken(alloc: Global, places: &[Place<'_>], line: usize) -> Result<bool, AllocError>
+    requires { line < length places.now }
+    ensures { IfOk result (λ it. it ≡ is_open_of (places_of places.now) (absence line)) }
+{
+    let place = &places[line];
+    match (place.decided, &place.offer.installed) {
+        (Some(Value::Absent), Some(gone)) => {
+            let text = gone.facts.id.print(alloc)?;
+            Ok(!any_opposes(places, gone, text.as_str()))
+        }
+        _ => Ok(false),
+    }
+}
+
+/// The first line whose package is to leave it without a conflict.
+fn first_forsaken(alloc: Global, places: &[Place<'_>]) -> Result<Option<usize>, AllocError>
+    ensures { IfOk result (λ line. line ≡
+        find (λ l. is_open_of (places_of places.now) (absence l)) (numbers (length places.now) 0)) }
+{
+    for line in 0..places.len() {
+        if is_forsaken(alloc, places, line)? {
+            return Ok(Some(line));
+        }
+    }
+    Ok(None)
+}
+
+/// What is first open of all.
+fn first_of_all<'a>(
+    alloc: Global,
+    atoms: &'a [Atom],
+    places: &[Place<'_>],
+) -> Result<Option<Obligation<'a>>, AllocError>
+    ensures { IfOk result (λ found. option_map obligation_of found ≡
+        find (is_open_of (places_of places.now))
+        (obligations (map atom_value atoms.now) (length places.now))) }
+{
+    if let Some(atom) = first_wanted(alloc, atoms, places) {
+        return Ok(Some(Obligation::Wanted(atom)));
+    }
+    if let Some(found) = first_of_packages(places) {
+        return Ok(Some(found));
+    }
+    match first_forsaken(alloc, places)? {
+        Some(line) => Ok(Some(Obligation::Absence(line))),
+        None => Ok(None),
+    }
+}
+
+/// What is taken up next of a choice, if anything is open: what is wanted, then line by line each
+/// package's flags, conflicts and dependencies, then what is to go without a conflict.
+pub fn first_open<'a>(
+    alloc: Global,
+    universe: &'a Universe,
+    choice: &Choice,
+) -> Result<Option<Obligation<'a>>, AllocError>
+    ensures { IfOk result (λ found. option_map obligation_of found ≡
+        first_open (universe_of universe.now) choice.now) }
+{
+    let places = all_places(alloc, universe, choice)?;
+    let found = first_of_all(alloc, &universe.wanted, &places)?;
+    Ok(found)
+}
