@@ -4,3 +4,5 @@ pub mod Packages
 pub mod Pick
 pub mod Placed
 pub mod Found
+pub mod Gathered
+pub mod Among

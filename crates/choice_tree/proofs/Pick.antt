@@ -83,25 +83,25 @@ module _ (u : Universe) (c : Choice) where
       let long : length (places u c) ≡ lines u = length_mapped (place_at u c) (numbers (lines u) 0) ∙ length_numbers (lines u) 0 in
       get_past (places u c) l no_place (omega (arith, long, past))
 
-  there : (l : ℕ) (p : Package) → package_in (place l) ≡ Some p → Stands u (filling u c) l p
+  pub there : (l : ℕ) (p : Package) → package_in (place l) ≡ Some p → Stands u (filling u c) l p
   there l p is = elim (below_or_not l (lines u)) [
     | inl less ↦ record { there = less; is = ap package_in (sym (place_is l less)) ∙ is }
     | inr past ↦ absurd (let none : package_in (place l) ≡ None = ap package_in (place_past l past) in let bad : ◌≡◌ {A = Option Package} None (Some p) = sym none ∙ is in cc bad)
   ]
 
-  stands : (l : ℕ) (p : Package) → Stands u (filling u c) l p → package_in (place l) ≡ Some p
+  pub stands : (l : ℕ) (p : Package) → Stands u (filling u c) l p → package_in (place l) ≡ Some p
   stands l p st = ap package_in (place_is l st.there) ∙ st.is
 
   value_at : (l : ℕ) (p : Package) → Stands u (filling u c) l p → value_in (place l) ≡ filling u c l
   value_at l p st = ap value_in (place_is l st.there)
 
-  opposed : (q : Package) (l : ℕ) → opposes q (place l) ≡ true → (p : Package) × Stands u (filling u c) l p × (conflicts (is_new (filling u c l)) p q ≡ true)
+  pub opposed : (q : Package) (l : ℕ) → opposes q (place l) ≡ true → (p : Package) × Stands u (filling u c) l p × (conflicts (is_new (filling u c l)) p q ≡ true)
   opposed q l e =
       let one = one_is (λ p. conflicts (is_new (value_in (place l))) p q) (package_in (place l)) e in
       let st = there l one.0 one.1 in
       (one.0, st, ap (λ (v : Value). conflicts (is_new v) one.0 q) (sym (value_at l one.0 st)) ∙ one.2)
 
-  opposing : (q : Package) (l : ℕ) (p : Package) → Stands u (filling u c) l p → opposes q (place l) ≡ conflicts (is_new (filling u c l)) p q
+  pub opposing : (q : Package) (l : ℕ) (p : Package) → Stands u (filling u c) l p → opposes q (place l) ≡ conflicts (is_new (filling u c l)) p q
   opposing q l p st =
       one_has (λ p. conflicts (is_new (value_in (place l))) p q) (package_in (place l)) p (stands l p st)
       ∙ ap (λ (v : Value). conflicts (is_new v) p q) (value_at l p st)

@@ -5,3 +5,6 @@ pub mod Lines
 pub mod Blocks
 pub mod Seen
 pub mod Open
+pub mod Candidates
+pub mod Options
+pub mod Shown

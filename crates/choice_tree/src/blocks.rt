@@ -7,7 +7,8 @@ use dep_atom::{Atom, Block};
 use pkg_state::{Class, Pkg};
 use std::alloc::{AllocError, Global};
 
-fn is_block(atom: &Atom) -> bool
+/// Whether the atom is a block.
+pub(crate) fn is_block(atom: &Atom) -> bool
     ensures { result ≡ is_block (atom_value atom.now) }
 {
     match atom.block {

@@ -50,6 +50,14 @@ impl Choice {
         Ok(Choice { decisions })
     }
 
+    /// A copy.
+    pub fn try_clone(&self, alloc: Global) -> Result<Choice, AllocError>
+        ensures { IfOk result (λ copy. copy ≡ self.now) }
+    {
+        let decisions = copied(alloc, &self.decisions)?;
+        Ok(Choice { decisions })
+    }
+
     /// The decisions, the newest first.
     pub fn decisions(&self) -> &[Decision]
         ensures { decisions_of result.now ≡ self.now }
@@ -82,4 +90,14 @@ fn with_more(
         more.push(*decision)?;
     }
     Ok(more)
+}
+
+fn copied(alloc: Global, decisions: &[Decision]) -> Result<Vec<Decision>, AllocError>
+    ensures { IfOk result (λ v. v.items ≡ decisions.now) }
+{
+    let mut copy = Vec::new(alloc);
+    for decision in decisions {
+        copy.push(*decision)?;
+    }
+    Ok(copy)
 }

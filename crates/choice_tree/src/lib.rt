@@ -8,7 +8,9 @@
 //!
 //! **Proved**: [`first_open`] tells the first obligation that is open, in an order that is written
 //! out whole in `specs/Open.antt`, and none where nothing is open; what it tells is a pick, so the
-//! laws of `choice_law` hold of it.
+//! laws of `choice_law` hold of it. [`options`] gives the options for it in the order that is written
+//! out in `specs/Options.antt` and `specs/Candidates.antt`: they are just those of `choice_law`, each
+//! of them, and no others.
 //!
 //! **Only tested**: nothing yet.
 //!
@@ -16,24 +18,34 @@
 //!
 //! ```
 //! let choice = Choice::new(alloc);
-//! let open = first_open(alloc, &universe, &choice)?;
+//! if let Some(obligation) = first_open(alloc, &universe, &choice)? {
+//!     let next = options(alloc, &universe, &choice, &obligation)?;
+//! }
 //! ```
 #![tactic(auto)]
 
 mod blocks;
+mod branching;
+mod candidate;
 mod choice;
+mod choosing;
+mod filtering;
+mod gathering;
 mod laws;
 mod obligation;
 mod opposing;
 mod place;
 mod places;
+mod ranking;
+mod repeats;
 mod standing;
 mod taking_up;
 mod universe;
 mod value;
 
+pub use branching::options;
 pub use choice::Choice;
-pub use laws::first_open_is_a_pick;
+pub use laws::{first_open_is_a_pick, options_are_those};
 pub use obligation::Obligation;
 pub use taking_up::first_open;
 pub use universe::{Offer, Universe};

@@ -20,6 +20,8 @@ pub struct Offer {
 pub struct Universe {
     pub offers: Vec<Offer>,
     pub wanted: Vec<Atom>,
+    /// A greater version goes before what is installed.
+    pub update: bool,
 }
 
 impl Offer {
