@@ -8,7 +8,7 @@ use std::alloc::{AllocError, Global};
 use std::marker::Model;
 
 /// Decisions on some lines. Contracts see the newest first.
-#[derive(Drop)]
+#[derive(Debug, Drop)]
 pub struct Choice {
     decisions: Vec<Decision>,
 }

@@ -1,0 +1,4 @@
+pub mod Tree
+pub mod Form
+pub mod Smaller
+pub mod Answers

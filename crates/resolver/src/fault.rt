@@ -1,0 +1,26 @@
+ghost use Rattle.std.specs.Prelude.{◌≡◌};
+ghost use Rattle.resolver.specs.declared.fault.ResolveFault.TheVariants.{Memory};
+
+use choice_tree::Choice;
+use std::alloc::AllocError;
+use thiserror::Error;
+
+/// Why there is no choice.
+#[derive(Debug, Drop, Error)]
+pub enum ResolveFault {
+    #[error("there is no solution")]
+    NoSolution,
+    /// So many choices were tried in vain: these, in their order.
+    #[error("the limit of choices that are tried in vain is reached")]
+    BacktrackLimit { refuted: Vec<Choice> },
+    #[error("out of memory")]
+    Memory,
+}
+
+impl From<AllocError> for ResolveFault {
+    ghost from_gives = { λ _ e. e ≡ Memory };
+
+    fn from(_e: AllocError) -> ResolveFault {
+        ResolveFault::Memory
+    }
+}

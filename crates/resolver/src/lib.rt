@@ -1,0 +1,24 @@
+//! What to install: the first good leaf of the tree of choices, or why there is none.
+//!
+//! **A contract sees** a universe and a choice as `choice_tree` and `choice_law` have them, and the
+//! tree of choices as the whole list of its leaves, in the order in which they are tried.
+//!
+//! **Proved**: [`resolve`] answers with the first good leaf, which is a solution with the lines that
+//! it doesn't decide as they are; that there is no solution only where there is none; and that the
+//! limit is reached exactly where as many dead leaves as are allowed stand before a good one, and
+//! then with just these.
+//!
+//! **Only tested**: that with ample memory it answers with one of these.
+//!
+//! ```
+//! let choice = resolve(alloc, &universe, 10)?;
+//! ```
+#![tactic(auto)]
+
+mod fault;
+mod form;
+mod resolving;
+mod tree;
+
+pub use fault::ResolveFault;
+pub use resolving::resolve;

@@ -1,0 +1,45 @@
+ghost use Rattle.std.specs.Prelude.{IfErr, IfOk};
+ghost use Rattle.choice_tree.specs.Views.{universe_of};
+ghost use Rattle.resolver.specs.Answers.{HasCause, IsChosen};
+ghost use Rattle.resolver.specs.Tree.{tree_leaves};
+ghost use Rattle.tree_search.specs.Leaves.{IsOutcome};
+
+use crate::fault::ResolveFault;
+use crate::form::universe_is_plain;
+use crate::tree::Choices;
+use choice_law::{good_leaves_are_solutions, solutions_have_leaves};
+use choice_tree::{Choice, Universe, first_open_is_a_pick};
+use std::alloc::{AllocError, Global};
+use tree_search::{Outcome, first_good};
+
+fn search(
+    alloc: Global,
+    universe: &Universe,
+    backtrack: usize,
+) -> Result<Outcome<Choice>, AllocError>
+    ensures { IfOk result (IsOutcome
+        (tree_leaves universe.now.update (universe_of universe.now)) backtrack) }
+{
+    let choices = Choices { universe };
+    let outcome = first_good(alloc, &choices, Choice::new(alloc), backtrack)?;
+    Ok(outcome)
+}
+
+/// The first choice of the tree of which nothing is open. It gives up where so many were tried in
+/// vain before one.
+pub fn resolve(alloc: Global, universe: &Universe, backtrack: usize) -> Result<Choice, ResolveFault>
+    ensures chosen { IfOk result
+        (IsChosen universe.now.update (universe_of universe.now) backtrack) }
+    ensures cause { IfErr result
+        (HasCause universe.now.update (universe_of universe.now) backtrack) }
+{
+    good_leaves_are_solutions();
+    solutions_have_leaves();
+    first_open_is_a_pick();
+    universe_is_plain(universe);
+    match search(alloc, universe, backtrack)? {
+        Outcome::Found(choice) => Ok(choice),
+        Outcome::NoneGood => Err(ResolveFault::NoSolution),
+        Outcome::Limit(refuted) => Err(ResolveFault::BacktrackLimit { refuted }),
+    }
+}
