@@ -6,3 +6,4 @@ pub mod Placed
 pub mod Found
 pub mod Gathered
 pub mod Among
+pub mod Smaller

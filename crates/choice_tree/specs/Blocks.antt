@@ -19,7 +19,8 @@ abbrev pub build_blocks : Package → List AtomValue
 build_blocks p = blocks_in Depend p ++ (blocks_in Bdepend p ++ blocks_in Idepend p)
 
 abbrev pub blocks_of : Bool → Package → List AtomValue
-blocks_of new p = (blocks_in Rdepend p ++ blocks_in Pdepend p) ++ (if new then build_blocks p else [])
+blocks_of new p =
+    (blocks_in Rdepend p ++ blocks_in Pdepend p) ++ (if new then build_blocks p else [])
 
 -- one of the atoms matches q, for an asker with the flags of p
 abbrev pub hit : List AtomValue → Package → Package → Bool

@@ -7,4 +7,5 @@ pub mod Seen
 pub mod Open
 pub mod Candidates
 pub mod Options
+pub mod Tree
 pub mod Shown

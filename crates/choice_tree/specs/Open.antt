@@ -44,7 +44,8 @@ is_gone (Some (variant i)) = false
 
 -- a decided line has a package that the atom matches
 abbrev pub decides : AtomValue → Place → Bool
-decides a s = is_one (λ p. value_matches a p.facts []) (option_and_then (package_of s.offer) s.decided)
+decides a s =
+    is_one (λ p. value_matches a p.facts []) (option_and_then (package_of s.offer) s.decided)
 
 -- what stands there conflicts with the package
 abbrev pub opposes : Package → Place → Bool

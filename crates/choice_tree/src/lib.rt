@@ -8,9 +8,9 @@
 //!
 //! **Proved**: [`first_open`] tells the first obligation that is open, in an order that is written
 //! out whole in `specs/Open.antt`, and none where nothing is open; what it tells is a pick, so the
-//! laws of `choice_law` hold of it. [`options`] gives the options for it in the order that is written
-//! out in `specs/Options.antt` and `specs/Candidates.antt`: they are just those of `choice_law`, each
-//! of them, and no others.
+//! laws of `choice_law` hold of it. [`options`] gives the options for it in the order that is
+//! written out in `specs/Options.antt` and `specs/Candidates.antt`: they are just those of
+//! `choice_law`, and each decides a line more.
 //!
 //! **Only tested**: nothing yet.
 //!
@@ -45,7 +45,7 @@ mod value;
 
 pub use branching::options;
 pub use choice::Choice;
-pub use laws::{first_open_is_a_pick, options_are_those};
+pub use laws::{first_open_is_a_pick, options_are_those, options_decide_more};
 pub use obligation::Obligation;
 pub use taking_up::first_open;
 pub use universe::{Offer, Universe};

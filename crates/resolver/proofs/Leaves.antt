@@ -13,8 +13,9 @@ use Rattle.choice_tree.proofs.Pick.{flat_has, has_flat}
 use Rattle.tree_search.specs.Laws.{IsDeep}
 use Rattle.tree_search.specs.Leaves.{Leaf, dead, first_good, good, leaves, leaves_by, leaves_within}
 use Rattle.tree_search.proofs.Deep.{same_leaves}
-use Rattle.resolver.specs.Tree.{free_lines, tree_leaves, tree_options}
-use Rattle.resolver.specs.Smaller.{none_open, smaller, some_open}
+use Rattle.choice_tree.specs.Tree.{free_lines, tree_options}
+use Rattle.resolver.specs.Tree.{tree_leaves}
+use Rattle.choice_tree.proofs.Smaller.{none_open, smaller, some_open}
 
 found_has : (ls : List (Leaf Choice)) (c : Choice) → first_good ls ≡ Some c → Has ls (good c)
 found_has [] c e = absurd (let bad : ◌≡◌ {A = Option Choice} None (Some c) = e in cc bad)

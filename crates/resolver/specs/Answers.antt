@@ -23,7 +23,8 @@ pub record HasNone (update : Bool) (u : Universe) (limit : ℕ) : Type 0 where
   pub no_solution : (f : Filling) → ¬ IsSolution u f
 
 -- as many dead leaves as are too many stand before a good one, and these are the first
-pub record IsTooMany (update : Bool) (u : Universe) (limit : ℕ) (refuted : List Choice) : Type 0 where
+pub record IsTooMany (update : Bool) (u : Universe) (limit : ℕ)
+    (refuted : List Choice) : Type 0 where
   pub these : refuted ≡ take limit (dead_before (tree_leaves update u))
   pub many : limit ≤ length (dead_before (tree_leaves update u))
 

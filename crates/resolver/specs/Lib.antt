@@ -1,4 +1,3 @@
 pub mod Tree
 pub mod Form
-pub mod Smaller
 pub mod Answers

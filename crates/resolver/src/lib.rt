@@ -3,10 +3,10 @@
 //! **A contract sees** a universe and a choice as `choice_tree` and `choice_law` have them, and the
 //! tree of choices as the whole list of its leaves, in the order in which they are tried.
 //!
-//! **Proved**: [`resolve`] answers with the first good leaf, which is a solution with the lines that
-//! it doesn't decide as they are; that there is no solution only where there is none; and that the
-//! limit is reached exactly where as many dead leaves as are allowed stand before a good one, and
-//! then with just these.
+//! **Proved**: [`resolve`] answers with the first good leaf, which is a solution with the lines
+//! that it doesn't decide as they are; it says that there is no solution only where there is none;
+//! and it gives up exactly where as many dead leaves as are allowed stand before a good one, and
+//! tells these.
 //!
 //! **Only tested**: that with ample memory it answers with one of these.
 //!

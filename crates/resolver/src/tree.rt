@@ -10,8 +10,8 @@ pub(crate) struct Choices<'a> {
 
 impl<'a> Tree<Choice> for Choices<'a> {
     ghost use Rattle.choice_tree.specs.Views.{universe_of};
-    ghost use Rattle.resolver.specs.Tree.{free_lines, tree_options};
-    ghost use Rattle.resolver.specs.Smaller.{smaller};
+    ghost use Rattle.choice_tree.specs.Tree.{free_lines, tree_options};
+    ghost use Rattle.choice_tree.proofs.Smaller.{smaller};
 
     ghost options = { λ t. tree_options t.universe.now.update (universe_of t.universe.now) };
 

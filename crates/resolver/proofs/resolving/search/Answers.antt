@@ -2,7 +2,7 @@ use Rattle.std.proofs.Common.{subst}
 use Rattle.choice_law.specs.Tree.{Choice}
 use Rattle.choice_tree.specs.Views.{universe_of}
 use Rattle.tree_search.specs.Leaves.{IsOutcome, leaves}
-use Rattle.resolver.specs.Tree.{free_lines, tree_options}
+use Rattle.choice_tree.specs.Tree.{free_lines, tree_options}
 use Rattle.resolver.proofs.resolving.search.Goals as goal
 
 pub returns : goal.returns

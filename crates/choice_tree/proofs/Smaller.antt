@@ -8,7 +8,7 @@ use Rattle.choice_law.proofs.Lines.{DecidesMore, adding_decides, decided_here, d
 use Rattle.choice_tree.specs.Open.{first_open}
 use Rattle.choice_tree.specs.Options.{options}
 use Rattle.choice_tree.proofs.Among.{options_are}
-use Rattle.resolver.specs.Tree.{free_before, free_lines, one_if_free, tree_options}
+use Rattle.choice_tree.specs.Tree.{OptionsDecideMore, free_before, free_lines, one_if_free, tree_options}
 
 abbrev IsThere : Option (List Choice) → Type 0
 IsThere None = ⊥
@@ -61,7 +61,7 @@ module _ (u : Universe) (c : Choice) where
   fewer (tree l class) e (inr o) = one_more l o.0 e o.1.may o.2
   fewer (absence l) e o = one_more o.0 o.1 e o.4 o.9
 
-pub smaller : (update : Bool) (u : Universe) (c d : Choice) (ds : List Choice) → tree_options update u c ≡ Some ds → Has ds d → free_lines u d < free_lines u c
+pub smaller : OptionsDecideMore
 smaller update u c d ds e h =
     let o = some_open update u c ds e in
     let less = fewer u c o.0 d (options_are update u c o.0 d (subst (λ (xs : List Choice). Has xs d) (sym o.2) h)) in
