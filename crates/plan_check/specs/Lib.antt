@@ -1,0 +1,5 @@
+pub mod Form
+pub mod Reaching
+pub mod IsReach
+pub mod Lives
+pub mod Clearings
