@@ -4,3 +4,15 @@ pub mod Places
 pub mod Clears
 pub mod AllLives
 pub mod Backwards
+pub mod Joining
+pub mod Trying
+pub mod Keyed
+pub mod Ordered
+pub mod Accepting
+pub mod Clear
+pub mod Within
+pub mod Serving
+pub mod KeptOut
+pub mod InTheWay
+pub mod Told
+pub mod Judged

@@ -3,3 +3,15 @@ pub mod Reaching
 pub mod IsReach
 pub mod Lives
 pub mod Clearings
+pub mod Index
+pub mod Verdicts
+pub mod Refusals
+pub mod Rules
+pub mod Changes
+pub mod Stretches
+pub mod Chains
+pub mod Leaves
+pub mod Gathered
+pub mod PackageRules
+pub mod Keeping
+pub mod Kept

@@ -1,30 +1,72 @@
-//! The check of a plan over the packages that are installed: which groups reach which, and how
-//! long each package is there.
+//! The check of a plan over the packages that are installed: it is accepted, or the first rule that
+//! it breaks is told.
+//!
+//! These rules are tried over the whole plan: of two groups that change one line, one waits for the
+//! other; what is removed stands on its line just before; what stands on the line of an addition
+//! goes in the same group; a group brings at most one package to a line; no version is there on two
+//! lines at one time; the packages are consistent to begin with. Then package by package: the flags
+//! of an addition go together; what it needs while it runs is there all through its life; what it
+//! blocks isn't there with it; what bars it isn't there when it may come; what it wants for its build
+//! is there whenever it may come; and what it wants later is there at the end.
 //!
 //! **A contract sees** a [`Plan`] as the list of its groups, each as `plan_law` has it, and a
 //! package as a record.
 //!
-//! **Proved**: a plan is made of just those groups that wait for earlier ones alone, at most 4,096;
-//! [`Reach`] tells of each two groups whether one reaches the other; [`lives_of`] lists the lives of
-//! a plan over packages, each of them and no other, in the order of packages.
+//! **Proved**: a plan is made of just those groups that wait for earlier ones alone, at most 4,096.
+//! [`Reach`] tells of each two groups whether one reaches the other. [`lives_of`] lists the lives of
+//! a plan over packages, each of them and no other, in the order of packages. [`check`] answers Ok
+//! exactly on accepted plans (`IsAccepted` of `plan_law`), but for want of memory, and these are
+//! sound over every order of their groups. Any other plan is refused by the first rule that it
+//! breaks (`plan_rule` of `specs/PackageRules.antt`), with the first package that breaks it, and
+//! with the leaf, the other package or the groups that the rule names.
 //!
-//! **Only tested**: nothing yet.
+//! **Only tested**: that with ample memory an accepted plan is accepted. Which two groups are told,
+//! where several of a line or several lines are in disorder, isn't proved: only that these two are.
 //!
-//! The lives take time in n log n of packages and removals. Of n groups each pair where one waits
-//! for the other costs n / 64 words.
+//! The lives, the rules on lines and the look-ups by name take time in n log n. A package's blocks
+//! are compared with all lives, one after another, which grows with the square of packages. A chain
+//! goes through the lives that its atoms match, at worst once for each of them. Of n groups each
+//! pair where one waits for the other costs n / 64 words.
 //!
 //! ```
 //! let plan = Plan::new(groups).ok_or(Fault::Form)?;
-//! let lives = lives_of(alloc, &installed, plan.groups())?;
+//! check(alloc, &installed, &plan)?;
 //! ```
 #![tactic(auto)]
 
+mod blocked;
+mod by_text;
+mod chain;
+mod chains;
+mod change;
+mod checking;
+mod finished;
+mod firm;
+mod index;
+mod indexing;
+mod keeping;
+mod lasting;
+mod leaf;
+mod left;
 mod life;
 mod lives;
+mod opening;
+mod order;
 mod plan;
+mod presence;
 mod reach;
+mod refusal;
+mod required;
+mod single;
+mod standing;
+mod stretch;
+mod twins;
+mod vacancy;
+mod versions;
 
+pub use checking::check;
 pub use life::{Life, Moment};
 pub use lives::lives_of;
 pub use plan::{Group, MOST_GROUPS, Plan, Removal};
 pub use reach::Reach;
+pub use refusal::PlanRefused;

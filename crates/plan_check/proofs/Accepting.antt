@@ -1,0 +1,263 @@
+-- Where no rule refuses, the plan is accepted, and the other way round.
+use Rattle.std.proofs.Common.{◌≡◌, ◌⊎◌, ◌≤◌, ◌+◌, ◌-◌, ◌∙◌, ◌||◌, ◌↔◌, ℕ, Bool, true, false, List, [], ◌∷◌, Option, None, Some, bytes_eq, filter, map, inl, inr, refl, sym, ap, subst, arith}
+use Rattle.std.proofs.lemmas.Bool.{cases_Bool, cases_eq}
+use Rattle.std.proofs.lemmas.Slice.Eq.{bytes_eq-Decides}
+use Rattle.basics.specs.Members.{AreDistinct, Has}
+use Rattle.basics.proofs.Membership.{has-map, has-map_back}
+use Rattle.dep_atom.specs.declared.package.Facts.{Facts}
+use Rattle.dep_atom.specs.Match.{value_matches}
+use Rattle.dep_atom.specs.Values.{AtomValue}
+use Rattle.dep_tree.specs.Truth.{kind, some_match}
+use Rattle.pkg_state.specs.Consistent.{AreConsistent, blocks, facts_of, fits_required, is_met}
+use Rattle.dep_group.specs.Trees.{all_hold}
+use Rattle.dep_tree.specs.Grammar.{is_block}
+use Rattle.pms_names.specs.Flags.{has}
+use Rattle.pkg_state.specs.Fault.{lacking_leaf}
+use Rattle.pkg_state.specs.Package.{Package, line_of, lines_of, tree_of}
+use Rattle.pkg_state.specs.declared.class.Class.{Class}
+use Rattle.pkg_state.specs.declared.class.Class.TheVariants.{Bdepend, Depend, Idepend, Pdepend, Rdepend}
+use Rattle.plan_law.specs.Plans.{Group, Reaches, Removal, clears, group_at, no_group}
+use Rattle.plan_law.specs.Lives.{Enters, IsCleared, IsLife, Life, Meets, Moment, StandsBefore, commit, first_after, never, opening, stretch_of, until}
+use Rattle.plan_law.specs.Accepted.{AreLeft, Changes, IsAccepted, IsFirmThrough}
+use Rattle.plan_law.specs.Sound.{bars, is_of_build}
+use Rattle.plan_law.proofs.Members.{filtered, kept, passes_some, some_passes}
+use Rattle.plan_law.proofs.There.{some_life}
+use Rattle.plan_check.specs.Lives.{lives}
+use Rattle.plan_check.specs.PackageRules.{built_of, built_rule, finished_rule, if_brought, if_left, is_never, lasting_rule, left_of, package_rule, plan_rule, required_rule, unbarred_of, unbarred_rule, unblocked_rule}
+use Rattle.plan_check.specs.Refusals.{Refusal, Refusal as refused}
+use Rattle.plan_check.specs.Rules.{AreOneVersion, Crowds, IsPresent, apart_rule, line_rule, number_of, opening_rule, present_at, present_rule, single_rule, vacant_at, vacant_of, vacant_rule, versions_of, versions_rule}
+use Rattle.plan_check.specs.Verdicts.{both, demand, each, each_from, refuse}
+use Rattle.plan_check.proofs.AllLives.{has_lives}
+use Rattle.plan_check.proofs.Clears.{Stands, all_stand, one_clearing, rest_stands, stands_here}
+use Rattle.plan_check.proofs.Trying.{each_none, each_passed}
+
+true_if : (b : Bool) → ¬ (b ≡ false) → b ≡ true
+true_if true h = refl
+true_if false h = absurd (h refl)
+
+false_if : (b : Bool) → ¬ (b ≡ true) → b ≡ false
+false_if true h = absurd (h refl)
+false_if false h = refl
+
+not_both : (b : Bool) → b ≡ true → b ≡ false → ⊥
+not_both b h k = let t : true ≡ false = sym h ∙ k in cc t
+
+module _ {E : Type 0} (plan : List Group) (J : ℕ → Group → Option E → Type 0) where
+  -- the rule lets pass at each place of the plan
+  from_passed : (rest : List Group) (n : ℕ) → Stands plan n rest → each_from n rest J None → (g : ℕ) → n ≤ g → J g (group_at plan g) None ⊎ (group_at plan g ≡ no_group)
+  from_passed [] n s h g le = inr (s g (g - n) (omega (arith, le)))
+  from_passed (group ∷ rest) n s h g le = elim (cases_eq n g) [
+    | inl same ↦ inl (subst (λ (k : ℕ). J k (group_at plan k) None) same (subst (λ (x : Group). J n x None) (sym (stands_here plan n group rest s)) h.0))
+    | inr other ↦ from_passed rest (n + 1) (rest_stands plan n group rest s) h.1 g (omega (arith, le, other))
+  ]
+
+  from_none : (rest : List Group) (n : ℕ) → Stands plan n rest → ((g : ℕ) → J g (group_at plan g) None) → each_from n rest J None
+  from_none [] n s all = tt
+  from_none (group ∷ rest) n s all = (subst (λ (x : Group). J n x None) (stands_here plan n group rest s) (all n), from_none rest (n + 1) (rest_stands plan n group rest s) all)
+
+-- two lists with the same members tell the same of what is met
+module _ (ps qs : List Package) (same : (p : Package) → Has ps p ↔ Has qs p) where
+  one_way : (asker : List (List ℕ)) (a : AtomValue) (xs ys : List Package) → ((p : Package) → Has xs p → Has ys p) → some_match (facts_of xs) asker a ≡ true → some_match (facts_of ys) asker a ≡ true
+  one_way asker a xs ys to e =
+      let k = some_passes (λ (f : Facts). value_matches a f asker) (facts_of xs) e in
+      let m = has-map_back (λ (p : Package). p.facts) xs k.0 k.1 in
+      passes_some (λ (f : Facts). value_matches a f asker) (facts_of ys) k.0 (subst (λ (f : Facts). Has (facts_of ys) f) m.2 (has-map (λ (p : Package). p.facts) ys m.0 (to m.0 m.1))) k.2
+
+  same_match : (asker : List (List ℕ)) (a : AtomValue) → some_match (facts_of ps) asker a ≡ some_match (facts_of qs) asker a
+  same_match asker a = elim (cases_Bool (some_match (facts_of ps) asker a)) [
+    | inl y ↦ y ∙ sym (one_way asker a ps qs (λ p. (same p).0) y)
+    | inr n ↦ n ∙ sym (false_if (some_match (facts_of qs) asker a) (λ e. not_both (some_match (facts_of ps) asker a) (one_way asker a qs ps (λ p. (same p).1) e) n))
+  ]
+
+  pub same_met : (class : Class) (p : Package) → is_met (facts_of ps) class p ≡ is_met (facts_of qs) class p
+  same_met class p = ap (λ (fact : AtomValue → Bool). all_hold kind fact (has p.facts.enabled) (tree_of class p)) (λ i a. is_block a || same_match p.facts.enabled a i)
+
+module _ (plan : List Group) (start : List Package) where
+  abbrev xs : List Life
+  xs = lives plan start
+
+  listed : (x : Life) → IsLife plan start x → Has xs x
+  listed x is = (has_lives plan start x).1 is
+
+  -- the life of an addition
+  brought : (g : ℕ) (p : Package) → Has (group_at plan g).additions p → (d : Moment) × IsLife plan start (record { package_is = p; birth = commit g; death = d })
+  brought g p h = some_life plan start p (commit g) h
+
+  same_line : (a b : List ℕ) → ¬ (¬ (a ≡ b)) → a ≡ b
+  same_line a b h = elim (cases_Bool (bytes_eq a b)) [
+    | inl y ↦ (bytes_eq-Decides a b).0 y
+    | inr n ↦ absurd (h (λ e. not_both (bytes_eq a b) ((bytes_eq-Decides a b).1 e) n))
+  ]
+
+  never_is : (m : Moment) → is_never m ≡ true → m ≡ never
+  never_is opening e = absurd (cc e)
+  never_is (commit g) e = absurd (cc e)
+  never_is never e = refl
+
+  is_never_at : (m : Moment) → m ≡ never → is_never m ≡ true
+  is_never_at m e = ap is_never e
+
+  -- those that no group takes away
+  pub left_are : AreLeft plan start (left_of plan start)
+  left_are p = (
+    (λ h. let k = has-map_back (λ (x : Life). x.package_is) (filter (λ (x : Life). is_never x.death) xs) p h in
+        let m = filtered (λ (x : Life). is_never x.death) xs k.0 k.1 in
+        (k.0, (has_lives plan start k.0).0 m.0, never_is k.0.death m.1, k.2)),
+    (λ x. subst (λ (q : Package). Has (left_of plan start) q) x.3
+        (has-map (λ (y : Life). y.package_is) (filter (λ (y : Life). is_never y.death) xs) x.0
+        (kept (λ (y : Life). is_never y.death) xs x.0 (listed x.0 x.1) (is_never_at x.0.death x.2)))),
+  )
+
+  finally : (ps : List Package) → AreLeft plan start ps → (p : Package) → Has ps p ↔ Has (left_of plan start) p
+  finally ps left p = ((λ h. (left_are p).1 ((left p).0 h)), (λ h. (left p).1 ((left_are p).0 h)))
+
+  -- where a line is never cleared, neither is it from a later place on
+  not_later : (line : List ℕ) (from : ℕ) (d : Moment) → IsCleared plan 0 line never → IsCleared plan from line d → d ≡ never
+  not_later line from opening all c = absurd c
+  not_later line from (commit g) all c = absurd (all g (omega arith) c.1)
+  not_later line from never all c = refl
+
+  abbrev NotMet : Package → Type 0
+  NotMet p = is_met (facts_of (left_of plan start)) Pdepend p ≡ false
+
+  module _ (h : plan_rule plan start None) where
+    package_passed : (x : Life) → IsLife plan start x → package_rule plan start x None
+    package_passed x is = each_passed xs (package_rule plan start) h.1.1.1.1.1.1 x (listed x is)
+
+    addition_passed : (g : ℕ) (p : Package) → Has (group_at plan g).additions p → (d : Moment) × package_rule plan start (record { package_is = p; birth = commit g; death = d }) None
+    addition_passed g p has = let k = brought g p has in (k.0, package_passed (record { package_is = p; birth = commit g; death = k.0 }) k.1)
+
+    present : (g : ℕ) (r : Removal) → Has (group_at plan g).removals r → IsPresent plan start g r
+    present g r has = elim (from_passed plan (present_at plan start) plan 0 (all_stand plan) h.1.0 g (omega arith)) [
+      | inl passed ↦ each_passed (group_at plan g).removals (λ (r : Removal). demand (IsPresent plan start g r) (refused.Absent (g + 1) r.id)) passed r has
+      | inr e ↦ absurd (subst (λ (x : Group). Has x.removals r) e has)
+    ]
+
+    not_crowded : (g : ℕ) (p : Package) (y : Life) → Has (group_at plan g).additions p → IsLife plan start y → ¬ Crowds (group_at plan g) g p y
+    not_crowded g p y has is = elim (from_passed plan (vacant_at plan start) plan 0 (all_stand plan) h.1.1.0 g (omega arith)) [
+      | inl passed ↦ each_passed xs (λ (y : Life). refuse (Crowds (group_at plan g) g p y) (refused.Occupied (g + 1) p.facts.id y.package_is.facts.id)) (each_passed (group_at plan g).additions (vacant_of plan start g) passed p has) y (listed y is)
+      | inr e ↦ absurd (subst (λ (x : Group). Has x.additions p) e has)
+    ]
+
+    single : (g : ℕ) → AreDistinct (lines_of (group_at plan g).additions)
+    single g = elim (from_passed plan apart_rule plan 0 (all_stand plan) h.1.1.1.0 g (omega arith)) [
+      | inl passed ↦ passed
+      | inr e ↦ subst (λ (x : Group). AreDistinct (lines_of x.additions)) (sym e) tt
+    ]
+
+    not_one_version : (x y : Life) → IsLife plan start x → IsLife plan start y → ¬ AreOneVersion plan x y
+    not_one_version x y isx isy = each_passed xs (λ (y : Life). refuse (AreOneVersion plan x y) (refused.Occupied (number_of x.birth) x.package_is.facts.id y.package_is.facts.id)) (each_passed xs (versions_of plan start) h.1.1.1.1.0 x (listed x isx)) y (listed y isy)
+
+    unblocked : (x y : Life) → IsLife plan start x → IsLife plan start y → Meets plan (stretch_of x) y → blocks x.package_is y.package_is ≡ false
+    unblocked x y isx isy meets = false_if (blocks x.package_is y.package_is) (λ e.
+        each_passed xs (λ (y : Life). refuse (Meets plan (stretch_of x) y × (blocks x.package_is y.package_is ≡ true)) (refused.Blocked x.package_is.facts.id y.package_is.facts.id))
+        (package_passed x isx).1.1.0 y (listed y isy) (meets, e))
+
+    unbarred : (g : ℕ) (p : Package) (y : Life) → Has (group_at plan g).additions p → IsLife plan start y → Meets plan (until g) y → bars p y.package_is ≡ false
+    unbarred g p y has is meets = false_if (bars p y.package_is) (λ e.
+        each_passed xs (λ (y : Life). refuse (Meets plan (until g) y × (bars p y.package_is ≡ true)) (refused.Barred (g + 1) p.facts.id y.package_is.facts.id))
+        (addition_passed g p has).1.1.1.1.0 y (listed y is) (meets, e))
+
+    built : (g : ℕ) (p : Package) (class : Class) → Has (group_at plan g).additions p → is_of_build class ≡ true → IsFirmThrough plan start (until g) class p
+    built g p Rdepend has e = absurd (cc e)
+    built g p Pdepend has e = absurd (cc e)
+    built g p Depend has e = (addition_passed g p has).1.1.1.1.1.0.0
+    built g p Bdepend has e = (addition_passed g p has).1.1.1.1.1.0.1.0
+    built g p Idepend has e = (addition_passed g p has).1.1.1.1.1.0.1.1
+
+    met_later : (g : ℕ) (p : Package) (d : Moment) → package_rule plan start (record { package_is = p; birth = commit g; death = d }) None → d ≡ never → ¬ NotMet p
+    met_later g p d passed e = subst (λ (m : Moment). if_left m (refuse (NotMet p) (refused.Final p.facts.id (lacking_leaf (facts_of (left_of plan start)) Pdepend p))) None) e passed.1.1.1.1.1
+
+    stays_met : (g : ℕ) (p q : Package) (b d : Moment) → Has (group_at plan g).additions p → IsLife plan start (record { package_is = q; birth = b; death = d }) → d ≡ never → q ≡ p → ¬ NotMet p
+    stays_met g p q opening d has is e same =
+        let never_cleared : IsCleared plan 0 (line_of p.facts) never = subst (λ (z : Package). IsCleared plan 0 (line_of z.facts) never) same (subst (λ (m : Moment). IsCleared plan 0 (line_of q.facts) m) e is.leaves) in
+        let k = brought g p has in
+        met_later g p k.0 (package_passed (record { package_is = p; birth = commit g; death = k.0 }) k.1) (not_later (line_of p.facts) (g + 1) k.0 never_cleared k.1.leaves)
+    stays_met g p q (commit h) d has is e same = subst (λ (z : Package). ¬ NotMet z) same (met_later h q d (package_passed (record { package_is = q; birth = commit h; death = d }) is) e)
+    stays_met g p q never d has is e same = absurd is.enters
+
+    finished : (g : ℕ) (p : Package) (ps : List Package) → Has (group_at plan g).additions p → AreLeft plan start ps → Has ps p → is_met (facts_of ps) Pdepend p ≡ true
+    finished g p ps has left there =
+        let x = (left p).0 there in
+        same_met ps (left_of plan start) (finally ps left) Pdepend p
+        ∙ true_if (is_met (facts_of (left_of plan start)) Pdepend p) (stays_met g p x.0.package_is x.0.birth x.0.death has x.1 x.2 x.3)
+
+    pub accepted : IsAccepted plan start
+    accepted = record {
+      ordered = h.0;
+      present = present;
+      vacant = λ g p x has is stands twin. true_if (clears (group_at plan g) (line_of p.facts)) (λ off. not_crowded g p x has is (record { stands = stands; twin = twin; stays = off }));
+      single = single;
+      versions = λ x y isx isy meets same. same_line (line_of x.package_is.facts) (line_of y.package_is.facts) (λ apart. not_one_version x y isx isy (record { meets = meets; same = same; apart = apart }));
+      consistent = h.1.1.1.1.1.0;
+      required = λ g p has. true_if (fits_required p) (addition_passed g p has).1.0;
+      lasting = λ x is. (package_passed x is).1.0;
+      unblocked = unblocked;
+      unbarred = unbarred;
+      built = built;
+      finished = finished;
+    }
+
+  -- an accepted plan passes every rule
+  module _ (ok : IsAccepted plan start) where
+    is_life : (x : Life) → Has xs x → IsLife plan start x
+    is_life x h = (has_lives plan start x).0 h
+
+    required_none : (p : Package) (b d : Moment) → Enters plan start b p → required_rule (record { package_is = p; birth = b; death = d }) None
+    required_none p opening d e = tt
+    required_none p (commit g) d e = λ off. not_both (fits_required p) (ok.required g p e) off
+    required_none p never d e = tt
+
+    unbarred_none : (p : Package) (b d : Moment) → Enters plan start b p → unbarred_rule plan start (record { package_is = p; birth = b; death = d }) None
+    unbarred_none p opening d e = tt
+    unbarred_none p (commit g) d e = each_none xs (λ (y : Life). refuse (Meets plan (until g) y × (bars p y.package_is ≡ true)) (refused.Barred (g + 1) p.facts.id y.package_is.facts.id)) (λ y h k. not_both (bars p y.package_is) k.1 (ok.unbarred g p y e (is_life y h) k.0))
+    unbarred_none p never d e = tt
+
+    built_none : (p : Package) (b d : Moment) → Enters plan start b p → built_rule plan start (record { package_is = p; birth = b; death = d }) None
+    built_none p opening d e = tt
+    built_none p (commit g) d e = (ok.built g p Depend e refl, (ok.built g p Bdepend e refl, ok.built g p Idepend e refl))
+    built_none p never d e = tt
+
+    final_none : (g : ℕ) (p : Package) (d : Moment) → IsLife plan start (record { package_is = p; birth = commit g; death = d }) → if_left d (refuse (NotMet p) (refused.Final p.facts.id (lacking_leaf (facts_of (left_of plan start)) Pdepend p))) None
+    final_none g p opening is = tt
+    final_none g p (commit k) is = tt
+    final_none g p never is = λ off. not_both (is_met (facts_of (left_of plan start)) Pdepend p)
+        (ok.finished g p (left_of plan start) is.enters left_are ((left_are p).1 (record { package_is = p; birth = commit g; death = never }, is, refl, refl))) off
+
+    finished_none : (p : Package) (b d : Moment) → IsLife plan start (record { package_is = p; birth = b; death = d }) → finished_rule plan start (record { package_is = p; birth = b; death = d }) None
+    finished_none p opening d is = tt
+    finished_none p (commit g) d is = final_none g p d is
+    finished_none p never d is = tt
+
+    package_none : (x : Life) → IsLife plan start x → package_rule plan start x None
+    package_none x is = (
+      required_none x.package_is x.birth x.death is.enters,
+      (
+        ok.lasting x is,
+        (
+          each_none xs (λ (y : Life). refuse (Meets plan (stretch_of x) y × (blocks x.package_is y.package_is ≡ true)) (refused.Blocked x.package_is.facts.id y.package_is.facts.id)) (λ y h k. not_both (blocks x.package_is y.package_is) k.1 (ok.unblocked x y is (is_life y h) k.0)),
+          (
+            unbarred_none x.package_is x.birth x.death is.enters,
+            (built_none x.package_is x.birth x.death is.enters, finished_none x.package_is x.birth x.death is),
+          ),
+        ),
+      ),
+    )
+
+    pub none_refuses : plan_rule plan start None
+    none_refuses = (
+      ok.ordered,
+      (
+        from_none plan (present_at plan start) plan 0 (all_stand plan) (λ g. each_none (group_at plan g).removals (λ (r : Removal). demand (IsPresent plan start g r) (refused.Absent (g + 1) r.id)) (λ r h. ok.present g r h)),
+        (
+          from_none plan (vacant_at plan start) plan 0 (all_stand plan) (λ g. each_none (group_at plan g).additions (vacant_of plan start g) (λ p hp. each_none xs (λ (y : Life). refuse (Crowds (group_at plan g) g p y) (refused.Occupied (g + 1) p.facts.id y.package_is.facts.id)) (λ y hy k. not_both (clears (group_at plan g) (line_of p.facts)) (ok.vacant g p y hp (is_life y hy) k.stands k.twin) k.stays))),
+          (
+            from_none plan apart_rule plan 0 (all_stand plan) ok.single,
+            (
+              each_none xs (versions_of plan start) (λ x hx. each_none xs (λ (y : Life). refuse (AreOneVersion plan x y) (refused.Occupied (number_of x.birth) x.package_is.facts.id y.package_is.facts.id)) (λ y hy k. k.apart (ok.versions x y (is_life x hx) (is_life y hy) k.meets k.same))),
+              (ok.consistent, each_none xs (package_rule plan start) (λ x h. package_none x (is_life x h))),
+            ),
+          ),
+        ),
+      ),
+    )

@@ -1,0 +1,10 @@
+use Rattle.std.proofs.Common.{drop}
+use Rattle.plan_check.specs.Index.{plan_of, start_of}
+use Rattle.plan_check.specs.Lives.{lives_of}
+use Rattle.plan_check.specs.PackageRules.{package_rule}
+use Rattle.plan_check.specs.Verdicts.{each}
+use Rattle.plan_check.proofs.Trying.{Hears}
+use Rattle.plan_check.proofs.checking.judge_packages.Given as goal
+
+abbrev pub invariant-loop-x : goal.invariant-loop-x
+invariant-loop-x l = Hears (each (lives_of (drop l.x-index l.x-items)) (package_rule (plan_of l.index) (start_of l.index))) (each (lives_of l.x-items) (package_rule (plan_of l.index) (start_of l.index)))

@@ -1,0 +1,59 @@
+use Rattle.std.proofs.Common.{◌≡◌, ◌<◌, ◌≤◌, ◌∙◌, ℕ, List, Option, None, Some, ap, sym, subst, true, false, length, arith}
+use Rattle.dep_atom.specs.declared.package.PackageId.{PackageId}
+use Rattle.pkg_state.specs.Package.{Package}
+use Rattle.plan_law.specs.Lives as law
+use Rattle.plan_check.specs.Index.{all_lives, name_key, plan_of, start_of}
+use Rattle.plan_check.specs.Lives.{life_of, lives_of, moment_of}
+use Rattle.plan_check.specs.Refusals.{Refusal, Refusal as refused}
+use Rattle.plan_check.specs.Rules.{AreOneVersion, number_of}
+use Rattle.plan_check.specs.Verdicts.{each, refuse}
+use Rattle.plan_check.proofs.Judged.{at_end, within_more}
+use Rattle.plan_check.proofs.Keyed.{heard_all, in_items, item_at}
+use Rattle.plan_check.proofs.Trying.{mapped_next, mapped_refused}
+use Rattle.plan_check.proofs.Within.{lives_within}
+use Rattle.plan_check.proofs.versions.judge_life.Goals as goal
+
+pub are_one_version-requires-clause-y : goal.are_one_version-requires-clause-y
+are_one_version-requires-clause-y c =
+    let index = c.args.index.now in
+    let items = c.get-y-items.result.now in
+    ((in_items name_key (all_lives index) index.by_name.lists c.text.result.now items c.requires.is.by_name c.get-y-items.ensures (life_of c.y-item.result)).0 (item_at items c.loop-y.y-index c.y-item.result (omega arith) c.y-item.is)).0
+
+pub number_of-requires : goal.number_of-requires
+number_of-requires c =
+    let index = c.args.index.now in
+    within_more (length (plan_of index)) 4096 c.requires.is.reach_is.form.few (moment_of c.args.x.now.birth) (lives_within (plan_of index) (start_of index) (life_of c.args.x.now) c.requires.x).0
+
+pub returns-then-branch : goal.returns-then-branch
+returns-then-branch c =
+    let index = c.args.index.now in
+    let plan = plan_of index in
+    let x = life_of c.args.x.now in
+    let items = c.get-y-items.result.now in
+    let J : law.Life → Option Refusal → Type 0 = λ y. refuse (AreOneVersion plan x y) (refused.Occupied (number_of x.birth) x.package_is.facts.id y.package_is.facts.id) in
+    let text : c.text.result.now ≡ name_key x = c.text.ensures.text ∙ ap (λ (q : Package). q.facts.id.name.«package») c.pkg.view_is in
+    let y = life_of c.y-item.result in
+    let e : c.in_ok-package.package ≡ x.package_is.facts.id = c.in_ok-package.ensures ∙ ap (λ (q : Package). q.facts.id) c.pkg.view_is in
+    let f : c.in_ok-other.other ≡ y.package_is.facts.id = c.in_ok-other.ensures ∙ ap (λ (q : Package). q.facts.id) c.other.view_is in
+    let n = c.number_of.ensures in
+    heard_all J name_key (all_lives index) index.by_name.lists c.text.result.now items c.requires.is.by_name c.get-y-items.ensures (λ z off k. off (text ∙ ap (λ (id : PackageId). id.name.«package») k.same)) (Some (refused.Occupied c.number_of.result c.in_ok-package.package c.in_ok-other.other))
+    (mapped_refused life_of items c.loop-y.y-index c.y-item.result J (each (lives_of items) J) (refused.Occupied c.number_of.result c.in_ok-package.package c.in_ok-other.other) (omega arith) c.y-item.is c.loop-y.invariant (c.in_ok-are_one_version.ensures.0 c.if-branch.true, λ i. refused.Occupied (n i) (e i) (f i)))
+
+pub loop-y-preserved : goal.loop-y-preserved
+loop-y-preserved c =
+    let index = c.args.index.now in
+    let x = life_of c.args.x.now in
+    let items = c.get-y-items.result.now in
+    let J : law.Life → Option Refusal → Type 0 = λ y. refuse (AreOneVersion (plan_of index) x y) (refused.Occupied (number_of x.birth) x.package_is.facts.id y.package_is.facts.id) in
+    mapped_next life_of items c.loop-y.y-index c.y-item.result J (each (lives_of items) J) (omega arith) c.y-item.is c.loop-y.invariant
+    (λ k. let t = c.in_ok-are_one_version.ensures.1 k in let f = c.if-branch.false in cc (t, f))
+
+pub returns : goal.returns
+returns c =
+    let index = c.args.index.now in
+    let x = life_of c.args.x.now in
+    let items = c.get-y-items.result.now in
+    let J : law.Life → Option Refusal → Type 0 = λ y. refuse (AreOneVersion (plan_of index) x y) (refused.Occupied (number_of x.birth) x.package_is.facts.id y.package_is.facts.id) in
+    let text : c.text.result.now ≡ name_key x = c.text.ensures.text ∙ ap (λ (q : Package). q.facts.id.name.«package») c.pkg.view_is in
+    heard_all J name_key (all_lives index) index.by_name.lists c.text.result.now items c.requires.is.by_name c.get-y-items.ensures (λ z off k. off (text ∙ ap (λ (id : PackageId). id.name.«package») k.same)) None
+    (c.loop-y.invariant None (at_end items c.loop-y.y-index J (omega arith)))

@@ -1,0 +1,117 @@
+-- The rules of the check that are tried package by package, and the whole check.
+use Rattle.std.specs.Prelude.{◌≡◌, ◌⊎◌, ℕ, ◌+◌, Bool, true, false, List, Option, None, Some, filter, map}
+use Rattle.pms_names.specs.Flags.{has}
+use Rattle.dep_atom.specs.Values.{AtomValue}
+use Rattle.pkg_state.specs.Consistent.{blocks, facts_of, fits_required, is_met}
+use Rattle.pkg_state.specs.Fault.{lacking_leaf}
+use Rattle.pkg_state.specs.Package.{Package, tree_of}
+use Rattle.pkg_state.specs.declared.class.Class.{Class}
+use Rattle.pkg_state.specs.declared.class.Class.TheVariants.{Bdepend, Depend, Idepend, Pdepend, Rdepend}
+use Rattle.plan_law.specs.Plans.{Group}
+use Rattle.plan_law.specs.Firm.{IsChained, IsFirm}
+use Rattle.plan_law.specs.Lives.{Life, Meets, Moment, Stretch, commit, never, opening, stretch_of, until}
+use Rattle.plan_law.specs.Accepted.{IsFirmThrough}
+use Rattle.plan_law.specs.Sound.{bars}
+use Rattle.plan_check.specs.Leaves.{IsLeafOfAll}
+use Rattle.plan_check.specs.Lives.{lives}
+use Rattle.plan_check.specs.Refusals.{Refusal, Refusal as refused}
+use Rattle.plan_check.specs.Rules.{line_rule, opening_rule, present_rule, single_rule, vacant_rule, versions_rule}
+use Rattle.plan_check.specs.Verdicts.{both, demand_as, each, nothing, refuse}
+
+-- a rule for what a group brings
+abbrev pub if_brought : Moment → (ℕ → Option Refusal → Type 0) → Option Refusal → Type 0
+if_brought opening rule = nothing
+if_brought (commit g) rule = rule g
+if_brought never rule = nothing
+
+-- the flags of what comes go together
+abbrev pub required_rule : Life → Option Refusal → Type 0
+required_rule x =
+    if_brought x.birth (λ g. refuse (fits_required x.package_is ≡ false)
+    (refused.RequiredUse x.package_is.facts.id))
+
+-- the leaf to name of what the package wants in this class and may miss in the stretch
+abbrev pub IsMissing : List Group → List Package → Stretch → Class → Package → Option AtomValue → Type 0
+IsMissing plan start s class p =
+    IsLeafOfAll (λ t. ¬ IsFirm (IsChained plan start p.facts.enabled s) (has p.facts.enabled) t)
+    (has p.facts.enabled) (tree_of class p)
+
+-- what a package needs while it runs is there all through its life
+abbrev pub lasting_rule : List Group → List Package → Life → Option Refusal → Type 0
+lasting_rule plan start x =
+    demand_as (IsFirmThrough plan start (stretch_of x) Rdepend x.package_is) (λ e.
+    (leaf : Option AtomValue) × IsMissing plan start (stretch_of x) Rdepend x.package_is leaf
+    × (e ≡ refused.Unsafe x.package_is.facts.id leaf))
+
+-- what it blocks isn't there with it
+abbrev pub unblocked_rule : List Group → List Package → Life → Option Refusal → Type 0
+unblocked_rule plan start x =
+    each (lives plan start) (λ y.
+    refuse (Meets plan (stretch_of x) y × (blocks x.package_is y.package_is ≡ true))
+    (refused.Blocked x.package_is.facts.id y.package_is.facts.id))
+
+-- .. and what bars it isn't there when it may come
+abbrev pub unbarred_of : List Group → List Package → Package → ℕ → Option Refusal → Type 0
+unbarred_of plan start p g =
+    each (lives plan start) (λ y.
+    refuse (Meets plan (until g) y × (bars p y.package_is ≡ true))
+    (refused.Barred (g + 1) p.facts.id y.package_is.facts.id))
+
+abbrev pub unbarred_rule : List Group → List Package → Life → Option Refusal → Type 0
+unbarred_rule plan start x = if_brought x.birth (unbarred_of plan start x.package_is)
+
+-- what it wants for its build is there whenever it may come
+abbrev pub built_of : List Group → List Package → Package → Class → ℕ → Option Refusal → Type 0
+built_of plan start p class g =
+    demand_as (IsFirmThrough plan start (until g) class p) (λ e.
+    (leaf : Option AtomValue) × IsMissing plan start (until g) class p leaf
+    × (e ≡ refused.Build (g + 1) p.facts.id class leaf))
+
+abbrev pub built_rule : List Group → List Package → Life → Option Refusal → Type 0
+built_rule plan start x = if_brought x.birth (λ g.
+    both (built_of plan start x.package_is Depend g)
+    (both (built_of plan start x.package_is Bdepend g) (built_of plan start x.package_is Idepend g)))
+
+abbrev pub is_never : Moment → Bool
+is_never opening = false
+is_never (commit g) = false
+is_never never = true
+
+-- the packages that no group takes away
+abbrev pub left_among : List Life → List Package
+left_among xs = map (λ x. x.package_is) (filter (λ x. is_never x.death) xs)
+
+abbrev pub left_of : List Group → List Package → List Package
+left_of plan start = left_among (lives plan start)
+
+-- a rule for what stays
+abbrev pub if_left : Moment → (Option Refusal → Type 0) → Option Refusal → Type 0
+if_left opening rule = nothing
+if_left (commit g) rule = nothing
+if_left never rule = rule
+
+-- what it wants later is there at the end
+abbrev pub finished_rule : List Group → List Package → Life → Option Refusal → Type 0
+finished_rule plan start x = if_brought x.birth (λ g. if_left x.death (
+    refuse (is_met (facts_of (left_of plan start)) Pdepend x.package_is ≡ false)
+    (refused.Final x.package_is.facts.id
+    (lacking_leaf (facts_of (left_of plan start)) Pdepend x.package_is))))
+
+-- the rules of one package
+abbrev pub package_rule : List Group → List Package → Life → Option Refusal → Type 0
+package_rule plan start x =
+    both (required_rule x)
+    (both (lasting_rule plan start x)
+    (both (unblocked_rule plan start x)
+    (both (unbarred_rule plan start x)
+    (both (built_rule plan start x) (finished_rule plan start x)))))
+
+-- all rules: those of the whole plan, and then package by package
+abbrev pub plan_rule : List Group → List Package → Option Refusal → Type 0
+plan_rule plan start =
+    both (line_rule plan)
+    (both (present_rule plan start)
+    (both (vacant_rule plan start)
+    (both (single_rule plan)
+    (both (versions_rule plan start)
+    (both (opening_rule start) (each (lives plan start) (package_rule plan start)))))))

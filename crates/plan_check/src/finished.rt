@@ -1,0 +1,59 @@
+ghost use Rattle.std.specs.Prelude.{◌≡◌, List, false, map};
+ghost use Rattle.pkg_state.specs.Consistent.{facts_of, is_met};
+ghost use Rattle.pkg_state.specs.Fault.{lacking_leaf};
+ghost use Rattle.pkg_state.specs.Package.{Package};
+ghost use Rattle.pkg_state.specs.declared.class.Class.TheVariants.{Pdepend};
+ghost use Rattle.plan_law.specs.Plans.{Group};
+ghost use Rattle.plan_check.specs.Lives.{life_of, moment_of};
+ghost use Rattle.plan_check.specs.PackageRules.{finished_rule, if_left, left_of};
+ghost use Rattle.plan_check.specs.Refusals.Refusal.{Final};
+ghost use Rattle.plan_check.specs.Refusals.{Says};
+ghost use Rattle.plan_check.specs.Verdicts.{refuse};
+
+use crate::leaf::copy_leaf;
+use crate::left::Left;
+use crate::life::{Life, Moment};
+use crate::refusal::PlanRefused;
+use pkg_state::{Class, Pkg};
+
+fn judge_left(left: &Left<'_>, pkg: &Pkg) -> Result<(), PlanRefused>
+    ensures { Says (refuse
+        (is_met (facts_of (map (λ p. p.now) left.now.packages.items)) Pdepend pkg.now ≡ false)
+        (Final pkg.now.facts.id
+        (lacking_leaf (facts_of (map (λ p. p.now) left.now.packages.items)) Pdepend pkg.now)))
+        result }
+{
+    if !pkg.is_met(Class::Pdepend, left) {
+        let leaf = copy_leaf(pkg.lacking_leaf(Class::Pdepend, left))?;
+        let package = pkg.facts.id.try_clone()?;
+        return Err(PlanRefused::Final { package, leaf });
+    }
+    Ok(())
+}
+
+fn judge_end(left: &Left<'_>, death: Moment, pkg: &Pkg) -> Result<(), PlanRefused>
+    ensures { Says (if_left (moment_of death) (refuse
+        (is_met (facts_of (map (λ p. p.now) left.now.packages.items)) Pdepend pkg.now ≡ false)
+        (Final pkg.now.facts.id
+        (lacking_leaf (facts_of (map (λ p. p.now) left.now.packages.items)) Pdepend pkg.now))))
+        result }
+{
+    match death {
+        Moment::Opening => Ok(()),
+        Moment::Commit(_) => Ok(()),
+        Moment::Never => judge_left(left, pkg),
+    }
+}
+
+/// Whether what an addition wants later is there at the end, where these packages are left.
+pub(crate) fn judge_finished(left: &Left<'_>, x: &Life<'_>) -> Result<(), PlanRefused>
+    ensures { (plan : List Group) (start : List Package) →
+        map (λ p. p.now) left.now.packages.items ≡ left_of plan start →
+        Says (finished_rule plan start (life_of x.now)) result }
+{
+    match x.birth {
+        Moment::Opening => Ok(()),
+        Moment::Commit(_) => judge_end(left, x.death, x.pkg),
+        Moment::Never => Ok(()),
+    }
+}

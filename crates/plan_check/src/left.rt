@@ -1,0 +1,67 @@
+ghost use Rattle.std.specs.Prelude.{◌≡◌, IfOk, filter, map};
+ghost use Rattle.pkg_state.specs.Consistent.{facts_of};
+ghost use Rattle.pkg_state.specs.Index.{AreNamed};
+ghost use Rattle.plan_check.specs.Lives.{lives_of};
+ghost use Rattle.plan_check.specs.PackageRules.{left_among};
+
+use crate::by_text::ByText;
+use crate::life::{Life, Moment};
+use dep_atom::Atom;
+use dep_tree::Present;
+use pkg_state::Pkg;
+use pms_names::Flags;
+use std::alloc::{AllocError, Global};
+
+/// The packages that no group takes away, and what an atom finds among them by its name.
+#[derive(Drop)]
+pub(crate) struct Left<'a> {
+    pub(crate) packages: Vec<&'a Pkg>,
+    named: ByText<'a, &'a Pkg>,
+    ghost are_named: { AreNamed (map (λ p. p.now) packages.items) named.lists },
+}
+
+fn left_among<'a>(alloc: Global, lives: &[Life<'a>]) -> Result<Vec<&'a Pkg>, AllocError>
+    ensures { IfOk result (λ left. map (λ p. p.now) left.items ≡ left_among (lives_of lives.now)) }
+{
+    let mut left = Vec::new(alloc);
+    for x in lives {
+        if let Moment::Never = x.death {
+            left.push(x.pkg)?;
+        }
+    }
+    Ok(left)
+}
+
+fn by_own_name<'a>(alloc: Global, packages: &[&'a Pkg]) -> Result<ByText<'a, &'a Pkg>, AllocError>
+    ensures { IfOk result (λ named. AreNamed (map (λ p. p.now) packages.now) named.lists) }
+{
+    let mut named = ByText::new(alloc);
+    for &pkg in packages {
+        named.add(alloc, pkg.facts.id.name.package.text(), pkg)?;
+    }
+    Ok(named)
+}
+
+impl<'a> Left<'a> {
+    pub(crate) fn new(alloc: Global, lives: &[Life<'a>]) -> Result<Left<'a>, AllocError>
+        ensures { IfOk result (λ left. map (λ p. p.now) left.packages.items ≡
+            left_among (lives_of lives.now)) }
+    {
+        let packages = left_among(alloc, lives)?;
+        let named = by_own_name(alloc, &packages)?;
+        Ok(Left { packages, named })
+    }
+}
+
+impl<'a> Present for Left<'a> {
+    ghost facts = { λ left. facts_of (map (λ p. p.now) left.packages.items) };
+
+    fn some_match(&self, atom: &Atom, asker: &Flags) -> bool {
+        for &pkg in self.named.get(atom.name.package.text()) {
+            if atom.matches(&pkg.facts, asker) {
+                return true;
+            }
+        }
+        false
+    }
+}

@@ -1,0 +1,36 @@
+ghost use Rattle.std.specs.Prelude.{◌<◌, length};
+ghost use Rattle.plan_check.specs.Form.{IsInForm};
+ghost use Rattle.plan_check.specs.Refusals.{Says};
+ghost use Rattle.plan_check.specs.Rules.{apart_rule, single_rule};
+
+use crate::plan::Group;
+use crate::refusal::PlanRefused;
+use crate::twins::first_twins;
+use std::alloc::Global;
+
+fn judge_group(alloc: Global, g: usize, group: &Group) -> Result<(), PlanRefused>
+    requires { g < 4096 }
+    ensures { Says (apart_rule g group.now) result }
+{
+    if let Some((one, other)) = first_twins(alloc, &group.additions)? {
+        let package = one.facts.id.try_clone()?;
+        let other = other.facts.id.try_clone()?;
+        return Err(PlanRefused::Occupied {
+            group: g + 1,
+            package,
+            other,
+        });
+    }
+    Ok(())
+}
+
+/// Whether each group brings at most one package to a line.
+pub(crate) fn judge_single(alloc: Global, groups: &[Group]) -> Result<(), PlanRefused>
+    requires { IsInForm groups.now }
+    ensures { Says (single_rule groups.now) result }
+{
+    for (g, group) in groups.iter().enumerate() {
+        judge_group(alloc, g, group)?;
+    }
+    Ok(())
+}

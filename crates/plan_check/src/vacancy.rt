@@ -1,0 +1,71 @@
+ghost use Rattle.std.specs.Prelude.{◌↔◌, ◌<◌, IsTrue, length};
+ghost use Rattle.plan_check.specs.Index.{IsIndex, plan_of, start_of};
+ghost use Rattle.plan_check.specs.Lives.{life_of};
+ghost use Rattle.plan_check.specs.Refusals.{Says};
+ghost use Rattle.plan_check.specs.Rules.{IsInTheWay, vacant_of, vacant_rule};
+ghost use Rattle.plan_check.specs.Verdicts.{each};
+
+use crate::index::Index;
+use crate::life::Life;
+use crate::refusal::PlanRefused;
+use crate::standing::stands_before;
+use crate::stretch::is_commit_of;
+use pkg_state::Pkg;
+use std::alloc::Global;
+
+/// Whether the package is there just before the group, and doesn't go with it.
+fn is_in_the_way(y: &Life<'_>, g: usize) -> bool
+    ensures { IsTrue result ↔ IsInTheWay g (life_of y.now) }
+{
+    stands_before(y, g) && !is_commit_of(y.death, g)
+}
+
+/// Judges what stands on the line of one addition.
+fn judge_addition(alloc: Global, index: &Index<'_>, g: usize, pkg: &Pkg) -> Result<(), PlanRefused>
+    requires is { IsIndex index.now }
+    requires there { g < length (plan_of index.now) }
+    ensures { Says (vacant_of (plan_of index.now) (start_of index.now) g pkg.now) result }
+{
+    let line = pkg.line(alloc)?;
+    for y in index.by_line.get(line.text()) {
+        if is_in_the_way(y, g) {
+            let standing = y.pkg;
+            let package = pkg.facts.id.try_clone()?;
+            let other = standing.facts.id.try_clone()?;
+            return Err(PlanRefused::Occupied {
+                group: g + 1,
+                package,
+                other,
+            });
+        }
+    }
+    Ok(())
+}
+
+fn judge_additions(
+    alloc: Global,
+    index: &Index<'_>,
+    g: usize,
+    additions: &[Pkg],
+) -> Result<(), PlanRefused>
+    requires is { IsIndex index.now }
+    requires there { g < length (plan_of index.now) }
+    ensures { Says (each additions.now (vacant_of (plan_of index.now) (start_of index.now) g))
+        result }
+{
+    for pkg in additions {
+        judge_addition(alloc, index, g, pkg)?;
+    }
+    Ok(())
+}
+
+/// Whether what stands on the line of each package that comes goes in the same group.
+pub(crate) fn judge_vacant(alloc: Global, index: &Index<'_>) -> Result<(), PlanRefused>
+    requires { IsIndex index.now }
+    ensures { Says (vacant_rule (plan_of index.now) (start_of index.now)) result }
+{
+    for (g, group) in index.reach.groups.iter().enumerate() {
+        judge_additions(alloc, index, g, &group.additions)?;
+    }
+    Ok(())
+}
