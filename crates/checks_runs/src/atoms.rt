@@ -1,5 +1,5 @@
 use crate::whole::{told, told_on};
-use samples::{Run, cached, listing, run_on, sample_image, tree_of};
+use samples::{Run, cached, image_of, listing, run_on, sample_image, tree_of};
 use std::alloc::{AllocError, Global};
 use std::test::Fail;
 
@@ -99,26 +99,78 @@ fn slots_of_a_package_are_in_its_record(rt: HostRuntime) -> Result<(), Fail> {
     Ok(())
 }
 
-/// What a run of this word comes to where `c/p-1.00` is installed in slot `0/2`.
-fn told_behind(alloc: Global, atom: &str) -> Result<String, AllocError> {
+/// What a run of this word, whose builder has this image, comes to where `c/p-1.00` is installed in
+/// slot `0/2`, with the file `usr/bin/p`.
+fn told_behind(alloc: Global, atom: &str, image: &str) -> Result<String, AllocError> {
     let Run { tree, .. } = run_over(alloc, CACHE, "c/p:0/2")?;
-    told_on(alloc, atom, tree, sample_image(alloc)?)
+    told_on(alloc, atom, tree, image_of(alloc, image)?)
 }
 
 #[test]
 fn a_package_that_is_installed(rt: HostRuntime) -> Result<(), Fail> {
     let alloc = rt.alloc();
     for atom in ["c/p", "=c/p-1.0", "c/p:0"] {
-        let came = told_behind(alloc, atom)?;
+        let came = told_behind(alloc, atom, "- usr/bin/q")?;
         assert_eq!(rt; came.as_str(), "0 emerge: ok 0\n", "at {atom}");
     }
-    for atom in ["c/p:0/0", ">c/p-2", "c/pp", "c/q"] {
-        let came = told_behind(alloc, atom)?;
-        assert_eq!(rt;
-            came.as_str(),
-            "20 emerge: NotBuilt: Database\n",
-            "at {atom}"
-        );
+    // `c/p-1.0` would stand on its line, and any other package has a line of its own
+    let table = [
+        ("c/p:0/0", "- usr/bin/q", "20 emerge: NotBuilt: Result\n"),
+        (
+            "c/p:3",
+            "- usr/bin/q",
+            "0 done 1 +c/p-3_alpha\nemerge: ok 1\n",
+        ),
+        (
+            "c/p:3",
+            "- usr/bin/p",
+            "13 emerge: Collision: Owned usr/bin/p 0\n",
+        ),
+        (
+            "c/pp",
+            "- a\n- usr/bin/p/x",
+            "13 emerge: Collision: Ancestor usr/bin/p/x usr/bin/p\n",
+        ),
+        (
+            "c/pp",
+            "- usr/bin",
+            "13 emerge: Collision: Ancestor usr/bin usr/bin/p\n",
+        ),
+        ("c/q", "- usr/bin/q", "7 emerge: NoCandidate: c/q\n"),
+    ];
+    for (atom, image, want) in table {
+        let came = told_behind(alloc, atom, image)?;
+        assert_eq!(rt; came.as_str(), want, "at {atom}");
+    }
+    Ok(())
+}
+
+#[test]
+fn packages_one_after_another(rt: HostRuntime) -> Result<(), Fail> {
+    let alloc = rt.alloc();
+    let Run { mut tree, .. } = run_over(alloc, CACHE, "c/p:0/2")?;
+    for (atom, image, want) in [
+        ("d/p", "- usr/bin/d", "0 done 1 +d/p-7\nemerge: ok 1\n"),
+        (
+            "c/pp",
+            "- usr/bin/pp\nl usr/bin/q pp",
+            "0 done 1 +c/pp-9\nemerge: ok 1\n",
+        ),
+        (
+            "c/p:2",
+            "- usr/bin/p-2",
+            "0 done 1 +c/p-2-r1\nemerge: ok 1\n",
+        ),
+        ("d/p", "- usr/bin/d", "0 emerge: ok 0\n"),
+    ] {
+        let run = run_on(alloc, atom, tree, image_of(alloc, image)?)?;
+        assert_eq!(rt; told(alloc, &run)?.as_str(), want, "at {atom}");
+        tree = run.tree;
+    }
+    let objects = listing(alloc, &tree)?;
+    for record in ["c/p-1.00", "c/p-2-r1", "c/pp-9", "d/p-7"] {
+        let path = format!(in alloc; "var/db/pkg/{record}/CONTENTS obj /usr/bin/")?;
+        assert!(rt; objects.as_str().contains(path.as_str()), "{record}");
     }
     Ok(())
 }

@@ -47,6 +47,7 @@ word_refused words m image (status.Usage fault) ends = ends
 word_refused words m image (status.NotBuilt part.Command) ends = ends
 word_refused words m image (status.NotBuilt part.Repository) ends = absurd ends
 word_refused words m image (status.NotBuilt part.Database) ends = absurd ends
+word_refused words m image (status.NotBuilt part.Result) ends = absurd ends
 word_refused words m image status.Memory ends = tt
 word_refused words m image (status.Ok groups) ends = absurd ends
 word_refused words m image (status.BadJournal fault) ends = absurd ends

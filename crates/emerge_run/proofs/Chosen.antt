@@ -10,6 +10,7 @@ use Rattle.dep_atom.specs.Match.{value_matches}
 use Rattle.dep_atom.specs.Values.{AtomValue}
 use Rattle.dep_atom.specs.declared.package.Facts.{Facts}
 use Rattle.dep_atom.specs.declared.package.PackageId.{PackageId}
+use Rattle.database_law.specs.Packages.{Installed}
 use Rattle.merge_core.specs.Trail.{IsAtRest}
 use Rattle.merge_record.specs.Recovered.{IsRecovered}
 use Rattle.emerge_words.specs.declared.request.WordFault.{WordFault}
@@ -24,7 +25,7 @@ use Rattle.recovery.specs.declared.fault.RecoverFault.TheVariants as recovery
 use Rattle.emerge_run.specs.declared.choosing.Chosen.{Chosen}
 use Rattle.emerge_run.specs.declared.refusal.Refusal.{Refusal}
 use Rattle.emerge_run.specs.declared.refusal.Refusal.TheVariants as refusals
-use Rattle.emerge_run.specs.declared.status.Part.TheVariants.{Command, Database, Repository}
+use Rattle.emerge_run.specs.declared.status.Part.TheVariants as part
 use Rattle.emerge_run.specs.declared.status.Status.{Status}
 use Rattle.emerge_run.specs.declared.status.Status.TheVariants as status
 use Rattle.emerge_run.proofs.Asked.{many_seen}
@@ -89,9 +90,10 @@ usage_recovery recovery.Memory f e = absurd (cc e)
 -- no answer of a run for an atom comes of the words alone
 pub not_of_words : (a : AtomValue) (m : Map) (image : Order → List Entry) (s : Status) → AsksFor a m image s → IsOfWords s → ⊥
 not_of_words a m image (status.Usage fault) asks of = asks
-not_of_words a m image (status.NotBuilt Command) asks of = asks
-not_of_words a m image (status.NotBuilt Repository) asks of = of
-not_of_words a m image (status.NotBuilt Database) asks of = of
+not_of_words a m image (status.NotBuilt part.Command) asks of = asks
+not_of_words a m image (status.NotBuilt part.Repository) asks of = of
+not_of_words a m image (status.NotBuilt part.Database) asks of = of
+not_of_words a m image (status.NotBuilt part.Result) asks of = of
 not_of_words a m image (status.Ok groups) asks of = of
 not_of_words a m image (status.BadJournal fault) asks of = of
 not_of_words a m image (status.Limit quantity) asks of = of
@@ -104,12 +106,12 @@ not_of_words a m image status.OutputFault asks of = of
 not_of_words a m image status.Memory asks of = of
 
 module _ {B : Type 0} (tells : Bool) (told : B → Order → List Entry) (resting : List B) where
-  pub ended_build : {X : Type 0} (a : AtomValue) (m : Map) (f : Facts) (r : Result X Status) → IsReady m a f
+  pub ended_build : {X : Type 0} (a : AtomValue) (m : Map) (ps : List Installed) (f : Facts) (r : Result X Status) → IsReady m a ps f
       → IfErr r (λ s. (b : B) × Contains resting b × BuildEnds tells (told b (order_of f)) f.id s)
       → IfErr r (λ s. OfSomeBuilder tells told resting (λ image. AsksFor a m image s))
-  ended_build a m f (Ok x) ready h = tt
-  ended_build a m f (Err s) ready (b, has, ends) =
-      let k = build_asks tells (told b) m a f s ready (many_seen tells (told b (order_of f))) ends in
+  ended_build a m ps f (Ok x) ready h = tt
+  ended_build a m ps f (Err s) ready (b, has, ends) =
+      let k = build_asks tells (told b) m a ps f s ready (many_seen tells (told b (order_of f))) ends in
       (b, has, (k.0, k.1, k.2))
 
   pub early_built : {X : Type 0} (f : Facts) (r : Result X Status)
@@ -130,16 +132,16 @@ module _ {B : Type 0} (tells : Bool) (told : B → Order → List Entry) (restin
 
   module _ (words : List (List ℕ)) (a : AtomValue) (old mid new : Story) (asked : IsRequest words a) (since : Since (IsKept old.now) old mid)
       (recovered : IsRecovered old.now.holds mid.now.holds) (rest : IsAtRest mid.now.holds mid.now) (same : new ≡ mid) where
-    has_chosen : (image : Order → List Entry) (f : Facts) (entries : List Entry) → IsReady mid.now.holds a f → image (order_of f) ≡ entries → HasChosen words image old new f entries
-    has_chosen image f entries ready seen = subst (λ (x : Story). HasChosen words image old x f entries) (sym same)
+    has_chosen : (image : Order → List Entry) (ps : List Installed) (f : Facts) (entries : List Entry) → IsReady mid.now.holds a ps f → image (order_of f) ≡ entries → HasChosen words image old new ps f entries
+    has_chosen image ps f entries ready seen = subst (λ (x : Story). HasChosen words image old x ps f entries) (sym same)
         (record { atom = a; asked = asked; moments = since; recovered = recovered; rest = rest; ready = ready; told = seen })
 
-    pub chosen_after : (r : Result Chosen Status) → IfOk r (λ c. IsReady mid.now.holds a c.facts)
+    pub chosen_after : (r : Result Chosen Status) → IfOk r (λ c. IsReady mid.now.holds a c.opening.items c.facts)
         → IfOk r (λ c. (b : B) × Contains resting b × IsTold tells (told b (order_of c.facts)) c.addition.image.items)
-        → IfOk r (λ c. OfSomeBuilder tells told resting (λ image. HasChosen words image old new c.facts c.addition.image.items))
+        → IfOk r (λ c. OfSomeBuilder tells told resting (λ image. HasChosen words image old new c.opening.items c.facts c.addition.image.items))
     chosen_after (Ok c) ready (b, has, its) =
         let k = seen_image tells (told b) (order_of c.facts) c.addition.image.items its in
-        (b, has, (k.0, k.1, has_chosen k.0 c.facts c.addition.image.items ready k.2))
+        (b, has, (k.0, k.1, has_chosen k.0 c.opening.items c.facts c.addition.image.items ready k.2))
     chosen_after (Err s) ready its = tt
 
     pub ended_after : {X : Type 0} (r : Result X Status) → IfErr r (λ s. OfSomeBuilder tells told resting (λ image. AsksFor a mid.now.holds image s))
@@ -152,8 +154,8 @@ module _ {B : Type 0} (tells : Bool) (told : B → Order → List Entry) (restin
     unchanged_after P (Err s) (b, has, (image, its, asks)) = λ of. absurd (not_of_words a mid.now.holds image s asks of)
 
 pub named_after : (words : List (List ℕ)) (a : AtomValue) (tells : Bool) (opening m : Map) (r : Result Chosen Status) → IsRequest words a → (IsTrue tells → IsRecovered opening m)
-    → IfOk r (λ c. value_matches a c.facts [] ≡ true) → (IsTrue tells → IfOk r (λ c. IsReady m a c.facts)) → IfOk r (λ c. IsNamed words tells opening c.facts.id)
-named_after words a tells opening m (Ok c) asked is matched ready = named_of words a tells opening m c.facts asked is matched ready
+    → IfOk r (λ c. value_matches a c.facts [] ≡ true) → (IsTrue tells → IfOk r (λ c. IsReady m a c.opening.items c.facts)) → IfOk r (λ c. IsNamed words tells opening c.facts.id)
+named_after words a tells opening m (Ok c) asked is matched ready = named_of words a tells opening m c.facts asked is matched (λ t. (c.opening.items, ready t))
 named_after words a tells opening m (Err s) asked is matched ready = tt
 
 pub at_rest : (opening : Map) (s : Story) → IsRecovered opening s.now.holds × IsUntouched s.now → IsAtRest s.now.holds s.now

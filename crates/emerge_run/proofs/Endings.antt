@@ -12,6 +12,7 @@ use Rattle.dep_atom.specs.Match.{value_matches}
 use Rattle.dep_atom.specs.Values.{AtomValue}
 use Rattle.dep_atom.specs.declared.package.Facts.{Facts}
 use Rattle.dep_atom.specs.declared.package.PackageId.{PackageId}
+use Rattle.database_law.specs.Packages.{Installed}
 use Rattle.journal.specs.Group.{Group, applied}
 use Rattle.merge_core.specs.Trail.{IsAtRest}
 use Rattle.merge_record.specs.Names.{jobs}
@@ -31,7 +32,7 @@ use Rattle.emerge_run.specs.Words.{AskForPackage, EndsAtWords, IsOfWords, IsRequ
 use Rattle.emerge_run.proofs.Merged.{has_weaker, leaves_weaker, recovers_weaker}
 use Rattle.emerge_run.specs.declared.refusal.Refusal.{Refusal}
 use Rattle.emerge_run.specs.declared.refusal.Refusal.TheVariants as refusals
-use Rattle.emerge_run.specs.declared.status.Part.TheVariants.{Command, Database, Repository}
+use Rattle.emerge_run.specs.declared.status.Part.TheVariants.{Command, Database, Repository, Result}
 use Rattle.emerge_run.specs.declared.status.Status.{Status}
 use Rattle.emerge_run.specs.declared.status.Status.TheVariants as status
 
@@ -42,38 +43,39 @@ seen_image true told o seen h = (told, (λ t. refl), h refl)
 seen_image false told o seen h = ((λ _. seen), (λ t. absurd (cc t)), refl)
 
 -- an image that was seen to have too many entries
-many_asks : (tells : Bool) (told : Order → List Entry) (m : Map) (a : AtomValue) (f : Facts) → IsReady m a f → (seen : List Entry) × (MOST_ENTRIES < length seen) × (IsTrue tells → told (order_of f) ≡ seen)
+many_asks : (tells : Bool) (told : Order → List Entry) (m : Map) (a : AtomValue) (ps : List Installed) (f : Facts) → IsReady m a ps f → (seen : List Entry) × (MOST_ENTRIES < length seen) × (IsTrue tells → told (order_of f) ≡ seen)
     → (image : Order → List Entry) × (IsTrue tells → image ≡ told) × AsksFor a m image (status.Limit Paths)
-many_asks tells told m a f ready (seen, many, is) =
+many_asks tells told m a ps f ready (seen, many, is) =
     let k = seen_image tells told (order_of f) seen is in
-    (k.0, k.1, inl (f, ready, subst (λ (x : List Entry). MOST_ENTRIES < length x) (sym k.2) many))
+    (k.0, k.1, inl (ps, f, ready, subst (λ (x : List Entry). MOST_ENTRIES < length x) (sym k.2) many))
 
 -- what building the image answered is what the run is asked for
-pub build_asks : (tells : Bool) (told : Order → List Entry) (m : Map) (a : AtomValue) (f : Facts) (s : Status) → IsReady m a f
+pub build_asks : (tells : Bool) (told : Order → List Entry) (m : Map) (a : AtomValue) (ps : List Installed) (f : Facts) (s : Status) → IsReady m a ps f
     → (images.HasMany tells (told (order_of f)) → (seen : List Entry) × (MOST_ENTRIES < length seen) × (IsTrue tells → told (order_of f) ≡ seen))
     → BuildEnds tells (told (order_of f)) f.id s
     → (image : Order → List Entry) × (IsTrue tells → image ≡ told) × AsksFor a m image s
-build_asks tells told m a f (status.Limit Paths) ready seen h = many_asks tells told m a f ready (seen h)
-build_asks tells told m a f (status.Limit Groups) ready seen h = absurd h
-build_asks tells told m a f (status.Limit Packages) ready seen h = absurd h
-build_asks tells told m a f (status.Limit Candidates) ready seen h = absurd h
-build_asks tells told m a f (status.Limit RecordBytes) ready seen h = absurd h
-build_asks tells told m a f (status.BuildFailed failed) ready seen h = (told, (λ t. refl), (f, ready, h))
-build_asks tells told m a f status.Memory ready seen h = (told, (λ t. refl), tt)
-build_asks tells told m a f (status.Collision c) ready seen h = absurd h
-build_asks tells told m a f (status.BadImage b) ready seen h = absurd h
-build_asks tells told m a f (status.NotBuilt what) ready seen h = absurd h
-build_asks tells told m a f (status.BadJournal fault) ready seen h = absurd h
-build_asks tells told m a f status.DeviceFault ready seen h = absurd h
-build_asks tells told m a f status.OutputFault ready seen h = absurd h
-build_asks tells told m a f (status.Usage fault) ready seen h = absurd h
-build_asks tells told m a f (status.NoCandidate atom reasons) ready seen h = absurd h
-build_asks tells told m a f (status.Ok groups) ready seen h = absurd h
+build_asks tells told m a ps f (status.Limit Paths) ready seen h = many_asks tells told m a ps f ready (seen h)
+build_asks tells told m a ps f (status.Limit Groups) ready seen h = absurd h
+build_asks tells told m a ps f (status.Limit Packages) ready seen h = absurd h
+build_asks tells told m a ps f (status.Limit Candidates) ready seen h = absurd h
+build_asks tells told m a ps f (status.Limit RecordBytes) ready seen h = absurd h
+build_asks tells told m a ps f (status.BuildFailed failed) ready seen h = (told, (λ t. refl), (ps, f, ready, h))
+build_asks tells told m a ps f status.Memory ready seen h = (told, (λ t. refl), tt)
+build_asks tells told m a ps f (status.Collision c) ready seen h = absurd h
+build_asks tells told m a ps f (status.BadImage b) ready seen h = absurd h
+build_asks tells told m a ps f (status.NotBuilt what) ready seen h = absurd h
+build_asks tells told m a ps f (status.BadJournal fault) ready seen h = absurd h
+build_asks tells told m a ps f status.DeviceFault ready seen h = absurd h
+build_asks tells told m a ps f status.OutputFault ready seen h = absurd h
+build_asks tells told m a ps f (status.Usage fault) ready seen h = absurd h
+build_asks tells told m a ps f (status.NoCandidate atom reasons) ready seen h = absurd h
+build_asks tells told m a ps f (status.Ok groups) ready seen h = absurd h
 
 -- what a refused tree asks for
 pub tree_asks : (a : AtomValue) (m : Map) (image : Order → List Entry) (r : Refusal) → TreeRefuses m a r → AsksFor a m image (status_of r)
 tree_asks a m image (refusals.NotBuilt Repository) refuses = refuses
 tree_asks a m image (refusals.NotBuilt Database) refuses = refuses
+tree_asks a m image (refusals.NotBuilt Result) refuses = refuses
 tree_asks a m image (refusals.NotBuilt Command) refuses = absurd refuses
 tree_asks a m image refusals.Failed refuses = tt
 tree_asks a m image refusals.Memory refuses = tt
@@ -92,6 +94,7 @@ words_not_of_tree words (status.Usage fault) ends of = of
 words_not_of_tree words (status.NotBuilt Command) ends of = of
 words_not_of_tree words (status.NotBuilt Repository) ends of = ends
 words_not_of_tree words (status.NotBuilt Database) ends of = ends
+words_not_of_tree words (status.NotBuilt Result) ends of = ends
 words_not_of_tree words status.Memory ends of = of
 words_not_of_tree words (status.Ok groups) ends of = ends
 words_not_of_tree words (status.BadJournal fault) ends of = ends
@@ -143,14 +146,15 @@ asks_after words a opening m image (status.Usage fault) asked is asks = absurd a
 asks_after words a opening m image (status.NotBuilt Command) asked is asks = absurd asks
 asks_after words a opening m image (status.BadJournal fault) asked is asks = absurd asks
 asks_after words a opening m image (status.Limit Paths) asked is asks = (a, asked, (m, is, asks))
-asks_after words a opening m image (status.Limit Groups) asked is asks = absurd asks.2
-asks_after words a opening m image (status.Limit Packages) asked is asks = absurd asks.2
-asks_after words a opening m image (status.Limit Candidates) asked is asks = absurd asks.2
+asks_after words a opening m image (status.Limit Groups) asked is asks = absurd asks.3
+asks_after words a opening m image (status.Limit Packages) asked is asks = absurd asks.3
+asks_after words a opening m image (status.Limit Candidates) asked is asks = absurd asks.3
 asks_after words a opening m image (status.Limit RecordBytes) asked is asks = (a, asked, (m, is, asks))
 asks_after words a opening m image (status.Collision c) asked is asks = (a, asked, (m, is, asks))
 asks_after words a opening m image (status.BadImage b) asked is asks = (a, asked, (m, is, asks))
 asks_after words a opening m image (status.NotBuilt Repository) asked is asks = (a, asked, (m, is, asks))
 asks_after words a opening m image (status.NotBuilt Database) asked is asks = (a, asked, (m, is, asks))
+asks_after words a opening m image (status.NotBuilt Result) asked is asks = (a, asked, (m, is, asks))
 asks_after words a opening m image (status.NoCandidate atom reasons) asked is asks = (a, asked, (m, is, asks))
 asks_after words a opening m image (status.BuildFailed failed) asked is asks = (a, asked, (m, is, asks))
 asks_after words a opening m image status.DeviceFault asked is asks = tt
@@ -177,57 +181,57 @@ outcome_over words a image old mid new s asked since is rest same asks = subst (
 })
 
 -- the answer of a merge is one of the run
-merge_asks : (a : AtomValue) (f : Facts) (m : Map) (image : Order → List Entry) (s : Status) → IsReady m a f → AsksMerge f (image (order_of f)) m s → AsksFor a m image s
-merge_asks a f m image (status.Ok groups) ready asks = inl (f, ready, asks)
-merge_asks a f m image (status.Limit Paths) ready asks = inr (f, ready, asks)
-merge_asks a f m image (status.Limit Groups) ready asks = absurd asks
-merge_asks a f m image (status.Limit Packages) ready asks = absurd asks
-merge_asks a f m image (status.Limit Candidates) ready asks = absurd asks
-merge_asks a f m image (status.Limit RecordBytes) ready asks = (f, ready, asks)
-merge_asks a f m image (status.Collision c) ready asks = (f, ready, asks)
-merge_asks a f m image (status.BadImage b) ready asks = (f, ready, asks)
-merge_asks a f m image status.DeviceFault ready asks = tt
-merge_asks a f m image status.OutputFault ready asks = tt
-merge_asks a f m image status.Memory ready asks = tt
-merge_asks a f m image (status.Usage fault) ready asks = absurd asks
-merge_asks a f m image (status.BadJournal fault) ready asks = absurd asks
-merge_asks a f m image (status.NotBuilt part) ready asks = absurd asks
-merge_asks a f m image (status.NoCandidate atom reasons) ready asks = absurd asks
-merge_asks a f m image (status.BuildFailed id) ready asks = absurd asks
+merge_asks : (a : AtomValue) (ps : List Installed) (f : Facts) (m : Map) (image : Order → List Entry) (s : Status) → IsReady m a ps f → AsksMerge ps f (image (order_of f)) m s → AsksFor a m image s
+merge_asks a ps f m image (status.Ok groups) ready asks = inl (ps, f, ready, asks)
+merge_asks a ps f m image (status.Limit Paths) ready asks = inr (ps, f, ready, asks)
+merge_asks a ps f m image (status.Limit Groups) ready asks = absurd asks
+merge_asks a ps f m image (status.Limit Packages) ready asks = absurd asks
+merge_asks a ps f m image (status.Limit Candidates) ready asks = absurd asks
+merge_asks a ps f m image (status.Limit RecordBytes) ready asks = (ps, f, ready, asks)
+merge_asks a ps f m image (status.Collision c) ready asks = (ps, f, ready, asks)
+merge_asks a ps f m image (status.BadImage b) ready asks = (ps, f, ready, asks)
+merge_asks a ps f m image status.DeviceFault ready asks = tt
+merge_asks a ps f m image status.OutputFault ready asks = tt
+merge_asks a ps f m image status.Memory ready asks = tt
+merge_asks a ps f m image (status.Usage fault) ready asks = absurd asks
+merge_asks a ps f m image (status.BadJournal fault) ready asks = absurd asks
+merge_asks a ps f m image (status.NotBuilt part) ready asks = absurd asks
+merge_asks a ps f m image (status.NoCandidate atom reasons) ready asks = absurd asks
+merge_asks a ps f m image (status.BuildFailed id) ready asks = absurd asks
 
 -- a run whose package was merged
-module _ (words : List (List ℕ)) (image : Order → List Entry) (old mid new : Story) (f : Facts) (entries : List Entry) (history : List ℕ) (s : Status)
-    (chosen : HasChosen words image old mid f entries) (merged : MergedTo f entries mid new history s) where
+module _ (words : List (List ℕ)) (image : Order → List Entry) (old mid new : Story) (ps : List Installed) (f : Facts) (entries : List Entry) (history : List ℕ) (s : Status)
+    (chosen : HasChosen words image old mid ps f entries) (merged : MergedTo ps f entries mid new history s) where
   abbrev m : Map
   m = mid.now.holds
 
-  is_merge : (x : Group) → MayCome f entries m x → IsMerge words image m x
-  is_merge x may = record { atom = chosen.atom; asked = chosen.asked; facts = f; ready = chosen.ready; may_come = subst (λ (es : List Entry). MayCome f es m x) (sym chosen.told) may }
+  is_merge : (x : Group) → MayCome ps f entries m x → IsMerge words image m x
+  is_merge x may = record { atom = chosen.atom; asked = chosen.asked; packages = ps; facts = f; ready = chosen.ready; may_come = subst (λ (es : List Entry). MayCome ps f es m x) (sym chosen.told) may }
 
-  reached : (among : List ℕ) (c : Map) → Recovers (MayCome f entries m) m among c → IsReached words image among old.now c
-  reached among c h = inr (m, chosen.recovered, recovers_weaker (MayCome f entries m) (IsMerge words image m) is_merge m among c h)
+  reached : (among : List ℕ) (c : Map) → Recovers (MayCome ps f entries m) m among c → IsReached words image among old.now c
+  reached among c h = inr (m, chosen.recovered, recovers_weaker (MayCome ps f entries m) (IsMerge words image m) is_merge m among c h)
 
   outcome_merged : Outcome words image old new history s
   outcome_merged = record {
     answer = asks_after words chosen.atom old.now.holds m image s chosen.asked chosen.recovered
-        (merge_asks chosen.atom f m image s chosen.ready (subst (λ (es : List Entry). AsksMerge f es m s) (sym chosen.told) merged.answer));
+        (merge_asks chosen.atom ps f m image s chosen.ready (subst (λ (es : List Entry). AsksMerge ps f es m s) (sym chosen.told) merged.answer));
     moments = since_then (IsReached words image [] old.now) old mid new (since_weaker (IsKept old.now) (IsReached words image [] old.now) (λ c h. inl (refl, h)) old mid chosen.moments)
-        (since_weaker (Recovers (MayCome f entries m) m []) (IsReached words image [] old.now) (λ c h. reached [] c h) mid new merged.moments);
+        (since_weaker (Recovers (MayCome ps f entries m) m []) (IsReached words image [] old.now) (λ c h. reached [] c h) mid new merged.moments);
     crash = λ c k. reached history c (merged.crash c k);
-    left = λ healthy. inr (m, chosen.recovered, leaves_weaker (MayCome f entries m) (IsMerge words image m) is_merge m history new.now (merged.left healthy));
+    left = λ healthy. inr (m, chosen.recovered, leaves_weaker (MayCome ps f entries m) (IsMerge words image m) is_merge m history new.now (merged.left healthy));
     tree = λ of. (
       m,
       chosen.recovered,
-      has_weaker (MayCome f entries m) (IsMerge words image m) is_merge m history new.now
+      has_weaker (MayCome ps f entries m) (IsMerge words image m) is_merge m history new.now
           (merged.tree (λ e. subst IsOfTree e of) (λ e. subst IsOfTree e of)),
     );
   }
 
-pub outcome_chosen : {B : Type 0} (tells : Bool) (told : B → Order → List Entry) (resting : List B) (words : List (List ℕ)) (old mid new : Story) (f : Facts) (entries : List Entry) (history : List ℕ) (s : Status)
-    → OfSomeBuilder tells told resting (λ image. HasChosen words image old mid f entries) → MergedTo f entries mid new history s
+pub outcome_chosen : {B : Type 0} (tells : Bool) (told : B → Order → List Entry) (resting : List B) (words : List (List ℕ)) (old mid new : Story) (ps : List Installed) (f : Facts) (entries : List Entry) (history : List ℕ) (s : Status)
+    → OfSomeBuilder tells told resting (λ image. HasChosen words image old mid ps f entries) → MergedTo ps f entries mid new history s
     → OfSomeBuilder tells told resting (λ image. Outcome words image old new history s)
-outcome_chosen tells told resting words old mid new f entries history s (b, has, (image, its, chosen)) merged =
-    (b, has, (image, its, outcome_merged words image old mid new f entries history s chosen merged))
+outcome_chosen tells told resting words old mid new ps f entries history s (b, has, (image, its, chosen)) merged =
+    (b, has, (image, its, outcome_merged words image old mid new ps f entries history s chosen merged))
 
 -- a run that came to one status ends with another one, which asks for nothing
 outcome_as : (words : List (List ℕ)) (image : Order → List Entry) (old new : Story) (history : List ℕ) (s s' : Status) → (s ≡ status.DeviceFault → s' ≡ status.DeviceFault)
@@ -258,7 +262,7 @@ built_before s s' id rose (inr (inl memory)) is = absurd (cc (memory, is))
 built_before s s' id rose (inr (inr (output, r))) is = absurd (cc (output, is))
 
 -- the package of the atom is that of the words
-pub named_of : (words : List (List ℕ)) (a : AtomValue) (tells : Bool) (opening m : Map) (f : Facts) → IsRequest words a → (IsTrue tells → IsRecovered opening m) → value_matches a f [] ≡ true → (IsTrue tells → IsReady m a f) → IsNamed words tells opening f.id
+pub named_of : (words : List (List ℕ)) (a : AtomValue) (tells : Bool) (opening m : Map) (f : Facts) → IsRequest words a → (IsTrue tells → IsRecovered opening m) → value_matches a f [] ≡ true → (IsTrue tells → (ps : List Installed) × IsReady m a ps f) → IsNamed words tells opening f.id
 named_of words a tells opening m f asked is matched ready = (a, asked, (m, is, (f, refl, (matched, ready))))
 
 -- the answer that a run came to is one that it is asked for, and so is want of memory

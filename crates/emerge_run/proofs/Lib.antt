@@ -4,5 +4,3 @@ pub mod Chosen
 pub mod Endings
 pub mod Lines
 pub mod Merged
-pub mod OnePackage
-pub mod Owners

@@ -1,12 +1,15 @@
 -- How the merge of a package tells what a run leaves.
-use Rattle.std.proofs.Common.{◌≡◌, ◌≢◌, ◌∙◌, ℕ, List, [], ◌∷◌, Result, Ok, Err, inl, inr, length, map, refl, ap, subst, sym}
+use Rattle.std.proofs.Common.{◌≡◌, ◌≢◌, ◌∙◌, ℕ, true, List, [], ◌∷◌, Result, Ok, Err, inl, inr, length, map, refl, ap, subst, sym}
 use Rattle.std.specs.Prelude.{IfErr, IsErrOf, OnOk, ⊤}
 use Rattle.basics.specs.Members.{Has}
 use Rattle.file_tree.specs.Disk.{Disk, Map, Story}
 use Rattle.file_tree.specs.declared.objects.Entry.{Entry}
 use Rattle.file_tree.proofs.Moments.{since_weaker}
 use Rattle.dep_atom.specs.declared.package.Facts.{Facts}
+use Rattle.database_law.specs.Packages.{Installed}
 use Rattle.journal.specs.Group.{Group}
+use Rattle.opening.specs.Owners.{AreOwners, key_at}
+use Rattle.owner_book.specs.Book.{Book}
 use Rattle.merge_site.specs.declared.fault.ClaimStop.{ClaimStop}
 use Rattle.merge_site.specs.declared.fault.ClaimStop.TheVariants as claims
 use Rattle.group_run.specs.Causes.{IsOfGroup}
@@ -14,10 +17,10 @@ use Rattle.group_run.specs.Applied.{HasHistory, LeavesHistory, Recovers, number}
 use Rattle.group_run.specs.Went.{Went}
 use Rattle.group_run.specs.declared.stop.Stop.{Stop}
 use Rattle.group_run.specs.declared.stop.Stop.TheVariants as stops
-use Rattle.package_run.specs.Packages.{GROUP, MayStop, WentFor}
+use Rattle.package_run.specs.Packages.{GROUP, MayStop, StopsMerge, WentFor}
 use Rattle.emerge_run.specs.Answers.{AsksMerge}
 use Rattle.emerge_run.specs.Outcomes.{IsOfMerge, IsRefusal, MergedTo}
-use Rattle.emerge_run.specs.Package.{MayCome, OWNER, StopsAt, no_owners}
+use Rattle.emerge_run.specs.Package.{MayCome, StopsAt}
 use Rattle.emerge_run.specs.Refusals.{status_of_claim, status_of_end, status_of_stop}
 use Rattle.emerge_run.specs.declared.status.Status.{Status}
 use Rattle.emerge_run.specs.declared.status.Status.TheVariants as status
@@ -46,18 +49,18 @@ first_group : (P : Group → Type 0) (groups : List Group) (n : ℕ) → ((x : G
 first_group P [] n of are = absurd (cc are)
 first_group P (x ∷ xs) n of are = (x, of x (inl refl))
 
-module _ (f : Facts) (image : List Entry) (old new : Story) (history : List ℕ) (end : Result ⊤ Stop) where
+module _ (ps : List Installed) (f : Facts) (image : List Entry) (book : Book) (owners : AreOwners ps book) (old new : Story) (history : List ℕ) (end : Result ⊤ Stop) where
   abbrev m : Map
   m = old.now.holds
 
   abbrev Of : Group → Type 0
-  Of = MayCome f image m
+  Of = MayCome ps f image m
 
-  went_of : WentFor no_owners f OWNER image old new history end → Went Of old new history end
+  went_of : WentFor book f (key_at (length ps)) image old new history end → Went Of old new history end
   went_of (inl w) = went_weaker (λ x. ⊥) Of (λ x none. absurd none) old new history end w
-  went_of (inr (files, groups, is_for, w)) = went_weaker _ Of (λ x is. (files, groups, is_for, is)) old new history end w
+  went_of (inr (files, groups, is_for, w)) = went_weaker _ Of (λ x is. (book, owners, (files, groups, is_for, is))) old new history end w
 
-  claim_asks : (s : ClaimStop) → MayStop (stops.Claim s) → StopsAt f image m (stops.Claim s) → AsksMerge f image m (status_of_claim s)
+  claim_asks : (s : ClaimStop) → MayStop (stops.Claim s) → StopsAt ps f image m (stops.Claim s) → AsksMerge ps f image m (status_of_claim s)
   claim_asks claims.Device may h = absurd may
   claim_asks (claims.Collision c) may h = h
   claim_asks (claims.Image b) may h = inr h
@@ -66,7 +69,7 @@ module _ (f : Facts) (image : List Entry) (old new : Story) (history : List ℕ)
   claim_asks claims.Limit may h = h
   claim_asks claims.Memory may h = absurd may
 
-  stop_asks : (s : Stop) → MayStop s → StopsAt f image m s → AsksMerge f image m (status_of_stop s)
+  stop_asks : (s : Stop) → MayStop s → StopsAt ps f image m s → AsksMerge ps f image m (status_of_stop s)
   stop_asks stops.Device may h = tt
   stop_asks stops.Output may h = tt
   stop_asks (stops.Image b) may h = inl h
@@ -74,26 +77,26 @@ module _ (f : Facts) (image : List Entry) (old new : Story) (history : List ℕ)
   stop_asks stops.Limit may h = h
   stop_asks stops.Memory may h = tt
 
-asks_ended : (f : Facts) (image : List Entry) (old new : Story) (history : List ℕ) (end : Result ⊤ Stop) (n : ℕ) → n ≡ length history → Went (MayCome f image old.now.holds) old new history end
-    → OnOk end (history ≡ GROUP ∷ []) → IfErr end MayStop → IfErr end (StopsAt f image old.now.holds) → AsksMerge f image old.now.holds (status_of_end n end)
-asks_ended f image old new history (Ok x) n count w told may cause =
-    let k = w.tree (λ e. cc e) (λ e. cc e) in
-    (first_group (MayCome f image old.now.holds) k.groups GROUP k.of (k.are ∙ told), count ∙ ap length told)
-asks_ended f image old new history (Err s) n count w told may cause = stop_asks f image old new history (Err s) s may cause
+  ended_asks : (e : Result ⊤ Stop) (n : ℕ) → n ≡ length history → Went Of old new history e → OnOk e (history ≡ GROUP ∷ []) → IfErr e MayStop → IfErr e (λ s. StopsMerge true m book f (key_at (length ps)) image s) → AsksMerge ps f image m (status_of_end n e)
+  ended_asks (Ok x) n count w told may cause =
+      let k = w.tree (λ e. cc e) (λ e. cc e) in
+      (first_group Of k.groups GROUP k.of (k.are ∙ told), count ∙ ap length told)
+  ended_asks (Err s) n count w told may cause = stop_asks s may (book, owners, cause)
 
-pub merged_to : (f : Facts) (image : List Entry) (old new : Story) (history : List ℕ) (end : Result ⊤ Stop) (n : ℕ) (s : Status) → s ≡ status_of_end n end → n ≡ length history
-    → WentFor no_owners f OWNER image old new history end → OnOk end (history ≡ GROUP ∷ []) → IfErr end MayStop → IfErr end (StopsAt f image old.now.holds) → MergedTo f image old new history s
-merged_to f image old new history end n s is count went told may cause =
-    let w = went_of f image old new history end went in
-    let healthy : s ≢ status.DeviceFault → IsErrOf end stops.Device → ⊥ = λ h e. h (is ∙ ap (status_of_end n) e) in
-    let fed : s ≢ status.Memory → IsErrOf end stops.Memory → ⊥ = λ h e. h (is ∙ ap (status_of_end n) e) in
-    record {
-      answer = subst (λ (x : Status). AsksMerge f image old.now.holds x) (sym is) (asks_ended f image old new history end n count w told may cause);
-      moments = w.moments;
-      crash = w.crash;
-      left = λ h. w.left (healthy h);
-      tree = λ h k. w.tree (healthy h) (fed k);
-    }
+  pub merged_to : (n : ℕ) (s : Status) → s ≡ status_of_end n end → n ≡ length history
+      → WentFor book f (key_at (length ps)) image old new history end → OnOk end (history ≡ GROUP ∷ []) → IfErr end MayStop
+      → IfErr end (λ x. StopsMerge true m book f (key_at (length ps)) image x) → MergedTo ps f image old new history s
+  merged_to n s is count went told may cause =
+      let w = went_of went in
+      let healthy : s ≢ status.DeviceFault → IsErrOf end stops.Device → ⊥ = λ h e. h (is ∙ ap (status_of_end n) e) in
+      let fed : s ≢ status.Memory → IsErrOf end stops.Memory → ⊥ = λ h e. h (is ∙ ap (status_of_end n) e) in
+      record {
+        answer = subst (λ (x : Status). AsksMerge ps f image m x) (sym is) (ended_asks end n count w told may cause);
+        moments = w.moments;
+        crash = w.crash;
+        left = λ h. w.left (healthy h);
+        tree = λ h k. w.tree (healthy h) (fed k);
+      }
 
 pub ok_first : {A : Type 0} (P Q : Type 0) (r : Result A Stop) → OnOk r (P × Q) → OnOk r P
 ok_first P Q (Ok x) h = h.0

@@ -1,7 +1,7 @@
 -- The answer that the words, the tree and the image ask for.
 use Rattle.std.specs.Prelude.{◌≡◌, ◌⊎◌, ◌<◌, ℕ, true, false, List, [], length, map}
 use Rattle.std.specs.List.{AllByRecursion}
-use Rattle.file_tree.specs.Disk.{HasBelow, Map}
+use Rattle.file_tree.specs.Disk.{Map}
 use Rattle.file_tree.specs.declared.limits.Quantity.{Quantity}
 use Rattle.file_tree.specs.declared.limits.Quantity.TheVariants.{Groups, Paths, RecordBytes}
 use Rattle.file_tree.specs.declared.objects.Entry.{Entry}
@@ -19,45 +19,52 @@ use Rattle.recovery.specs.Found.{HasTooManyGates}
 use Rattle.recovery.specs.Promise.{IsFaultOf}
 use Rattle.recovery.specs.declared.fault.RecoverFault.{RecoverFault}
 use Rattle.recovery.specs.declared.fault.RecoverFault.TheVariants as recovery
-use Rattle.vdb_text.specs.Database.{IsInstalled}
-use Rattle.vdb_text.specs.Files.{database_path}
+use Rattle.database_law.specs.Packages.{Installed}
+use Rattle.opening.specs.Faults.{HasNoOpening}
+use Rattle.opening.specs.Openings.{HasOpening, is_matched, is_taken, need_nothing}
 use Rattle.visible_set.specs.Candidates.{AreOffers, HasOddEntry, IsChosen}
 use Rattle.emerge_run.specs.Package.{MayCome, StopsAt, order_of}
 use Rattle.emerge_run.specs.Words.{AskForOther, AskForPackage, IsRequest, IsUsage}
 use Rattle.emerge_run.specs.declared.judge.Standing.{Standing}
-use Rattle.emerge_run.specs.declared.judge.Standing.TheVariants.{Chosen, Installed, Unmatched}
+use Rattle.emerge_run.specs.declared.judge.Standing.TheVariants.{Chosen, Met, Unmatched}
 use Rattle.emerge_run.specs.declared.status.Part.{Part}
-use Rattle.emerge_run.specs.declared.status.Part.TheVariants.{Command, Repository, Database}
+use Rattle.emerge_run.specs.declared.status.Part.TheVariants.{Command, Repository, Database, Result}
 use Rattle.emerge_run.specs.declared.status.Reason.{Reason}
 use Rattle.emerge_run.specs.declared.status.Reason.TheVariants.{NotMatched}
 use Rattle.emerge_run.specs.declared.status.Status.{Status}
 use Rattle.emerge_run.specs.declared.status.Status.TheVariants as status
 
--- each candidate of the atom's name has its entry in the one form that is read, and no package is
--- installed
-pub record IsBare (m : Map) (a : AtomValue) : Type 0 where
-  pub read : HasOddEntry m a.name → ⊥
-  pub empty : HasBelow m database_path → ⊥
+-- each candidate of the atom's name has its entry in the one form that is read, and these are the
+-- installed packages, none of which needs anything
+pub record IsRead (m : Map) (a : AtomValue) (ps : List Installed) : Type 0 where
+  pub entries : HasOddEntry m a.name → ⊥
+  pub opening : HasOpening m ps
+  pub plain : need_nothing ps ≡ true
 
--- the same, and the atom chooses this candidate
-pub record IsReady (m : Map) (a : AtomValue) (f : Facts) : Type 0 where
-  pub bare : IsBare m a
+-- the atom matches one of the installed packages
+abbrev pub IsMet : Map → AtomValue → Type 0
+IsMet m a = (ps : List Installed) × IsRead m a ps × (is_matched a ps ≡ true)
+
+-- these packages are installed, and the atom matches none of them
+pub record IsOpen (m : Map) (a : AtomValue) (ps : List Installed) : Type 0 where
+  pub read : IsRead m a ps
+  pub unmet : is_matched a ps ≡ false
+
+-- the same, and the atom chooses this candidate, whose place none of them takes
+pub record IsReady (m : Map) (a : AtomValue) (ps : List Installed) (f : Facts) : Type 0 where
+  pub open_to : IsOpen m a ps
   pub chosen : IsChosen m a f
-
--- one package is installed, and the atom matches it
-pub record IsMet (m : Map) (a : AtomValue) : Type 0 where
-  pub facts : Facts
-  pub installed : IsInstalled m facts
-  pub matched : value_matches a facts [] ≡ true
+  pub free : is_taken f ps ≡ false
 
 -- why the atom doesn't choose a candidate that could be read
 abbrev pub not_matched : Facts → PackageId × Reason
 not_matched f = (f.id, NotMatched)
 
--- no package is installed, and the atom matches no candidate: these are all of them, the greatest
+-- the atom matches no installed package and no candidate: these are all of these, the greatest
 -- version first, each with its reason
 pub record HasNone (m : Map) (a : AtomValue) (reasons : List (PackageId × Reason)) : Type 0 where
-  pub bare : IsBare m a
+  pub packages : List Installed
+  pub open_to : IsOpen m a packages
   pub offers : List Facts
   pub are : AreOffers m a.name offers
   pub none : AllByRecursion (λ f. value_matches a f [] ≡ false) offers
@@ -65,45 +72,55 @@ pub record HasNone (m : Map) (a : AtomValue) (reasons : List (PackageId × Reaso
 
 -- how a recovered tree stands to an atom
 abbrev pub Stands : Map → AtomValue → Standing → Type 0
-Stands m a Installed = (HasOddEntry m a.name → ⊥) × IsMet m a
-Stands m a (Chosen f) = IsReady m a f
+Stands m a Met = IsMet m a
+Stands m a (Chosen f packages) = IsReady m a packages.items f
 Stands m a (Unmatched reasons) = HasNone m a reasons.items
 
 -- a candidate that was chosen is one that the atom matches, whatever the tree tells
 abbrev pub HasMatched : AtomValue → Standing → Type 0
-HasMatched a Installed = Unit {0}
-HasMatched a (Chosen f) = value_matches a f [] ≡ true
+HasMatched a Met = Unit {0}
+HasMatched a (Chosen f packages) = value_matches a f [] ≡ true
 HasMatched a (Unmatched reasons) = Unit {0}
+
+-- the atom chooses a candidate whose place an installed package takes
+pub record IsTakenFor (m : Map) (a : AtomValue) : Type 0 where
+  pub packages : List Installed
+  pub open_to : IsOpen m a packages
+  pub facts : Facts
+  pub chosen : IsChosen m a facts
+  pub taken : is_taken facts packages ≡ true
 
 -- what a recovered tree is refused for, the first in this order
 abbrev pub Refuses : Map → AtomValue → Part → Type 0
 Refuses m a Command = ⊥
 Refuses m a Repository = HasOddEntry m a.name
-Refuses m a Database = (HasOddEntry m a.name → ⊥) × (HasBelow m database_path × (IsMet m a → ⊥))
+Refuses m a Database = (HasOddEntry m a.name → ⊥) × HasNoOpening m
+Refuses m a Result = IsTakenFor m a
 
 -- the answer of the merge of a package with this image over a tree: each refusal comes exactly
 -- where it is the first, of the objects, of the record, and then of the claim
-abbrev pub AsksMerge : Facts → List Entry → Map → Status → Type 0
-AsksMerge f image m (status.Ok groups) = ((x : Group) × MayCome f image m x) × (groups ≡ 1)
-AsksMerge f image m (status.Collision c) = StopsAt f image m (stops.Claim (claims.Collision c))
-AsksMerge f image m (status.BadImage b) =
-    StopsAt f image m (stops.Image b) ⊎ StopsAt f image m (stops.Claim (claims.Image b))
-AsksMerge f image m (status.Limit Paths) = StopsAt f image m (stops.Claim claims.Limit)
-AsksMerge f image m (status.Limit RecordBytes) = StopsAt f image m stops.Limit
-AsksMerge f image m status.DeviceFault = Unit {0}
-AsksMerge f image m status.OutputFault = Unit {0}
-AsksMerge f image m status.Memory = Unit {0}
-AsksMerge f image m s = ⊥
+abbrev pub AsksMerge : List Installed → Facts → List Entry → Map → Status → Type 0
+AsksMerge ps f image m (status.Ok groups) = ((x : Group) × MayCome ps f image m x) × (groups ≡ 1)
+AsksMerge ps f image m (status.Collision c) = StopsAt ps f image m (stops.Claim (claims.Collision c))
+AsksMerge ps f image m (status.BadImage b) =
+    StopsAt ps f image m (stops.Image b) ⊎ StopsAt ps f image m (stops.Claim (claims.Image b))
+AsksMerge ps f image m (status.Limit Paths) = StopsAt ps f image m (stops.Claim claims.Limit)
+AsksMerge ps f image m (status.Limit RecordBytes) = StopsAt ps f image m stops.Limit
+AsksMerge ps f image m status.DeviceFault = Unit {0}
+AsksMerge ps f image m status.OutputFault = Unit {0}
+AsksMerge ps f image m status.Memory = Unit {0}
+AsksMerge ps f image m s = ⊥
 
 -- the same, for the package that the atom chooses
 abbrev pub AsksPackage : AtomValue → Map → (Order → List Entry) → Status → Type 0
 AsksPackage a m image s =
-    (f : Facts) × IsReady m a f × AsksMerge f (image (order_of f)) m s
+    (ps : List Installed) × (f : Facts) × IsReady m a ps f × AsksMerge ps f (image (order_of f)) m s
 
 -- the image for the package that the atom chooses has too many entries
 abbrev pub HasMany : AtomValue → Map → (Order → List Entry) → Type 0
 HasMany a m image =
-    (f : Facts) × IsReady m a f × (MOST_ENTRIES < length (image (order_of f)))
+    (ps : List Installed) × (f : Facts) × IsReady m a ps f
+    × (MOST_ENTRIES < length (image (order_of f)))
 
 -- the answer of a run for this atom over a recovered tree and this image: each refusal comes
 -- exactly where it is the first, of the tree and then of the merge; Ok means that nothing is
@@ -111,7 +128,7 @@ HasMany a m image =
 -- or want of memory may come in place of any of them.
 abbrev pub AsksFor : AtomValue → Map → (Order → List Entry) → Status → Type 0
 AsksFor a m image (status.Ok groups) = AsksPackage a m image (status.Ok groups) ⊎
-    (((HasOddEntry m a.name → ⊥) × IsMet m a) × (groups ≡ 0))
+    (IsMet m a × (groups ≡ 0))
 AsksFor a m image (status.Usage fault) = ⊥
 AsksFor a m image (status.NotBuilt Command) = ⊥
 AsksFor a m image (status.BadJournal fault) = ⊥
@@ -122,9 +139,11 @@ AsksFor a m image (status.Collision c) = AsksPackage a m image (status.Collision
 AsksFor a m image (status.BadImage b) = AsksPackage a m image (status.BadImage b)
 AsksFor a m image (status.NotBuilt Repository) = Refuses m a Repository
 AsksFor a m image (status.NotBuilt Database) = Refuses m a Database
+AsksFor a m image (status.NotBuilt Result) = Refuses m a Result
 AsksFor a m image (status.NoCandidate atom reasons) =
     (atom_value atom ≡ a) × HasNone m a reasons.items
-AsksFor a m image (status.BuildFailed id) = (f : Facts) × IsReady m a f × (id ≡ f.id)
+AsksFor a m image (status.BuildFailed id) =
+    (ps : List Installed) × (f : Facts) × IsReady m a ps f × (id ≡ f.id)
 AsksFor a m image status.DeviceFault = Unit {0}
 AsksFor a m image status.OutputFault = Unit {0}
 AsksFor a m image status.Memory = Unit {0}
@@ -164,6 +183,8 @@ Asks words opening image (status.NotBuilt Repository) =
     AsksAfter words opening image (status.NotBuilt Repository)
 Asks words opening image (status.NotBuilt Database) =
     AsksAfter words opening image (status.NotBuilt Database)
+Asks words opening image (status.NotBuilt Result) =
+    AsksAfter words opening image (status.NotBuilt Result)
 Asks words opening image (status.NoCandidate atom reasons) =
     AsksAfter words opening image (status.NoCandidate atom reasons)
 Asks words opening image (status.BuildFailed id) =

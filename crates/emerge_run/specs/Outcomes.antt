@@ -9,6 +9,7 @@ use Rattle.dep_atom.specs.Match.{value_matches}
 use Rattle.dep_atom.specs.Values.{AtomValue}
 use Rattle.dep_atom.specs.declared.package.Facts.{Facts}
 use Rattle.dep_atom.specs.declared.package.PackageId.{PackageId}
+use Rattle.database_law.specs.Packages.{Installed}
 use Rattle.journal.specs.Group.{Group}
 use Rattle.merge_core.specs.Trail.{IsAtRest}
 use Rattle.merge_record.specs.Recovered.{IsRecovered}
@@ -26,24 +27,25 @@ use Rattle.emerge_run.specs.declared.status.Status.TheVariants as status
 -- crash image of each moment recovers to the tree from before, without or with the group, at the
 -- end with what the history has; and the tree has just that, unless the device failed or memory ran
 -- out.
-pub record MergedTo (f : Facts) (image : List Entry) (old new : Story)
+pub record MergedTo (ps : List Installed) (f : Facts) (image : List Entry) (old new : Story)
     (history : List ℕ) (s : Status) : Type 0 where
-  pub answer : AsksMerge f image old.now.holds s
-  pub moments : Since (Recovers (MayCome f image old.now.holds) old.now.holds []) old new
-  pub crash : Leaves (Recovers (MayCome f image old.now.holds) old.now.holds history) new.now
+  pub answer : AsksMerge ps f image old.now.holds s
+  pub moments : Since (Recovers (MayCome ps f image old.now.holds) old.now.holds []) old new
+  pub crash : Leaves (Recovers (MayCome ps f image old.now.holds) old.now.holds history) new.now
   pub left : s ≢ status.DeviceFault →
-      LeavesHistory (MayCome f image old.now.holds) old.now.holds history new.now
+      LeavesHistory (MayCome ps f image old.now.holds) old.now.holds history new.now
   pub tree : s ≢ status.DeviceFault → s ≢ status.Memory →
-      HasHistory (MayCome f image old.now.holds) old.now.holds history new.now
+      HasHistory (MayCome ps f image old.now.holds) old.now.holds history new.now
 
 -- the group merges the package that the words choose in this map
 pub record IsMerge (words : List (List ℕ)) (image : Order → List Entry) (m : Map)
     (x : Group) : Type 0 where
   pub atom : AtomValue
   pub asked : IsRequest words atom
+  pub packages : List Installed
   pub facts : Facts
-  pub ready : IsReady m atom facts
-  pub may_come : MayCome facts (image (order_of facts)) m x
+  pub ready : IsReady m atom packages facts
+  pub may_come : MayCome packages facts (image (order_of facts)) m x
 
 -- a crash image is one of the disk, or it and the disk recover to the same map
 abbrev pub IsKept : Disk → Map → Type 0
@@ -100,15 +102,16 @@ pub record Outcome (words : List (List ℕ)) (image : Order → List Entry) (old
   pub left : s ≢ status.DeviceFault → LeavesGroups words image history old.now new.now
   pub tree : IsOfTree s → HasGroups words image history old.now new.now
 
--- a run has chosen a package with this image: its tree is at rest, as recovery made it
+-- a run has chosen a package with this image, to come beside these: its tree is at rest, as recovery
+-- made it
 pub record HasChosen (words : List (List ℕ)) (image : Order → List Entry) (old new : Story)
-    (f : Facts) (entries : List Entry) : Type 0 where
+    (ps : List Installed) (f : Facts) (entries : List Entry) : Type 0 where
   pub atom : AtomValue
   pub asked : IsRequest words atom
   pub moments : Since (IsKept old.now) old new
   pub recovered : IsRecovered old.now.holds new.now.holds
   pub rest : IsAtRest new.now.holds new.now
-  pub ready : IsReady new.now.holds atom f
+  pub ready : IsReady new.now.holds atom ps f
   pub told : image (order_of f) ≡ entries
 
 -- some builder of those at rest tells this image, where builders tell
@@ -130,11 +133,11 @@ BuildEnds tells told id (status.BuildFailed failed) = failed ≡ id
 BuildEnds tells told id status.Memory = Unit {0}
 BuildEnds tells told id s = ⊥
 
--- the package that the atom chooses, where none is installed; of a tree that tells nothing only
--- that the atom matches it
+-- the package that the atom chooses, beside those that are installed; of a tree that tells nothing
+-- only that the atom matches it
 abbrev pub IsPackageOf : AtomValue → Bool → Map → PackageId → Type 0
-IsPackageOf a tells m id = (f : Facts) × (f.id ≡ id)
-    × ((value_matches a f [] ≡ true) × (IsTrue tells → IsReady m a f))
+IsPackageOf a tells m id = (f : Facts) × (f.id ≡ id) × ((value_matches a f [] ≡ true)
+    × (IsTrue tells → (ps : List Installed) × IsReady m a ps f))
 
 -- the package that the words choose in what recovery makes of a tree
 abbrev pub IsNamed : List (List ℕ) → Bool → Map → PackageId → Type 0

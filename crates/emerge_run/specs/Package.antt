@@ -1,12 +1,13 @@
 -- The package that a run merges, and the group that brings it.
-use Rattle.std.specs.Prelude.{◌≡◌, true, List, []}
+use Rattle.std.specs.Prelude.{◌≡◌, true, List, length}
 use Rattle.file_tree.specs.Disk.{Map}
 use Rattle.file_tree.specs.declared.objects.Entry.{Entry}
 use Rattle.dep_atom.specs.declared.package.Facts.{Facts}
 use Rattle.build_pool.specs.declared.orders.Order.{Order}
 use Rattle.journal.specs.Group.{Group}
-use Rattle.merge_record.specs.declared.record.OwnerKey.{OwnerKey}
+use Rattle.database_law.specs.Packages.{Installed}
 use Rattle.merge_site.specs.declared.group.SiteGroup.{SiteGroup}
+use Rattle.opening.specs.Owners.{AreOwners, key_at}
 use Rattle.owner_book.specs.Book.{Book}
 use Rattle.group_run.specs.Granted.{IsLetIn}
 use Rattle.group_run.specs.declared.files.Files.{Files}
@@ -19,27 +20,20 @@ use Rattle.emerge_run.specs.Texts.{done_line}
 abbrev pub order_of : Facts → Order
 order_of f = record { id = f.id }
 
--- nothing is owned, and nothing is claimed
-abbrev pub no_owners : Book
-no_owners = record { owned = []; claims = [] }
-
--- who owns the paths of the one package
-abbrev pub OWNER : OwnerKey
-OWNER = record { number = 0 }
-
 -- the group places the image of the package and the files of its record, and may come into this
--- map, where nothing is owned
-abbrev pub MayCome : Facts → List Entry → Map → Group → Type 0
-MayCome f image m x =
-    (files : Files) × (groups : List SiteGroup) × IsFor f OWNER image files groups
-    × IsLetIn m no_owners groups files GROUP x
+-- map, where these packages are installed
+abbrev pub MayCome : List Installed → Facts → List Entry → Map → Group → Type 0
+MayCome ps f image m x = (book : Book) × AreOwners ps book × ((files : Files)
+    × (groups : List SiteGroup) × IsFor f (key_at (length ps)) image files groups
+    × IsLetIn m book groups files GROUP x)
 
--- the merge of the package into this map is stopped so
-abbrev pub StopsAt : Facts → List Entry → Map → Stop → Type 0
-StopsAt f image m s = StopsMerge true m no_owners f OWNER image s
+-- the merge of the package into this map, where these packages are installed, is stopped so
+abbrev pub StopsAt : List Installed → Facts → List Entry → Map → Stop → Type 0
+StopsAt ps f image m s = (book : Book) × AreOwners ps book
+    × StopsMerge true m book f (key_at (length ps)) image s
 
--- what is made for the merge of the package, beside its image
-pub record IsAddition (f : Facts) (a : Addition) : Type 0 where
-  pub owner_is : a.owner ≡ OWNER
-  pub book_is : a.book ≡ no_owners
+-- what is made for the merge of the package beside these, but for its image
+pub record IsAddition (ps : List Installed) (f : Facts) (a : Addition) : Type 0 where
+  pub owner_is : a.owner ≡ key_at (length ps)
+  pub owners : AreOwners ps a.book
   pub line_is : a.line.items ≡ done_line f.id GROUP

@@ -10,11 +10,13 @@ use Rattle.merge_site.specs.declared.fault.ClaimStop.{ClaimStop}
 use Rattle.merge_site.specs.declared.fault.ClaimStop.TheVariants as claims
 use Rattle.group_run.specs.declared.stop.Stop.{Stop}
 use Rattle.group_run.specs.declared.stop.Stop.TheVariants as stops
+use Rattle.opening.specs.declared.fault.OpeningFault.{OpeningFault}
+use Rattle.opening.specs.declared.fault.OpeningFault.TheVariants as openings
 use Rattle.recovery.specs.declared.fault.RecoverFault.{RecoverFault}
 use Rattle.recovery.specs.declared.fault.RecoverFault.TheVariants as recovery
 use Rattle.visible_set.specs.declared.fault.CandidateFault.{CandidateFault}
 use Rattle.visible_set.specs.declared.fault.CandidateFault.TheVariants as candidates
-use Rattle.emerge_run.specs.declared.status.Part.TheVariants.{Repository}
+use Rattle.emerge_run.specs.declared.status.Part.TheVariants.{Database, Repository}
 use Rattle.emerge_run.specs.declared.refusal.Refusal.{Refusal}
 use Rattle.emerge_run.specs.declared.refusal.Refusal.TheVariants as refusals
 use Rattle.emerge_words.specs.declared.request.WordFault.{WordFault}
@@ -22,14 +24,15 @@ use Rattle.emerge_words.specs.declared.request.WordFault.TheVariants as words
 use Rattle.emerge_run.specs.declared.status.Status.{Status}
 use Rattle.emerge_run.specs.declared.status.Status.TheVariants as status
 
-abbrev pub refusal_of : TreeFault → Refusal
-refusal_of tree.Failed = refusals.Failed
-refusal_of tree.Memory = refusals.Memory
-
 abbrev pub refusal_of_candidates : CandidateFault → Refusal
 refusal_of_candidates candidates.OddEntry = refusals.NotBuilt Repository
 refusal_of_candidates candidates.Failed = refusals.Failed
 refusal_of_candidates candidates.Memory = refusals.Memory
+
+abbrev pub refusal_of_opening : OpeningFault → Refusal
+refusal_of_opening openings.Other = refusals.NotBuilt Database
+refusal_of_opening openings.Failed = refusals.Failed
+refusal_of_opening openings.Memory = refusals.Memory
 
 abbrev pub status_of : Refusal → Status
 status_of (refusals.NotBuilt what) = status.NotBuilt what

@@ -8,7 +8,7 @@ use Rattle.dep_atom.specs.declared.package.PackageId.{PackageId}
 use Rattle.emerge_words.specs.declared.request.WordFault.{WordFault}
 use Rattle.emerge_words.specs.declared.request.WordFault.TheVariants as words
 use Rattle.emerge_run.specs.declared.status.Part.{Part}
-use Rattle.emerge_run.specs.declared.status.Part.TheVariants.{Command, Repository, Database}
+use Rattle.emerge_run.specs.declared.status.Part.TheVariants.{Command, Repository, Database, Result}
 use Rattle.file_tree.specs.declared.limits.Quantity.{Quantity}
 use Rattle.file_tree.specs.declared.limits.Quantity.TheVariants.{Candidates, Groups, Packages, Paths, RecordBytes}
 use Rattle.owner_book.specs.declared.fault.Collision.{Collision}
@@ -30,6 +30,7 @@ abbrev pub part_word : Part → List ℕ
 part_word Command = codes "Command"
 part_word Repository = codes "Repository"
 part_word Database = codes "Database"
+part_word Result = codes "Result"
 
 abbrev pub reason_word : Reason → List ℕ
 reason_word NotMatched = codes "NotMatched"

@@ -21,6 +21,7 @@ use build_pool::{BuildPool, Builder};
 use dep_atom::{Atom, Facts};
 use file_tree::Tree;
 use package_run::Addition;
+use record_read::Installed;
 use recovery::recover;
 use std::alloc::Global;
 
@@ -29,6 +30,8 @@ use std::alloc::Global;
 pub struct Chosen {
     pub facts: Facts,
     pub addition: Addition,
+    /// The packages that are installed.
+    pub opening: Vec<Installed>,
 }
 
 /// Recovers the tree, and finds the package that the words choose in it, with its image; or answers
@@ -43,8 +46,8 @@ pub fn choose<T: Tree, B: Builder>(
     ensures chosen { IsTrue T.tells → IfOk result (λ c.
         OfSomeBuilder B.tells B.told pool.old.resting (λ image.
         HasChosen (map string_bytes words.now) image (T.story tree.old) (T.story tree.new)
-        c.facts c.addition.image.items)) }
-    ensures added { IfOk result (λ c. IsAddition c.facts c.addition) }
+        c.opening.items c.facts c.addition.image.items)) }
+    ensures added { IfOk result (λ c. IsAddition c.opening.items c.facts c.addition) }
     ensures named { IfOk result (λ c. IsNamed (map string_bytes words.now) T.tells
         (T.story tree.old).now.holds c.facts.id) }
     ensures ended { IsTrue T.tells → IfErr result (λ s.
@@ -80,11 +83,11 @@ fn find_package<T: Tree, B: Builder>(
 ) -> Result<Chosen, Status>
     requires resting { 0 < length pool.old.resting }
     ensures ready { IsTrue T.tells → IfOk result (λ c.
-        IsReady (T.story tree.old).now.holds (atom_value atom) c.facts) }
+        IsReady (T.story tree.old).now.holds (atom_value atom) c.opening.items c.facts) }
     ensures matched { IfOk result (λ c. value_matches (atom_value atom) c.facts [] ≡ true) }
     ensures image { IfOk result (λ c. (b : B) × Contains pool.old.resting b ×
         IsTold B.tells (B.told b (order_of c.facts)) c.addition.image.items) }
-    ensures added { IfOk result (λ c. IsAddition c.facts c.addition) }
+    ensures added { IfOk result (λ c. IsAddition c.opening.items c.facts c.addition) }
     ensures ended { IsTrue T.tells → IfErr result (λ s.
         OfSomeBuilder B.tells B.told pool.old.resting
         (λ image. AsksFor (atom_value atom) (T.story tree.old).now.holds image s)) }
@@ -99,8 +102,8 @@ fn find_package<T: Tree, B: Builder>(
     ensures lent { pool.new.lent ≡ pool.old.lent }
 {
     match judge_tree(alloc, tree, &atom) {
-        Ok(Standing::Chosen(facts)) => with_image(alloc, facts, pool),
-        Ok(Standing::Installed) => Err(Status::Ok { groups: 0 }),
+        Ok(Standing::Chosen(facts, opening)) => with_image(alloc, facts, opening, pool),
+        Ok(Standing::Met) => Err(Status::Ok { groups: 0 }),
         Ok(Standing::Unmatched(reasons)) => Err(Status::NoCandidate { atom, reasons }),
         Err(refusal) => Err(Status::from(refusal)),
     }
@@ -110,13 +113,15 @@ fn find_package<T: Tree, B: Builder>(
 fn with_image<B: Builder>(
     alloc: Global,
     facts: Facts,
+    opening: Vec<Installed>,
     pool: &mut BuildPool<B>,
 ) -> Result<Chosen, Status>
     requires resting { 0 < length pool.old.resting }
     ensures facts { IfOk result (λ c. c.facts ≡ facts) }
+    ensures opening { IfOk result (λ c. c.opening.items ≡ opening.items) }
     ensures image { IfOk result (λ c. (b : B) × Contains pool.old.resting b ×
         IsTold B.tells (B.told b (order_of facts)) c.addition.image.items) }
-    ensures added { IfOk result (λ c. IsAddition facts c.addition) }
+    ensures added { IfOk result (λ c. IsAddition opening.items facts c.addition) }
     ensures ends { IfErr result (λ s. (b : B) × Contains pool.old.resting b ×
         BuildEnds B.tells (B.told b (order_of facts)) facts.id s) }
     ensures build { (id : PackageId) → IsErrOf result (Status.BuildFailed id) →
@@ -125,6 +130,10 @@ fn with_image<B: Builder>(
     ensures lent { pool.new.lent ≡ pool.old.lent }
 {
     let image = find_image(alloc, pool, &facts)?;
-    let addition = addition_of(alloc, &facts, image)?;
-    Ok(Chosen { facts, addition })
+    let addition = addition_of(alloc, &facts, image, &opening)?;
+    Ok(Chosen {
+        facts,
+        addition,
+        opening,
+    })
 }

@@ -3,7 +3,7 @@ ghost use Rattle.std.specs.Prelude.{MatchResult, map};
 ghost use Rattle.file_tree.specs.Disk.{Map, Rose};
 ghost use Rattle.dep_atom.specs.Match.{value_matches};
 ghost use Rattle.dep_atom.specs.Values.{atom_value};
-ghost use Rattle.emerge_run.specs.Answers.{HasMatched, IsBare, Stands, not_matched};
+ghost use Rattle.emerge_run.specs.Answers.{HasMatched, IsOpen, Stands, not_matched};
 ghost use Rattle.emerge_run.specs.Refusals.{TreeRefuses};
 ghost use Rattle.visible_set.specs.Candidates.{AreOffers};
 
@@ -11,24 +11,24 @@ use crate::refusal::Refusal;
 use crate::status::{Part, Reason};
 use dep_atom::{Atom, Facts, PackageId};
 use file_tree::Tree;
-use pms_names::Flags;
+use opening::{is_matched, is_taken, read_opening};
+use record_read::Installed;
 use std::alloc::{AllocError, Global};
-use vdb_text::{Database, files_apart, one_installed, read_database};
 use visible_set::{candidates, choose};
 
 /// How a tree stands to the atom of a run.
 #[derive(Debug, Drop)]
 pub enum Standing {
-    /// The atom matches the package that is installed.
-    Installed,
-    /// Nothing is installed, and the atom chooses this candidate.
-    Chosen(Facts),
-    /// Nothing is installed, and the atom matches none of these candidates.
+    /// The atom matches a package that is installed.
+    Met,
+    /// It matches none, and chooses this candidate, to come beside those that are installed.
+    Chosen(Facts, Vec<Installed>),
+    /// It matches neither an installed package nor one of these candidates.
     Unmatched(Vec<(PackageId, Reason)>),
 }
 
 /// Judges a recovered tree before anything is built: the cache entries of the atom's name, the
-/// database, and then which candidate the atom chooses.
+/// database, and then which candidate the atom chooses, and whether its place is free.
 pub fn judge_tree<T: Tree>(alloc: Global, tree: &mut T, atom: &Atom) -> Result<Standing, Refusal>
     ensures stands { IsTrue T.tells → IfOk result
         (Stands (T.story tree.old).now.holds (atom_value atom.now)) }
@@ -39,39 +39,37 @@ pub fn judge_tree<T: Tree>(alloc: Global, tree: &mut T, atom: &Atom) -> Result<S
     ensures count { T.faults tree.old ≤ T.faults tree.new }
     ensures cause { IsErrOf result Refusal.Failed → Rose (T.faults tree.old) (T.faults tree.new) }
 {
-    one_installed();
-    files_apart();
     let offers = candidates(alloc, tree, &atom.name)?;
-    match read_database(alloc, tree)? {
-        Database::Nothing => Ok(standing_of(alloc, atom, offers)?),
-        Database::One(installed) => judge_installed(alloc, atom, &installed),
-        Database::Other => Err(Refusal::NotBuilt(Part::Database)),
+    let packages = read_opening(alloc, tree)?;
+    if is_matched(alloc, atom, &packages) {
+        return Ok(Standing::Met);
     }
+    standing_of(alloc, atom, offers, packages)
 }
 
-/// Whether the package that is installed is one that the atom matches.
-fn judge_installed(alloc: Global, atom: &Atom, installed: &Facts) -> Result<Standing, Refusal>
-    ensures { MatchResult result (λ s. (s ≡ Standing.Installed) ×
-        (value_matches (atom_value atom.now) installed.now [] ≡ true))
-        (λ r. (r ≡ Refusal.NotBuilt Part.Database) ×
-        (value_matches (atom_value atom.now) installed.now [] ≡ false)) }
-{
-    let asker = Flags::new(alloc);
-    if atom.matches(installed, &asker) {
-        Ok(Standing::Installed)
-    } else {
-        Err(Refusal::NotBuilt(Part::Database))
-    }
-}
-
-/// Which of the candidates the atom chooses, where nothing is installed.
-fn standing_of(alloc: Global, atom: &Atom, offers: Vec<Facts>) -> Result<Standing, AllocError>
+/// Which of the candidates the atom chooses, where it matches none of these packages.
+fn standing_of(
+    alloc: Global,
+    atom: &Atom,
+    offers: Vec<Facts>,
+    packages: Vec<Installed>,
+) -> Result<Standing, Refusal>
     ensures stands { (m : Map) → AreOffers m atom.now.name offers.items →
-        IsBare m (atom_value atom.now) → IfOk result (Stands m (atom_value atom.now)) }
+        IsOpen m (atom_value atom.now) packages.items →
+        IfOk result (Stands m (atom_value atom.now)) }
     ensures matched { IfOk result (HasMatched (atom_value atom.now)) }
+    ensures refused { (m : Map) → AreOffers m atom.now.name offers.items →
+        IsOpen m (atom_value atom.now) packages.items →
+        IfErr result (TreeRefuses m (atom_value atom.now)) }
+    ensures healthy { IfErr result (λ r. ¬ (r ≡ Refusal.Failed)) }
 {
     match choose(alloc, atom, offers) {
-        Ok(chosen) => Ok(Standing::Chosen(chosen)),
+        Ok(chosen) => {
+            if is_taken(alloc, &chosen, &packages)? {
+                return Err(Refusal::NotBuilt(Part::Result));
+            }
+            Ok(Standing::Chosen(chosen, packages))
+        }
         Err(offers) => Ok(Standing::Unmatched(reasons_of(alloc, offers)?)),
     }
 }

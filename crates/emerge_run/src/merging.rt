@@ -26,9 +26,9 @@ pub fn merge_chosen<T: Tree, S: Sink>(
     chosen: Chosen,
 ) -> Reached<T, S>
     requires rest { IsTrue T.tells → IsAtRest (T.story tree).now.holds (T.story tree).now }
-    requires added { IsAddition chosen.facts chosen.addition }
-    ensures merged { IsTrue T.tells → MergedTo chosen.facts chosen.addition.image.items
-        (T.story tree) (T.story result.tree) result.history.items result.status }
+    requires added { IsAddition chosen.opening.items chosen.facts chosen.addition }
+    ensures merged { IsTrue T.tells → MergedTo chosen.opening.items chosen.facts
+        chosen.addition.image.items (T.story tree) (T.story result.tree) result.history.items result.status }
     ensures machine { MatchOption result.machine (result.history.items ≡ [])
         (λ k. result.history.items ≡ map number k.order) }
     ensures of { IsOfMerge result.status }
@@ -46,7 +46,11 @@ pub fn merge_chosen<T: Tree, S: Sink>(
     ensures output { CountsFault (result.status ≡ Status.OutputFault) (S.faults out)
         (S.faults result.out) }
 {
-    let Chosen { facts, addition } = chosen;
+    let Chosen {
+        facts,
+        addition,
+        ..
+    } = chosen;
     let Merged {
         tree,
         sink,

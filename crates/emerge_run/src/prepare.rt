@@ -3,7 +3,7 @@ ghost use Rattle.build_pool.specs.Pool.{PoolRose, SameIds, faults_of};
 ghost use Rattle.dep_atom.specs.declared.package.PackageId.{PackageId};
 ghost use Rattle.emerge_run.specs.Images.{IsTold};
 ghost use Rattle.emerge_run.specs.Outcomes.{BuildEnds};
-ghost use Rattle.emerge_run.specs.Package.{IsAddition, no_owners, order_of};
+ghost use Rattle.emerge_run.specs.Package.{IsAddition, order_of};
 
 use crate::images::built_image;
 use crate::status::Status;
@@ -12,8 +12,9 @@ use build_pool::{BuildPool, BuildStop, Builder, Order};
 use dep_atom::Facts;
 use file_tree::{Entry, Quantity};
 use merge_record::OwnerKey;
-use owner_book::OwnerBook;
+use opening::book_of;
 use package_run::Addition;
+use record_read::Installed;
 use std::alloc::{AllocError, Global};
 
 /// Has the image of a package built.
@@ -46,25 +47,24 @@ pub fn find_image<B: Builder>(
     }
 }
 
-/// What is made for the merge of a package, with its image.
-pub fn addition_of(alloc: Global, facts: &Facts, image: Vec<Entry>) -> Result<Addition, AllocError>
+/// What is made for the merge of a package beside these, with its image.
+pub fn addition_of(
+    alloc: Global,
+    facts: &Facts,
+    image: Vec<Entry>,
+    packages: &[Installed],
+) -> Result<Addition, AllocError>
     ensures image { IfOk result (λ a. a.image.items ≡ image.items) }
-    ensures added { IfOk result (IsAddition facts.now) }
+    ensures added { IfOk result (IsAddition packages.now facts.now) }
 {
+    let number = u32::try_from(packages.len()).map_err(|_| AllocError)?;
     let text = line_of_group(alloc, &facts.id, 1)?;
     let line = text.as_bytes().to_vec(alloc)?;
-    let book = empty_book(alloc)?;
+    let book = book_of(alloc, packages)?;
     Ok(Addition {
-        owner: OwnerKey { number: 0 },
+        owner: OwnerKey { number },
         image,
         line,
         book,
     })
-}
-
-/// The book of a tree in which nothing is installed.
-fn empty_book(alloc: Global) -> Result<OwnerBook, AllocError>
-    ensures { IfOk result (λ b. b ≡ no_owners) }
-{
-    OwnerBook::from_records(alloc, &[])
 }

@@ -1,6 +1,7 @@
 use crate::status::{Part, Status};
 use emerge_words::WordFault;
 use file_tree::{Failed, Quantity, TreeFault};
+use opening::OpeningFault;
 use recovery::RecoverFault;
 use std::alloc::AllocError;
 use visible_set::CandidateFault;
@@ -35,16 +36,17 @@ impl From<AllocError> for Refusal {
     }
 }
 
-impl From<TreeFault> for Refusal {
+impl From<OpeningFault> for Refusal {
     ghost use Rattle.std.specs.Prelude.{◌≡◌};
-    ghost use Rattle.emerge_run.specs.Refusals.{refusal_of};
+    ghost use Rattle.emerge_run.specs.Refusals.{refusal_of_opening};
 
-    ghost from_gives = { λ f r. r ≡ refusal_of f };
+    ghost from_gives = { λ f r. r ≡ refusal_of_opening f };
 
-    fn from(fault: TreeFault) -> Refusal {
+    fn from(fault: OpeningFault) -> Refusal {
         match fault {
-            TreeFault::Failed => Refusal::Failed,
-            TreeFault::Memory => Refusal::Memory,
+            OpeningFault::Other => Refusal::NotBuilt(Part::Database),
+            OpeningFault::Failed => Refusal::Failed,
+            OpeningFault::Memory => Refusal::Memory,
         }
     }
 }

@@ -13,6 +13,8 @@ pub enum Part {
     Repository,
     /// Something in the database of installed packages.
     Database,
+    /// A package that takes the place of an installed one.
+    Result,
 }
 
 /// Why an atom doesn't choose a candidate.

@@ -43,6 +43,7 @@ pub fn fixed_line(status: &Status) -> Option<&'static str>
             Part::Command => "emerge: NotBuilt: Command\n",
             Part::Repository => "emerge: NotBuilt: Repository\n",
             Part::Database => "emerge: NotBuilt: Database\n",
+            Part::Result => "emerge: NotBuilt: Result\n",
         }),
     }
 }

@@ -16,14 +16,14 @@ pub returns-in-Ok-Chosen-clause-ended : goal.returns-in-Ok-Chosen-clause-ended
 returns-in-Ok-Chosen-clause-ended g c t =
     let m = (g.T.Tree.story c.args.tree.now).now.holds in
     let a = atom_value c.args.atom in
-    let ready : IsReady m a c.in-Ok-Chosen.facts = subst (λ (x : Standing). Stands m a x) c.in-Ok-Chosen.field-0-is (c.in-Ok-Chosen.ensures.stands t) in
-    ended_build g.B.Builder.tells g.B.Builder.told c.args.pool.now.resting a m c.in-Ok-Chosen.facts c.with_image.result ready c.with_image.ensures.ends
+    let ready : IsReady m a c.in-Ok-Chosen.opening.items c.in-Ok-Chosen.facts = subst (λ (x : Standing). Stands m a x) c.in-Ok-Chosen.field-0-is (c.in-Ok-Chosen.ensures.stands t) in
+    ended_build g.B.Builder.tells g.B.Builder.told c.args.pool.now.resting a m c.in-Ok-Chosen.opening.items c.in-Ok-Chosen.facts c.with_image.result ready c.with_image.ensures.ends
 
-pub returns-in-Ok-Installed-clause-ended : goal.returns-in-Ok-Installed-clause-ended
-returns-in-Ok-Installed-clause-ended g c t =
+pub returns-in-Ok-Met-clause-ended : goal.returns-in-Ok-Met-clause-ended
+returns-in-Ok-Met-clause-ended g c t =
     let b = some_builder c.args.pool.now.resting c.requires.resting in
     let m = (g.T.Tree.story c.args.tree.now).now.holds in
-    let met = subst (λ (x : Standing). Stands m (atom_value c.args.atom) x) c.in-Ok-Installed.field-0-is (c.in-Ok-Installed.ensures.stands t) in
+    let met = subst (λ (x : Standing). Stands m (atom_value c.args.atom) x) c.in-Ok-Met.field-0-is (c.in-Ok-Met.ensures.stands t) in
     (b.0, b.1, (g.B.Builder.told b.0, (λ _. refl), inr (met, refl)))
 
 pub returns-in-Ok-Unmatched-clause-ended : goal.returns-in-Ok-Unmatched-clause-ended

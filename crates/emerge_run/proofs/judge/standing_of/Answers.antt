@@ -1,19 +1,26 @@
-use Rattle.std.proofs.Common.{◌≡◌, ◌∙◌, false, List, [], map, ap, subst}
+use Rattle.std.proofs.Common.{◌≡◌, ◌∙◌, false, List, [], map, ap, subst, sym}
 use Rattle.std.specs.List.{AllByRecursion}
 use Rattle.dep_atom.specs.Match.{value_matches}
 use Rattle.dep_atom.specs.Values.{atom_value}
 use Rattle.dep_atom.specs.declared.package.Facts.{Facts}
+use Rattle.database_law.specs.Packages.{Installed}
+use Rattle.opening.specs.Openings.{is_taken}
 use Rattle.emerge_run.specs.Answers.{not_matched}
 use Rattle.emerge_run.proofs.judge.standing_of.Goals as goal
 
-pub returns-in-Ok-clause-stands : goal.returns-in-Ok-clause-stands
-returns-in-Ok-clause-stands c m are bare = record { bare = bare; chosen = c.in-Ok.ensures.chosen m are }
+pub returns-else-branch-clause-stands : goal.returns-else-branch-clause-stands
+returns-else-branch-clause-stands c m are is_open = record {
+  open_to = is_open;
+  chosen = c.in-Ok.ensures.chosen m are;
+  free = ap (λ (ps : List Installed). is_taken c.in-Ok.chosen ps) (sym c.deref.ensures.value) ∙ (sym c.in_ok-is_taken-in-Ok.ensures ∙ c.if-branch.false);
+}
 
 pub returns-in_ok-reasons_of-in-Err-clause-stands : goal.returns-in_ok-reasons_of-in-Err-clause-stands
-returns-in_ok-reasons_of-in-Err-clause-stands c m are bare =
+returns-in_ok-reasons_of-in-Err-clause-stands c m are is_open =
     let back = c.in-Err.ensures.back in
     record {
-      bare = bare;
+      packages = c.args.packages.items;
+      open_to = is_open;
       offers = c.args.offers.items;
       are = are;
       none = subst (λ (l : List Facts). AllByRecursion (λ f. value_matches (atom_value c.args.atom.now) f [] ≡ false) l) back c.in-Err.ensures.none;

@@ -1,10 +1,9 @@
 use Rattle.std.proofs.Common.{◌∙◌, Bool, subst, sym}
-use Rattle.std.specs.Prelude.{IfErr}
+use Rattle.std.specs.Prelude.{IfErr, length}
 use Rattle.merge_record.specs.declared.record.OwnerKey.{OwnerKey}
-use Rattle.owner_book.specs.Book.{Book}
+use Rattle.opening.specs.Owners.{key_at}
 use Rattle.package_run.specs.Packages.{StopsMerge, WentFor}
 use Rattle.emerge_run.specs.Outcomes.{IsOfMerge, IsRefusal}
-use Rattle.emerge_run.specs.Package.{OWNER, no_owners}
 use Rattle.emerge_run.proofs.Lines.{wrote_lines}
 use Rattle.emerge_run.proofs.Merged.{end_of_merge, merged_to, ok_first, refused_ended}
 use Rattle.emerge_run.proofs.merging.merge_chosen.Goals as goal
@@ -20,12 +19,12 @@ returns-clause-merged g c t =
     let old = g.T.Tree.story c.args.tree in
     let new = g.T.Tree.story r.tree in
     let m = old.now.holds in
-    let went = subst (λ (k : OwnerKey). WentFor no_owners f k image old new r.history.items r.end) added.owner_is
-    (subst (λ (b : Book). WentFor b f a.owner image old new r.history.items r.end) added.book_is (e.went t)) in
-    let cause = subst (λ (k : OwnerKey). IfErr r.end (StopsMerge g.T.Tree.tells m no_owners f k image)) added.owner_is
-    (subst (λ (b : Book). IfErr r.end (StopsMerge g.T.Tree.tells m b f a.owner image)) added.book_is e.cause) in
-    merged_to f image old new r.history.items r.end c.len.result c.status_of_end-status.result c.status_of_end-status.ensures (c.len.ensures ∙ r.history.ok.0)
-    went (ok_first _ _ r.end e.told) e.stops (subst (λ (b : Bool). IfErr r.end (StopsMerge b m no_owners f OWNER image)) t cause)
+    let ps = c.args.chosen.opening.items in
+    let key = key_at (length ps) in
+    let went = subst (λ (k : OwnerKey). WentFor a.book f k image old new r.history.items r.end) added.owner_is (e.went t) in
+    let cause = subst (λ (k : OwnerKey). IfErr r.end (StopsMerge g.T.Tree.tells m a.book f k image)) added.owner_is e.cause in
+    merged_to ps f image a.book added.owners old new r.history.items r.end c.len.result c.status_of_end-status.result c.status_of_end-status.ensures (c.len.ensures ∙ r.history.ok.0)
+    went (ok_first _ _ r.end e.told) e.stops (subst (λ (b : Bool). IfErr r.end (StopsMerge b m a.book f key image)) t cause)
 
 pub returns-clause-of : goal.returns-clause-of
 returns-clause-of g c = subst IsOfMerge (sym c.status_of_end-status.ensures) (end_of_merge c.len.result c.merge_package-tree.result.end)

@@ -10,7 +10,7 @@ returns-in-Ok-clause-outcome g c t =
     let chosen = c.in-Ok.chosen in
     let r = c.merge_chosen.result in
     outcome_chosen g.B.Builder.tells g.B.Builder.told c.args.pool.now.resting (map string_bytes c.args.words.now) (g.T.Tree.story c.args.tree) (g.T.Tree.story c.choose.new.tree) (g.T.Tree.story r.tree)
-    chosen.facts chosen.addition.image.items r.history.items r.status (c.in-Ok.ensures.chosen t) (c.merge_chosen.ensures.merged t)
+    chosen.opening.items chosen.facts chosen.addition.image.items r.history.items r.status (c.in-Ok.ensures.chosen t) (c.merge_chosen.ensures.merged t)
 
 pub returns-in-Ok-clause-written : goal.returns-in-Ok-clause-written
 returns-in-Ok-clause-written g c t =
