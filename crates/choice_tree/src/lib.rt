@@ -12,7 +12,8 @@
 //! written out in `specs/Options.antt` and `specs/Candidates.antt`: they are just those of
 //! `choice_law`, and each decides a line more.
 //!
-//! **Only tested**: nothing yet.
+//! **Only tested**: whole trees of small universes, written out by hand, and that with ample memory
+//! each call answers.
 //!
 //! It looks at all lines anew for each choice, and at each two of them for conflicts.
 //!
