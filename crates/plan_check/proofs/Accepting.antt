@@ -1,5 +1,5 @@
 -- Where no rule refuses, the plan is accepted, and the other way round.
-use Rattle.std.proofs.Common.{◌≡◌, ◌⊎◌, ◌≤◌, ◌+◌, ◌-◌, ◌∙◌, ◌||◌, ◌↔◌, ℕ, Bool, true, false, List, [], ◌∷◌, Option, None, Some, bytes_eq, filter, map, inl, inr, refl, sym, ap, subst, arith}
+use Rattle.std.proofs.Common.{◌≡◌, ◌⊎◌, ◌≤◌, ◌+◌, ◌-◌, ◌∙◌, ◌||◌, ◌↔◌, ℕ, Bool, true, false, List, [], ◌∷◌, Option, None, bytes_eq, filter, inl, inr, refl, sym, ap, subst, arith}
 use Rattle.std.proofs.lemmas.Bool.{cases_Bool, cases_eq}
 use Rattle.std.proofs.lemmas.Slice.Eq.{bytes_eq-Decides}
 use Rattle.basics.specs.Members.{AreDistinct, Has}
@@ -8,7 +8,7 @@ use Rattle.dep_atom.specs.declared.package.Facts.{Facts}
 use Rattle.dep_atom.specs.Match.{value_matches}
 use Rattle.dep_atom.specs.Values.{AtomValue}
 use Rattle.dep_tree.specs.Truth.{kind, some_match}
-use Rattle.pkg_state.specs.Consistent.{AreConsistent, blocks, facts_of, fits_required, is_met}
+use Rattle.pkg_state.specs.Consistent.{blocks, facts_of, fits_required, is_met}
 use Rattle.dep_group.specs.Trees.{all_hold}
 use Rattle.dep_tree.specs.Grammar.{is_block}
 use Rattle.pms_names.specs.Flags.{has}
@@ -16,19 +16,19 @@ use Rattle.pkg_state.specs.Fault.{lacking_leaf}
 use Rattle.pkg_state.specs.Package.{Package, line_of, lines_of, tree_of}
 use Rattle.pkg_state.specs.declared.class.Class.{Class}
 use Rattle.pkg_state.specs.declared.class.Class.TheVariants.{Bdepend, Depend, Idepend, Pdepend, Rdepend}
-use Rattle.plan_law.specs.Plans.{Group, Reaches, Removal, clears, group_at, no_group}
-use Rattle.plan_law.specs.Lives.{Enters, IsCleared, IsLife, Life, Meets, Moment, StandsBefore, commit, first_after, never, opening, stretch_of, until}
-use Rattle.plan_law.specs.Accepted.{AreLeft, Changes, IsAccepted, IsFirmThrough}
+use Rattle.plan_law.specs.Plans.{Group, Removal, clears, group_at, no_group}
+use Rattle.plan_law.specs.Lives.{Enters, IsCleared, IsLife, Life, Meets, Moment, commit, never, opening, stretch_of, until}
+use Rattle.plan_law.specs.Accepted.{AreLeft, IsAccepted, IsFirmThrough}
 use Rattle.plan_law.specs.Sound.{bars, is_of_build}
 use Rattle.plan_law.proofs.Members.{filtered, kept, passes_some, some_passes}
 use Rattle.plan_law.proofs.There.{some_life}
 use Rattle.plan_check.specs.Lives.{lives}
-use Rattle.plan_check.specs.PackageRules.{built_of, built_rule, finished_rule, if_brought, if_left, is_never, lasting_rule, left_of, package_rule, plan_rule, required_rule, unbarred_of, unbarred_rule, unblocked_rule}
-use Rattle.plan_check.specs.Refusals.{Refusal, Refusal as refused}
-use Rattle.plan_check.specs.Rules.{AreOneVersion, Crowds, IsPresent, apart_rule, line_rule, number_of, opening_rule, present_at, present_rule, single_rule, vacant_at, vacant_of, vacant_rule, versions_of, versions_rule}
-use Rattle.plan_check.specs.Verdicts.{both, demand, each, each_from, refuse}
+use Rattle.plan_check.specs.PackageRules.{built_rule, finished_rule, if_left, is_never, left_of, package_rule, plan_rule, required_rule, unbarred_rule}
+use Rattle.plan_check.specs.Refusals.{Refusal as refused}
+use Rattle.plan_check.specs.Rules.{AreOneVersion, Crowds, IsPresent, apart_rule, number_of, present_at, vacant_at, vacant_of, versions_of}
+use Rattle.plan_check.specs.Verdicts.{demand, each_from, refuse}
 use Rattle.plan_check.proofs.AllLives.{has_lives}
-use Rattle.plan_check.proofs.Clears.{Stands, all_stand, one_clearing, rest_stands, stands_here}
+use Rattle.plan_check.proofs.Clears.{Stands, all_stand, rest_stands, stands_here}
 use Rattle.plan_check.proofs.Trying.{each_none, each_passed}
 
 true_if : (b : Bool) → ¬ (b ≡ false) → b ≡ true

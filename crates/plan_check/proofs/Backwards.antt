@@ -1,5 +1,5 @@
 -- Lives are listed from the last group back, with the next clearing of each line at hand.
-use Rattle.std.proofs.Common.{◌≡◌, ◌<◌, ◌+◌, ◌∙◌, ◌||◌, ℕ, Bool, true, false, cond, List, [], ◌∷◌, ◌++◌, Option, None, Some, bytes_eq, get_or, length, map, refl, sym, ap, take}
+use Rattle.std.proofs.Common.{◌≡◌, ◌<◌, ◌+◌, ◌∙◌, ◌||◌, ℕ, Bool, true, false, cond, List, [], ◌∷◌, ◌++◌, Option, Some, bytes_eq, get_or, length, map, refl, sym, ap, take}
 use Rattle.std.specs.Prelude.{reverse}
 use Rattle.std.specs.BTreeMap.{is_at}
 use Rattle.std.specs.Cmp.Lexicographic.{slice_cmp}
@@ -12,7 +12,7 @@ use Rattle.pkg_state.specs.Package.{Package, line_of}
 use Rattle.plan_law.specs.Plans.{Group, Removal, clears, removed_line}
 use Rattle.plan_law.specs.Lives.{Life, Moment, commit}
 use Rattle.plan_check.specs.Clearings.{AreClearings, life_at, moment_at, place_at}
-use Rattle.plan_check.specs.Lives.{clearing, life, lives_behind}
+use Rattle.plan_check.specs.Lives.{life, lives_behind}
 
 pub reverse_push : {A : Type 0} (xs : List A) (x : A) → reverse (xs ++ x ∷ []) ≡ x ∷ reverse xs
 reverse_push xs x = reverse-append xs (x ∷ [])

@@ -1,7 +1,7 @@
 -- Setting and joining the bits of a row of words.
-use Rattle.std.proofs.Common.{◌≡◌, ◌≢◌, ◌⊎◌, ◌<◌, ◌≤◌, ◌+◌, ◌*◌, ◌/◌, ◌%◌, ◌^◌, ◌∙◌, ◌||◌, ℕ, zero, suc, max, Bool, true, false, List, [], length, get_or, nat_eq, refl, ap, sym, inl, inr, arith, eq-eqb}
+use Rattle.std.proofs.Common.{◌≡◌, ◌≢◌, ◌⊎◌, ◌<◌, ◌≤◌, ◌*◌, ◌/◌, ◌%◌, ◌^◌, ◌∙◌, ◌||◌, ℕ, zero, suc, max, Bool, true, false, List, length, get_or, nat_eq, refl, ap, sym, inl, inr, arith, eq-eqb}
 use Rattle.std.proofs.Common.{set, w64}
-use Rattle.std.specs.Prelude.{bit_or, slice_set}
+use Rattle.std.specs.Prelude.{bit_or}
 use Rattle.std.specs.Int.{bit_at}
 use Rattle.std.proofs.Math.Nat.{mod-lt}
 use Rattle.std.proofs.lemmas.List.{get_or-set_other, get_or_past}

@@ -1,24 +1,23 @@
 -- No rule lets a plan pass and refuses it too.
-use Rattle.std.proofs.Common.{◌≡◌, ℕ, ◌+◌, Bool, true, false, List, Option, None, Some, refl}
+use Rattle.std.proofs.Common.{◌≡◌, ℕ, ◌+◌, true, false, List, Option, None, Some, refl}
 use Rattle.std.specs.Prelude.{Result, Ok, Err, IfErr, IfSome, OnOk}
 use Rattle.pkg_state.specs.Consistent.{blocks, facts_of, fits_required, is_met}
 use Rattle.pkg_state.specs.Fault.{lacking_leaf}
 use Rattle.pkg_state.specs.Package.{Package}
 use Rattle.pkg_state.specs.declared.class.Class.{Class}
-use Rattle.pkg_state.specs.declared.class.Class.TheVariants.{Bdepend, Depend, Idepend, Pdepend, Rdepend}
+use Rattle.pkg_state.specs.declared.class.Class.TheVariants.{Bdepend, Depend, Idepend, Pdepend}
 use Rattle.pkg_state.proofs.Faults.{none_fits}
 use Rattle.pkg_state.proofs.Lines.{twins_not_apart}
 use Rattle.plan_law.specs.Plans.{Group, group_at}
-use Rattle.plan_law.specs.Lives.{Life, Meets, Moment, Stretch, commit, never, opening, stretch_of, until}
+use Rattle.plan_law.specs.Lives.{Life, Meets, Moment, commit, never, opening, stretch_of, until}
 use Rattle.plan_law.specs.Accepted.{IsAccepted}
 use Rattle.plan_law.specs.Sound.{IsSound, bars}
 use Rattle.plan_check.specs.Lives.{lives}
 use Rattle.plan_check.specs.PackageRules.{built_of, built_rule, finished_rule, if_brought, if_left, lasting_rule, left_of, package_rule, plan_rule, required_rule, unbarred_of, unbarred_rule, unblocked_rule}
 use Rattle.plan_check.specs.Refusals.{Refusal, Refusal as refused, Says, told}
 use Rattle.plan_check.specs.Rules.{AreOneVersion, Crowds, apart_rule, line_rule, number_of, opening_rule, present_at, present_of, present_rule, single_rule, vacant_at, vacant_of, vacant_rule, versions_of, versions_rule}
-use Rattle.plan_check.specs.Verdicts.{both, demand, demand_as, each, each_from, nothing, refuse}
+use Rattle.plan_check.specs.Verdicts.{both, each, nothing, refuse}
 use Rattle.plan_check.specs.declared.refusal.PlanRefused.{PlanRefused}
-use Rattle.plan_check.specs.declared.refusal.PlanRefused.TheVariants as code
 use Rattle.plan_check.proofs.Accepting.{accepted, none_refuses}
 use Rattle.plan_check.proofs.Trying.{IsClear, both_clear, each_clear, from_clear}
 

@@ -1,7 +1,7 @@
 -- The first clearing of a line is a moment at which it is cleared, and the only one.
-use Rattle.std.proofs.Common.{◌≡◌, ◌⊎◌, ◌<◌, ◌≤◌, ◌+◌, ◌-◌, ◌∙◌, ℕ, suc, Bool, true, false, cond, List, [], ◌∷◌, inl, inr, refl, sym, ap, subst, arith}
-use Rattle.std.proofs.lemmas.Bool.{cases_Bool, cases_eq}
-use Rattle.plan_law.specs.Plans.{Group, clears, group_at, no_group}
+use Rattle.std.proofs.Common.{◌≡◌, ◌≤◌, ◌+◌, ◌-◌, ◌∙◌, ℕ, suc, Bool, true, false, cond, List, [], ◌∷◌, inl, inr, refl, ap, arith}
+use Rattle.std.proofs.lemmas.Bool.{cases_eq}
+use Rattle.plan_law.specs.Plans.{Group, clears, group_at}
 use Rattle.plan_law.specs.Lives.{IsCleared, Moment, commit, never, opening}
 use Rattle.plan_check.specs.Lives.{clearing}
 

@@ -1,9 +1,9 @@
 -- What is in the way of an addition is what its group doesn't take away.
-use Rattle.std.proofs.Common.{◌≡◌, ◌⊎◌, ◌<◌, ◌≤◌, ◌+◌, ◌∙◌, ℕ, Bool, true, false, List, inl, inr, refl, sym, ap, subst, arith}
+use Rattle.std.proofs.Common.{◌≡◌, ◌<◌, ◌≤◌, ◌∙◌, ℕ, true, false, List, inl, inr, sym, ap, subst, arith}
 use Rattle.std.proofs.lemmas.Bool.{cases_Bool}
 use Rattle.pkg_state.specs.Package.{Package, line_of}
 use Rattle.plan_law.specs.Plans.{Group, clears, group_at}
-use Rattle.plan_law.specs.Lives.{ComesBefore, IsCleared, IsLife, Life, Moment, StandsBefore, commit, first_after, never, opening}
+use Rattle.plan_law.specs.Lives.{ComesBefore, IsCleared, IsLife, Life, Moment, commit, first_after, never, opening}
 use Rattle.plan_check.specs.Rules.{Crowds, IsInTheWay}
 
 module _ (plan : List Group) (start : List Package) (g : ℕ) where

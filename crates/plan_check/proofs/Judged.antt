@@ -1,15 +1,14 @@
 -- Steps that several answers of functions share.
-use Rattle.std.proofs.Common.{◌≡◌, ◌⊎◌, ◌↔◌, ◌<◌, ◌≤◌, ◌∷◌, ◌+◌, ℕ, zero, suc, List, [], Option, None, map, drop, get_or, length, Result, Ok, Err, IfOk, inl, inr, refl, sym, ap, subst, arith, rules, ◌∙◌, Vec, Global, Some}
-use Rattle.dep_tree.specs.View.{trees_view, view, view_step}
+use Rattle.std.proofs.Common.{◌≡◌, ◌⊎◌, ◌↔◌, ◌<◌, ◌≤◌, ◌∷◌, ◌+◌, ℕ, zero, suc, List, [], Option, None, drop, get_or, length, Result, Ok, Err, IfOk, inl, inr, refl, sym, ap, subst, arith, rules, ◌∙◌, Vec, Global, Some}
+use Rattle.dep_tree.specs.View.{trees_view, view}
 use Rattle.dep_tree.specs.declared.tree.Node.{Node}
 use Rattle.dep_atom.specs.declared.atom.Atom.{Atom}
-use Rattle.dep_group.specs.Trees.{Trees, group, leaf, tree}
-use Rattle.dep_group.specs.declared.token.Opener.{Opener}
+use Rattle.dep_group.specs.Trees.{group, leaf, tree}
 use Rattle.dep_group.specs.declared.token.Opener.TheVariants as openers
-use Rattle.dep_tree.specs.declared.tree.Node.TheFolds.{fold-Node, fold-roll-Node}
+use Rattle.dep_tree.specs.declared.tree.Node.TheFolds.{fold-roll-Node}
 use Rattle.dep_tree.specs.declared.tree.Node.TheVariants as nodes
 use Rattle.dep_tree.specs.declared.tree.Node.TheVariants.{rolls-AnyOf, rolls-Leaf}
-use Rattle.dep_atom.specs.Values.{AtomValue, atom_value}
+use Rattle.dep_atom.specs.Values.{atom_value}
 use Rattle.plan_law.specs.Lives as law
 use Rattle.plan_check.specs.Lives.{lives_of, moment_of}
 use Rattle.plan_check.specs.Verdicts.{each}

@@ -16,3 +16,4 @@ pub mod KeptOut
 pub mod InTheWay
 pub mod Told
 pub mod Judged
+pub mod Clearing

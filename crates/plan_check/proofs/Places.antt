@@ -1,5 +1,5 @@
 -- What stands at a place of a list, and behind it.
-use Rattle.std.proofs.Common.{◌≡◌, ◌⊎◌, ◌<◌, ◌+◌, ◌∙◌, ℕ, zero, suc, List, [], ◌∷◌, ◌++◌, length, get_or, drop, drop-cons, add-one, map, refl, sym, ap, inl, inr, Vec, Global, arith}
+use Rattle.std.proofs.Common.{◌≡◌, ◌<◌, ◌+◌, ◌∙◌, ℕ, zero, suc, List, [], ◌∷◌, length, get_or, drop, drop-cons, add-one, map, refl, sym, ap, inl, inr, Vec, Global, arith}
 use Rattle.std.proofs.lemmas.List.{get_or-map, get_or_default}
 use Rattle.basics.specs.Members.{Has}
 use Rattle.plan_law.specs.Plans.{Group, group_at, no_group}

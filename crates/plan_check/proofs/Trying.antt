@@ -1,10 +1,9 @@
 -- The steps of a loop that tries rules in order.
-use Rattle.std.proofs.Common.{◌≡◌, ◌⊎◌, ◌<◌, ◌+◌, ◌∙◌, ℕ, suc, Bool, true, false, cond, List, [], ◌∷◌, Option, None, Some, drop, filter, get_or, length, map, refl, sym, ap, subst, inl, inr}
+use Rattle.std.proofs.Common.{◌≡◌, ◌<◌, ◌+◌, ℕ, Bool, true, false, cond, List, [], ◌∷◌, Option, None, Some, drop, filter, get_or, length, map, refl, subst, inl, inr}
 use Rattle.std.specs.Prelude.{Result, Ok, Err, IfSome}
-use Rattle.std.proofs.lemmas.Bool.{cases_Bool}
 use Rattle.basics.specs.Members.{Has}
 use Rattle.plan_check.specs.Refusals.{Refusal, Says, told}
-use Rattle.plan_check.specs.Verdicts.{both, each, each_from, nothing}
+use Rattle.plan_check.specs.Verdicts.{both, each, each_from}
 use Rattle.plan_check.specs.declared.refusal.PlanRefused.{PlanRefused}
 use Rattle.plan_check.proofs.Places.{at_drop}
 

@@ -1,6 +1,5 @@
 -- The moments of lives name groups that are there.
-use Rattle.std.proofs.Common.{◌≡◌, ◌<◌, ◌+◌, ℕ, List, length}
-use Rattle.basics.specs.Members.{Has}
+use Rattle.std.proofs.Common.{ℕ, List, length}
 use Rattle.pkg_state.specs.Package.{Package, line_of}
 use Rattle.plan_law.specs.Plans.{Group}
 use Rattle.plan_law.specs.Lives.{Enters, IsCleared, IsLife, Life, Moment, commit, first_after, never, opening}

@@ -1,5 +1,5 @@
 -- The changes of lines that a plan makes, as a list: each line with the place of its group.
-use Rattle.std.specs.Prelude.{◌≡◌, ◌⊎◌, ℕ, ◌+◌, List, [], ◌∷◌, ◌++◌, Option, Some, map}
+use Rattle.std.specs.Prelude.{◌⊎◌, ℕ, ◌+◌, List, [], ◌∷◌, ◌++◌, map}
 use Rattle.basics.specs.Members.{Has}
 use Rattle.pkg_state.specs.Package.{line_of}
 use Rattle.plan_law.specs.Plans.{Group, Reaches, removed_line}

@@ -1,9 +1,8 @@
 -- How the lives are found by the line and the name of their packages.
 use denote.Ref.{Bor}
-use Rattle.std.specs.Prelude.{◌≡◌, ◌<◌, ℕ, List, Vec, bytes_eq, filter, length, ⊤}
+use Rattle.std.specs.Prelude.{◌≡◌, ℕ, List, Vec, bytes_eq, filter}
 use Rattle.std.specs.Global.{Global}
 use Rattle.std.specs.BTreeMap.{BTreeMap}
-use Rattle.basics.specs.Members.{Has}
 use Rattle.pkg_state.specs.Index.{listed}
 use Rattle.pkg_state.specs.Package.{Package, line_of}
 use Rattle.plan_law.specs.Plans.{Group}

@@ -1,6 +1,8 @@
 -- What the blocks that the code has gathered keep out.
-use Rattle.std.specs.Prelude.{ℕ, List, Option, map}
-use Rattle.dep_atom.specs.Values.{atom_value}
+use Rattle.std.specs.Prelude.{◌≡◌, true, List, [], ◌∷◌, Option, map, ⊤}
+use Rattle.basics.specs.Members.{Has}
+use Rattle.dep_atom.specs.Match.{value_matches}
+use Rattle.dep_atom.specs.Values.{AtomValue, atom_value}
 use Rattle.pkg_state.specs.Package.{Package}
 use Rattle.plan_law.specs.Plans.{Group}
 use Rattle.plan_law.specs.Lives.{Life}
@@ -18,3 +20,14 @@ IsKept plan k y =
 -- the first package that is kept out, or none
 abbrev pub IsFirstKept : List Group → List Life → Keeping → Option Package → Type 0
 IsFirstKept plan xs k found = each xs (λ y. refuse (IsKept plan k y) y.package_is) found
+
+-- nothing that the block matches is kept out
+abbrev pub IsNameClear : List Group → List Life → Keeping → AtomValue → Type 0
+IsNameClear plan xs k a =
+    (y : Life) → Has xs y → value_matches a y.package_is.facts k.asker.now ≡ true →
+    ¬ IsKept plan k y
+
+-- nothing that one of these blocks matches is kept out
+abbrev pub AreClear : List Group → List Life → Keeping → List AtomValue → Type 0
+AreClear plan xs k [] = ⊤
+AreClear plan xs k (a ∷ atoms) = IsNameClear plan xs k a × AreClear plan xs k atoms

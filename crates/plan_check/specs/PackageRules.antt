@@ -1,5 +1,5 @@
 -- The rules of the check that are tried package by package, and the whole check.
-use Rattle.std.specs.Prelude.{◌≡◌, ◌⊎◌, ℕ, ◌+◌, Bool, true, false, List, Option, None, Some, filter, map}
+use Rattle.std.specs.Prelude.{◌≡◌, ℕ, ◌+◌, Bool, true, false, List, Option, filter, map}
 use Rattle.pms_names.specs.Flags.{has}
 use Rattle.dep_atom.specs.Values.{AtomValue}
 use Rattle.pkg_state.specs.Consistent.{blocks, facts_of, fits_required, is_met}

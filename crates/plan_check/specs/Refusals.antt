@@ -1,5 +1,5 @@
 -- Why a plan is not accepted, as plain data.
-use Rattle.std.specs.Prelude.{◌≡◌, ℕ, List, Option, None, Some, IfSome, MatchResult, Result}
+use Rattle.std.specs.Prelude.{ℕ, List, Option, None, Some, IfSome, MatchResult, Result}
 use Rattle.std.specs.Option.{option_map}
 use Rattle.dep_atom.specs.Values.{AtomValue, atom_value}
 use Rattle.dep_atom.specs.declared.package.PackageId.{PackageId}

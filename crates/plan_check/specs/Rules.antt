@@ -1,8 +1,6 @@
 -- The rules of the check, in the order in which they are tried.
-use Rattle.std.specs.Prelude.{◌≡◌, ◌⊎◌, ◌<◌, ℕ, ◌+◌, true, false, List, Option, None, Some}
-use Rattle.basics.specs.Members.{Has}
-use Rattle.pms_names.specs.Flags.{has}
-use Rattle.pkg_state.specs.Consistent.{AreApart, AreConsistent, fits_required}
+use Rattle.std.specs.Prelude.{◌≡◌, ◌⊎◌, ◌<◌, ℕ, ◌+◌, false, List, Option, None, Some}
+use Rattle.pkg_state.specs.Consistent.{AreApart, AreConsistent}
 use Rattle.pkg_state.specs.Fault as state
 use Rattle.pkg_state.specs.Package.{Package, line_of}
 use Rattle.plan_law.specs.Plans.{Group, Reaches, Removal, clears, group_at, removed_line}
@@ -10,7 +8,7 @@ use Rattle.plan_law.specs.Lives.{IsLife, Life, Meets, Moment, StandsBefore, comm
 use Rattle.plan_law.specs.Accepted.{Changes}
 use Rattle.plan_check.specs.Lives.{lives}
 use Rattle.plan_check.specs.Refusals.{Refusal, Refusal as refused}
-use Rattle.plan_check.specs.Verdicts.{both, demand, each, each_from, nothing, refuse}
+use Rattle.plan_check.specs.Verdicts.{demand, each, each_from, refuse}
 
 -- two groups change the line, and neither reaches the other
 pub record AreUnordered (plan : List Group) (line : List ℕ) (g h : ℕ) : Type 0 where

@@ -1,8 +1,9 @@
-ghost use Rattle.std.specs.Prelude.{◌≡◌, ◌↔◌, ◌<◌, IfOk, IsTrue, length, true};
+ghost use Rattle.std.specs.Prelude.{◌≡◌, ◌↔◌, ◌<◌, IfOk, IsTrue, length, map, true};
 ghost use Rattle.std.specs.Option.{option_map};
 ghost use Rattle.basics.specs.Members.{Has};
+ghost use Rattle.dep_atom.specs.Values.{atom_value};
 ghost use Rattle.plan_check.specs.Index.{IsIndex, all_lives, plan_of, start_of};
-ghost use Rattle.plan_check.specs.Kept.{IsFirstKept, IsKept};
+ghost use Rattle.plan_check.specs.Kept.{AreClear, IsFirstKept, IsKept, IsNameClear};
 ghost use Rattle.plan_check.specs.Keeping.{is_elsewhere};
 ghost use Rattle.plan_check.specs.Lives.{life_of};
 ghost use Rattle.plan_check.specs.PackageRules.{unbarred_of, unbarred_rule, unblocked_rule};
@@ -49,7 +50,8 @@ fn keeps_out(
     requires is { IsIndex index.now }
     requires within { IsStretchWithin (length (plan_of index.now)) (stretch_value keeping.now.stretch) }
     requires y { Has (all_lives index.now) (life_of y.now) }
-    ensures { IfOk result (λ out. IsTrue out ↔ IsKept (plan_of index.now) keeping.now (life_of y.now)) }
+    ensures { IfOk result (λ out. IsTrue out ↔
+        IsKept (plan_of index.now) keeping.now (life_of y.now)) }
 {
     let other = y.pkg;
     if !some_matches(&keeping.blocks, keeping.asker, other) {
@@ -61,6 +63,47 @@ fn keeps_out(
     is_elsewhere(alloc, &keeping.line, other)
 }
 
+/// Whether nothing of the block's name is kept out.
+fn name_is_clear(
+    alloc: Global,
+    index: &Index<'_>,
+    keeping: &Keeping<'_>,
+    atom: &Atom,
+) -> Result<bool, AllocError>
+    requires is { IsIndex index.now }
+    requires within { IsStretchWithin (length (plan_of index.now)) (stretch_value keeping.now.stretch) }
+    ensures { IfOk result (λ clear. IsTrue clear →
+        IsNameClear (plan_of index.now) (all_lives index.now) keeping.now (atom_value atom.now)) }
+{
+    for y in index.by_name.get(atom.name.package.text()) {
+        if keeps_out(alloc, index, keeping, y)? {
+            return Ok(false);
+        }
+    }
+    Ok(true)
+}
+
+/// Whether nothing is kept out: a quick test, by the names of the blocks.
+fn is_clear(
+    alloc: Global,
+    index: &Index<'_>,
+    keeping: &Keeping<'_>,
+    blocks: &[&Atom],
+) -> Result<bool, AllocError>
+    requires is { IsIndex index.now }
+    requires within { IsStretchWithin (length (plan_of index.now)) (stretch_value keeping.now.stretch) }
+    ensures { IfOk result (λ clear. IsTrue clear →
+        AreClear (plan_of index.now) (all_lives index.now) keeping.now
+        (map (λ atom. atom_value atom.now) blocks.now)) }
+{
+    for &atom in blocks {
+        if !name_is_clear(alloc, index, keeping, atom)? {
+            return Ok(false);
+        }
+    }
+    Ok(true)
+}
+
 /// The first package that is kept out, if one is.
 fn first_kept<'a>(
     alloc: Global,
@@ -69,7 +112,26 @@ fn first_kept<'a>(
 ) -> Result<Option<&'a Pkg>, AllocError>
     requires is { IsIndex index.now }
     requires within { IsStretchWithin (length (plan_of index.now)) (stretch_value keeping.now.stretch) }
-    ensures { IfOk result (λ found. IsFirstKept (plan_of index.now) (all_lives index.now) keeping.now
+    ensures { IfOk result (λ found.
+        IsFirstKept (plan_of index.now) (all_lives index.now) keeping.now
+        (option_map (λ p. p.now) found)) }
+{
+    if is_clear(alloc, index, keeping, &keeping.blocks)? {
+        return Ok(None);
+    }
+    first_of_all(alloc, index, keeping)
+}
+
+/// The same by a look at all packages, which is taken only where one is kept out.
+fn first_of_all<'a>(
+    alloc: Global,
+    index: &Index<'a>,
+    keeping: &Keeping<'_>,
+) -> Result<Option<&'a Pkg>, AllocError>
+    requires is { IsIndex index.now }
+    requires within { IsStretchWithin (length (plan_of index.now)) (stretch_value keeping.now.stretch) }
+    ensures { IfOk result (λ found.
+        IsFirstKept (plan_of index.now) (all_lives index.now) keeping.now
         (option_map (λ p. p.now) found)) }
 {
     for y in index.lives {

@@ -1,4 +1,4 @@
-use Rattle.std.proofs.Common.{◌≡◌, ◌+◌, ◌∙◌, Option, None, Some, ap, sym, subst}
+use Rattle.std.proofs.Common.{◌≡◌, ◌+◌, ◌∙◌, None, Some, ap, sym, subst}
 use Rattle.pkg_state.specs.Package.{Package}
 use Rattle.plan_check.specs.Index.{all_lives, plan_of, start_of}
 use Rattle.plan_check.specs.PackageRules.{unbarred_of}

@@ -1,5 +1,5 @@
-use Rattle.std.proofs.Common.{◌≡◌, ◌∙◌, Option, None, Some, ap, sym, subst, length}
-use Rattle.pkg_state.specs.Package.{Package, line_of}
+use Rattle.std.proofs.Common.{◌≡◌, ◌∙◌, None, Some, ap, sym, subst, length}
+use Rattle.pkg_state.specs.Package.{Package}
 use Rattle.plan_law.specs.Lives as law
 use Rattle.plan_check.specs.Index.{all_lives, plan_of, start_of}
 use Rattle.plan_check.specs.Lives.{life_of}

@@ -1,7 +1,7 @@
-use Rattle.std.proofs.Common.{◌≡◌, ◌∷◌, ◌++◌, ◌+◌, ◌∙◌, [], ap, subst, List, sym, length, arith, rules, refl}
-use Rattle.std.proofs.lemmas.List.{map-append, length-map}
+use Rattle.std.proofs.Common.{◌≡◌, ◌∷◌, ◌∙◌, [], ap, subst, List, length, arith, rules, refl}
+use Rattle.std.proofs.lemmas.List.{map-append}
 use Rattle.plan_law.specs.Lives.{Life, Moment, IsPast, Precedes}
-use Rattle.plan_check.specs.Chains.{AreParted, Arrives}
+use Rattle.plan_check.specs.Chains.{AreParted}
 use Rattle.plan_check.specs.Lives.{life_of, lives_of, moment_of}
 use Rattle.plan_check.specs.Stretches.{stretch_value}
 use Rattle.plan_check.proofs.Joining.{AreJoining, arrives_has, empty_is, has-last, joining_begun, joining_next, not_joined}

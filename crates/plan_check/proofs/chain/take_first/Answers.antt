@@ -1,8 +1,7 @@
-use Rattle.std.proofs.Common.{◌≡◌, ◌∷◌, ◌+◌, ◌∙◌, ◌++◌, [], List, drop, refl, inl, ap}
+use Rattle.std.proofs.Common.{◌≡◌, ◌∷◌, ◌+◌, ◌∙◌, ◌++◌, [], drop, refl, inl, ap}
 use Rattle.std.proofs.lemmas.List.{map-append}
-use Rattle.basics.specs.Members.{Has}
-use Rattle.plan_law.specs.Lives.{Moment, IsPast, Precedes}
-use Rattle.plan_check.specs.Lives.{life_of, lives_of, moment_of}
+use Rattle.plan_law.specs.Lives.{IsPast}
+use Rattle.plan_check.specs.Lives.{life_of, lives_of}
 use Rattle.plan_check.specs.Stretches.{stretch_value}
 use Rattle.plan_check.proofs.Joining.{begun, left_behind, moved}
 use Rattle.plan_check.proofs.Places.{at_drop}

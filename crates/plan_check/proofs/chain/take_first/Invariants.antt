@@ -1,7 +1,7 @@
 use Rattle.std.proofs.Common.{drop}
-use Rattle.plan_law.specs.Lives.{IsPast, Precedes}
+use Rattle.plan_law.specs.Lives.{IsPast}
 use Rattle.plan_check.specs.Chains.{AreParted}
-use Rattle.plan_check.specs.Lives.{lives_of, moment_of}
+use Rattle.plan_check.specs.Lives.{lives_of}
 use Rattle.plan_check.specs.Stretches.{stretch_value}
 use Rattle.plan_check.proofs.chain.take_first.Given as goal
 

@@ -1,4 +1,4 @@
-use Rattle.std.proofs.Common.{◌≡◌, ◌∙◌, ◌↔◌, ap, subst, length, List, map, IfOk, IsTrue}
+use Rattle.std.proofs.Common.{◌≡◌, ◌∙◌, ◌↔◌, ap, subst, List, map, IfOk, IsTrue}
 use Rattle.dep_atom.specs.Values.{atom_value}
 use Rattle.basics.specs.Members.{Has}
 use Rattle.plan_law.specs.Lives as law
@@ -6,7 +6,7 @@ use Rattle.plan_check.specs.Chains.{AreJoined}
 use Rattle.plan_check.specs.Gathered.{gathered}
 use Rattle.plan_check.specs.Index.{all_lives, plan_of, start_of}
 use Rattle.plan_check.specs.Lives.{lives_of}
-use Rattle.plan_check.specs.Stretches.{AreWithin, stretch_value}
+use Rattle.plan_check.specs.Stretches.{stretch_value}
 use Rattle.plan_check.proofs.Serving.{gathered_in, joined_chained, ok_iff}
 use Rattle.plan_check.proofs.Within.{lives_within}
 use Rattle.plan_check.proofs.chains.is_chained.Goals as goal

@@ -1,9 +1,3 @@
-use Rattle.std.proofs.Common.{Option, None}
-use Rattle.std.specs.Prelude.{Result, Ok, Err, OnOk}
-use Rattle.plan_law.specs.Accepted.{IsAccepted}
-use Rattle.plan_check.specs.PackageRules.{plan_rule}
-use Rattle.plan_check.specs.Refusals.{Says}
-use Rattle.plan_check.specs.declared.refusal.PlanRefused.{PlanRefused}
 use Rattle.plan_check.proofs.Clear.{fine, passed, refused_told, sound_if}
 use Rattle.plan_check.proofs.checking.check.Goals as goal
 

@@ -1,8 +1,6 @@
-use Rattle.std.proofs.Common.{◌≡◌, ap}
 use Rattle.std.proofs.lemmas.Result.{err_from_is_err_and}
 use Rattle.plan_check.specs.Index.{all_lives, plan_of, start_of}
-use Rattle.plan_check.specs.Lives.{life_of}
-use Rattle.plan_check.specs.PackageRules.{built_rule, finished_rule, lasting_rule, package_rule, required_rule, unbarred_rule, unblocked_rule}
+use Rattle.plan_check.specs.PackageRules.{package_rule}
 use Rattle.plan_check.specs.Rules.{line_rule, opening_rule, present_rule, single_rule, vacant_rule, versions_rule}
 use Rattle.plan_check.specs.Verdicts.{both, each}
 use Rattle.plan_check.proofs.Told.{tells_first, tells_later}

@@ -1,4 +1,4 @@
-use Rattle.std.proofs.Common.{◌<◌, List, Option, Some, subst, length, arith}
+use Rattle.std.proofs.Common.{List, Some, subst, arith}
 use Rattle.std.proofs.lemmas.Result.{err_from_is_err_and}
 use Rattle.basics.specs.Members.{Has}
 use Rattle.plan_law.specs.Lives as law

@@ -1,4 +1,4 @@
-use Rattle.std.proofs.Common.{◌≡◌, ◌∙◌, ◌↔◌, ◌⊎◌, List, ℕ, Some, subst, IfOk, IsTrue, ap, sym, map, true, false}
+use Rattle.std.proofs.Common.{◌≡◌, ◌∙◌, ◌↔◌, List, ℕ, Some, subst, IfOk, IsTrue, ap, sym, map}
 use Rattle.dep_atom.specs.Values.{AtomValue, atom_value}
 use Rattle.dep_tree.specs.View.{trees_view, view}
 use Rattle.pms_names.specs.Flags.{has}

@@ -1,4 +1,4 @@
-use Rattle.std.proofs.Common.{◌≡◌, ◌<◌, ◌≤◌, ◌∙◌, ◌↔◌, ◌⊎◌, List, Option, None, Some, ap, sym, subst, refl, rules, map, inl, inr, true, false, drop, length, arith}
+use Rattle.std.proofs.Common.{◌∙◌, None, sym, refl, rules, inl, inr, arith}
 use Rattle.std.specs.Option.{option_map}
 use Rattle.dep_atom.specs.Values.{atom_value}
 use Rattle.plan_check.proofs.Judged.{drop_end, ok_more, trees_at}

@@ -1,4 +1,4 @@
-use Rattle.std.proofs.Common.{◌≡◌, ◌∙◌, false, sym}
+use Rattle.std.proofs.Common.{◌∙◌, sym}
 use Rattle.plan_check.proofs.Serving.{ok_iff}
 use Rattle.plan_check.proofs.firm.is_leaf_firm.Goals as goal
 

@@ -1,7 +1,6 @@
 use Rattle.std.proofs.Common.{◌≡◌, ◌++◌, drop, filter, map}
 use Rattle.dep_atom.specs.Values.{atom_value}
 use Rattle.dep_tree.specs.Grammar.{is_block}
-use Rattle.plan_law.specs.Sound.{is_strong_block}
 use Rattle.plan_check.proofs.keeping.add_blocks.Given as goal
 
 abbrev pub invariant-loop-atom : goal.invariant-loop-atom

@@ -1,6 +1,5 @@
 use Rattle.std.proofs.Common.{◌≡◌, ◌++◌, drop, filter, map}
 use Rattle.dep_atom.specs.Values.{atom_value}
-use Rattle.dep_tree.specs.Grammar.{is_block}
 use Rattle.plan_law.specs.Sound.{is_strong_block}
 use Rattle.plan_check.proofs.keeping.add_strong_blocks.Given as goal
 

@@ -1,4 +1,4 @@
-use Rattle.std.proofs.Common.{◌≡◌, ◌∙◌, ℕ, List, Option, IfOk, ap, sym, subst}
+use Rattle.std.proofs.Common.{◌≡◌, ◌∙◌, ℕ, List, ap, sym, subst}
 use Rattle.std.specs.Option.{option_map}
 use Rattle.dep_atom.specs.Values.{AtomValue, atom_value}
 use Rattle.dep_group.specs.Trees.{Trees}

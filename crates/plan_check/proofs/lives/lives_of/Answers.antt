@@ -1,4 +1,4 @@
-use Rattle.std.proofs.Common.{◌≡◌, ◌≤◌, ◌<◌, ◌+◌, ◌-◌, ◌∷◌, ◌++◌, ◌↔◌, ◌∙◌, ℕ, Bool, cond, List, Some, ap, sym, subst, arith, drop, length, bytes_eq, get_or, reverse, map}
+use Rattle.std.proofs.Common.{◌≡◌, ◌≤◌, ◌+◌, ◌-◌, ◌∷◌, ◌++◌, ◌↔◌, ◌∙◌, ℕ, cond, List, Some, ap, sym, subst, arith, drop, length, bytes_eq, get_or, reverse, map}
 use Rattle.std.specs.List.{list_any}
 use Rattle.basics.specs.Members.{Has}
 use Rattle.pkg_state.specs.Package.{Package}

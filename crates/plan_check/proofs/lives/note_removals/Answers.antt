@@ -1,6 +1,5 @@
-use Rattle.std.proofs.Common.{◌∙◌, ap, arith, sym}
-use Rattle.pkg_state.specs.Package.{line_text}
-use Rattle.plan_law.specs.Plans.{Removal, removed_line}
+use Rattle.std.proofs.Common.{◌∙◌, ap, arith}
+use Rattle.plan_law.specs.Plans.{removed_line}
 use Rattle.plan_check.proofs.Backwards.{noted_more}
 use Rattle.plan_check.proofs.lives.note_removals.Goals as goal
 

@@ -1,5 +1,4 @@
-use denote.Ref.{Bor}
-use Rattle.std.proofs.Common.{◌≡◌, ◌<◌, ◌≤◌, ◌+◌, ◌∙◌, ◌∷◌, ◌++◌, ℕ, List, [], Option, None, Some, Bool, cond, bytes_eq, map, take, get_or, length, ap, sym, subst, refl, arith, rules, true, false, zero, suc}
+use Rattle.std.proofs.Common.{◌≡◌, ◌<◌, ◌+◌, ◌∙◌, ◌∷◌, ◌++◌, ℕ, List, [], Option, None, Some, map, take, get_or, length, ap, sym, subst, refl, arith, rules, zero, suc}
 use Rattle.std.specs.BTreeMap.{get_by}
 use Rattle.std.specs.Cmp.Lexicographic.{slice_cmp}
 use Rattle.std.specs.Ordering.{nat_cmp}
@@ -9,7 +8,7 @@ use Rattle.plan_law.specs.Plans.{Group, Reaches}
 use Rattle.plan_check.specs.Changes.{change_of, changes_from}
 use Rattle.plan_check.specs.Refusals.{Refusal as refused}
 use Rattle.plan_check.specs.declared.change.Change.{Change}
-use Rattle.plan_check.proofs.Ordered.{AreGone, Changed, all_ordered, earlier_is_there, gone_more, none_gone, this_is_there, unordered}
+use Rattle.plan_check.proofs.Ordered.{AreGone, Changed, all_ordered, earlier_is_there, gone_more, this_is_there, unordered}
 use Rattle.plan_check.proofs.order.judge_lines.Goals as goal
 use Rattle.plan_check.proofs.order.judge_lines.Goals.{in-Some+else-not-reaches, in_default}
 

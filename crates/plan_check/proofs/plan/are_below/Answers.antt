@@ -1,4 +1,4 @@
-use Rattle.std.proofs.Common.{◌<◌, ◌≤◌, get_or, arith}
+use Rattle.std.proofs.Common.{get_or, arith}
 use Rattle.plan_check.proofs.Places.{place_has}
 use Rattle.plan_check.proofs.plan.are_below.Goals as goal
 

@@ -1,6 +1,6 @@
 use Rattle.std.proofs.Common.{◌≡◌, ◌∙◌, true, List, ℕ, ap, sym, subst, arith}
 use Rattle.basics.specs.Members.{Has}
-use Rattle.plan_law.specs.Plans.{Group, group_at}
+use Rattle.plan_law.specs.Plans.{Group}
 use Rattle.plan_check.proofs.Places.{group_is}
 use Rattle.plan_check.proofs.plan.waits_for_earlier.Goals as goal
 

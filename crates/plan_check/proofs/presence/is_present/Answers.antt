@@ -1,7 +1,6 @@
-use Rattle.std.proofs.Common.{◌≡◌, ◌<◌, ◌≤◌, ◌∙◌, ℕ, List, ap, sym, subst, refl, true, length, arith}
+use Rattle.std.proofs.Common.{◌≡◌, ◌∙◌, List, ap, sym, subst, refl, arith}
 use Rattle.std.proofs.lemmas.List.{take_all}
 use Rattle.basics.specs.Members.{Has}
-use Rattle.plan_law.specs.Lives as law
 use Rattle.plan_law.specs.Plans.{removed_line}
 use Rattle.plan_check.specs.Index.{all_lives, line_key, plan_of, start_of}
 use Rattle.plan_check.specs.Lives.{life_of, lives_of}

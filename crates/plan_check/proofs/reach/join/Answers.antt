@@ -1,4 +1,4 @@
-use Rattle.std.proofs.Common.{◌≡◌, ◌≤◌, ◌<◌, arith, length}
+use Rattle.std.proofs.Common.{arith}
 use Rattle.plan_check.proofs.Bits.{joined_bits}
 use Rattle.plan_check.proofs.reach.join.Goals as goal
 

@@ -1,4 +1,4 @@
-use Rattle.std.proofs.Common.{◌≡◌, ◌∷◌, ◌∙◌, ◌+◌, ◌<◌, ◌||◌, ℕ, List, [], length, map, get_or, drop, ap, sym, subst, nat_eq, arith, drop-cons, add-one}
+use Rattle.std.proofs.Common.{◌∷◌, ◌∙◌, ◌+◌, ◌||◌, length, map, get_or, drop, ap, sym, drop-cons, add-one}
 use Rattle.plan_check.specs.Reaching.{has_bit}
 use Rattle.plan_check.specs.Reaching.{some_row}
 use Rattle.plan_check.proofs.Places.{row_at}

@@ -3,7 +3,7 @@ use Rattle.std.proofs.lemmas.List.{length-map, map-append}
 use Rattle.basics.specs.Members.{Has}
 use Rattle.plan_law.specs.Plans.{Group, Reaches, group_at}
 use Rattle.plan_check.specs.Reaching.{has_bit, some_row}
-use Rattle.plan_check.proofs.Places.{group_is, place_has, has_place}
+use Rattle.plan_check.proofs.Places.{group_is, place_has}
 use Rattle.plan_check.proofs.RowBits.{row_right, rows_pushed}
 use Rattle.plan_check.proofs.reach.rows_of.Goals as goal
 

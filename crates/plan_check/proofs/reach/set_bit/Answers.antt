@@ -1,4 +1,4 @@
-use Rattle.std.proofs.Common.{◌∙◌, ◌/◌, ◌<◌, arith}
+use Rattle.std.proofs.Common.{◌∙◌, ◌/◌, arith}
 use Rattle.std.proofs.lemmas.Grind.{get_or_default_zero}
 use Rattle.plan_check.proofs.Bits.{set_bits}
 use Rattle.plan_check.proofs.reach.set_bit.Goals as goal

@@ -1,4 +1,4 @@
-use Rattle.std.proofs.Common.{◌≡◌, ◌∙◌, true, ap, arith, rules, sym}
+use Rattle.std.proofs.Common.{◌≡◌, ap, rules}
 use Rattle.dep_atom.specs.declared.package.PackageId.{PackageId}
 use Rattle.plan_check.proofs.standing.same_id.Goals as goal
 

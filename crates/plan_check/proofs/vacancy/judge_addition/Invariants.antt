@@ -1,6 +1,6 @@
 use Rattle.std.proofs.Common.{◌+◌, drop}
 use Rattle.plan_law.specs.Plans.{group_at}
-use Rattle.plan_check.specs.Index.{plan_of, start_of}
+use Rattle.plan_check.specs.Index.{plan_of}
 use Rattle.plan_check.specs.Lives.{lives_of}
 use Rattle.plan_check.specs.Refusals.{Refusal as refused}
 use Rattle.plan_check.specs.Rules.{Crowds}

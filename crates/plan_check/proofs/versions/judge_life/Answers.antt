@@ -1,4 +1,4 @@
-use Rattle.std.proofs.Common.{◌≡◌, ◌<◌, ◌≤◌, ◌∙◌, ℕ, List, Option, None, Some, ap, sym, subst, true, false, length, arith}
+use Rattle.std.proofs.Common.{◌≡◌, ◌∙◌, Option, None, Some, ap, length, arith}
 use Rattle.dep_atom.specs.declared.package.PackageId.{PackageId}
 use Rattle.pkg_state.specs.Package.{Package}
 use Rattle.plan_law.specs.Lives as law

@@ -1,4 +1,4 @@
-use Rattle.std.proofs.Common.{List, subst, length, arith, ◌<◌}
+use Rattle.std.proofs.Common.{List, subst, arith}
 use Rattle.basics.specs.Members.{Has}
 use Rattle.plan_law.specs.Lives as law
 use Rattle.plan_check.specs.Lives.{life_of}

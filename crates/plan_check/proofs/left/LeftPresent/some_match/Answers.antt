@@ -1,4 +1,3 @@
-use denote.Ref.{Bor}
 use Rattle.std.proofs.Common.{◌≡◌, ◌∙◌, true, arith, sym, ap, map}
 use Rattle.dep_atom.specs.Match.{value_matches}
 use Rattle.dep_atom.specs.Values.{atom_value}

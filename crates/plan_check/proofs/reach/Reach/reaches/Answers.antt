@@ -1,4 +1,4 @@
-use Rattle.std.proofs.Common.{◌≡◌, ◌<◌, ◌≤◌, ◌*◌, ◌∙◌, ◌↔◌, IsTrue, ℕ, List, [], Bool, true, length, map, get_or, ap, sym, subst, arith}
+use Rattle.std.proofs.Common.{◌≡◌, ◌∙◌, ◌↔◌, IsTrue, [], Bool, length, map, get_or, ap, sym, subst, arith}
 use Rattle.std.proofs.lemmas.List.{get_or-map, length-map}
 use Rattle.plan_law.specs.Plans.{Reaches}
 use Rattle.plan_check.specs.Reaching.{has_bit}
