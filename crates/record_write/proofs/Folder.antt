@@ -1,0 +1,164 @@
+-- A folder of the files that are written of a package says the package.
+use Rattle.std.proofs.Common.{◌≡◌, ◌∙◌, ◌++◌, ◌||◌, ℕ, Bool, true, false, List, [], ◌∷◌, Option, Some, None, inl, inr, refl, ap, map, subst, sym}
+use Rattle.std.specs.Prelude.{IsSome, bytes_eq, if◌then◌else◌, unwrap_or}
+use Rattle.std.specs.List.{AllByRecursion, flat_map}
+use Rattle.std.proofs.lemmas.Bool.{cases_Bool}
+use Rattle.std.proofs.lemmas.List.Sorted.{IsPermutation-sym}
+use Rattle.std.proofs.lemmas.Slice.Eq.{bytes_eq-Decides}
+use Rattle.basics.specs.Members.{AreDistinct, Has}
+use Rattle.basics.proofs.Membership.{has-append_cases}
+use Rattle.basics.proofs.Texts.{bytes_eq-apart, bytes_eq-same}
+use Rattle.pms_names.specs.Flags.{IsRising}
+use Rattle.dep_atom.specs.declared.package.PackageId.{PackageId}
+use Rattle.file_tree.specs.Thing.{Thing, plain}
+use Rattle.file_tree.specs.declared.objects.Entry.{Entry}
+use Rattle.pkg_state.specs.Package.{tree_of}
+use Rattle.pkg_state.specs.declared.class.Class.TheVariants.{Bdepend, Depend, Idepend, Pdepend, Rdepend}
+use Rattle.vdb_text.specs.Files.{record_file, record_path}
+use Rattle.vdb_text.proofs.Packages.{record_names_differ}
+use Rattle.contents_text.specs.Contents.{ContentsAreReadBack, IsOwnable}
+use Rattle.contents_text.specs.declared.owned.Owned.{Owned}
+use Rattle.database_law.specs.Database.{IsOf}
+use Rattle.database_law.specs.Fields.{Field, Reads, Says, contents, eapi, field_text, flags, is_needed, known, name_of, needs, required, slots, text_of}
+use Rattle.database_law.specs.Packages.{Installed, id_of, paths}
+use Rattle.record_write.specs.Written.{AreFolderFiles, AreInOrder, fields, file_if_written, folder_files, has_bytes, installed_with, is_written, value_of}
+use Rattle.record_write.specs.Recorded.{FilesAreInTheFolder, IsRecordable, RecordsAreReadBack, SortedRecordsAreReadBack, folder_of, held_by}
+use Rattle.record_write.proofs.Order.{already_sorted, distinct_moved, moved, rising_distinct}
+use Rattle.record_write.proofs.Words.{flags_said, known_said, needs_said, required_said, slots_said}
+
+same_name : (id : PackageId) (a b : List ℕ) → bytes_eq (record_path id a) (record_path id b) ≡ bytes_eq a b
+same_name id a b = elim (cases_Bool (bytes_eq a b)) [
+  | inl e ↦ (ap (λ (x : List ℕ). bytes_eq (record_path id x) (record_path id b)) ((bytes_eq-Decides a b).0 e) ∙ bytes_eq-same (record_path id b) ∙ sym e)
+  | inr e ↦ (bytes_eq-apart (record_path id a) (record_path id b) (λ same. cc ((bytes_eq-Decides a b).1 (record_names_differ id a b same), e)) ∙ sym e)
+]
+
+-- a file that is written, or not
+abbrev text_if : Bool → List ℕ → Option Thing
+text_if b text = if b then Some (plain text) else None
+
+-- what the text of a file is, where it is written if it has bytes
+text_held : (needed : Bool) (text : List ℕ) → unwrap_or (text_of (text_if (needed || has_bytes text) text)) [] ≡ text
+text_held true text = refl
+text_held false [] = refl
+text_held false (b ∷ bs) = refl
+
+text_there : (needed : Bool) (text : List ℕ) → needed ≡ true → IsSome (text_of (text_if (needed || has_bytes text) text))
+text_there true text e = refl
+text_there false text e = absurd (cc e)
+
+either_way : (b : Bool) (x : Option Thing) → (if b then x else x) ≡ x
+either_way true x = refl
+either_way false x = refl
+
+module _ (p : Installed) where
+  abbrev here : List ℕ → Option Thing
+  here name = folder_of p (folder_files p) name
+
+  -- what the files of these fields hold under a name
+  abbrev held_in : List Field → List ℕ → Option Thing
+  held_in [] name = None
+  held_in (k ∷ ks) name =
+      if bytes_eq name (name_of k) then (if is_written k p then Some (plain (value_of k p)) else held_in ks name) else held_in ks name
+
+  held_first : (b : Bool) (k : Field) (rest : List Entry) (name : List ℕ) → held_by ((if b then record_file (id_of p) (name_of k) (value_of k p) ∷ [] else []) ++ rest) (record_path (id_of p) name)
+      ≡ (if bytes_eq name (name_of k) then (if b then Some (plain (value_of k p)) else held_by rest (record_path (id_of p) name)) else held_by rest (record_path (id_of p) name))
+  held_first true k rest name =
+      ap (λ (same : Bool). if same then Some (plain (value_of k p)) else held_by rest (record_path (id_of p) name)) (same_name (id_of p) name (name_of k))
+  held_first false k rest name = sym (either_way (bytes_eq name (name_of k)) (held_by rest (record_path (id_of p) name)))
+
+  held_is : (ks : List Field) (name : List ℕ) → held_by (flat_map (file_if_written p) ks) (record_path (id_of p) name) ≡ held_in ks name
+  held_is [] name = refl
+  held_is (k ∷ ks) name =
+      held_first (is_written k p) k (flat_map (file_if_written p) ks) name
+      ∙ ap (λ (x : Option Thing). if bytes_eq name (name_of k) then (if is_written k p then Some (plain (value_of k p)) else x) else x) (held_is ks name)
+
+  held_field : (k : Field) → held_in fields (name_of k) ≡ text_if (is_written k p) (value_of k p)
+  held_field contents = refl
+  held_field eapi = refl
+  held_field slots = refl
+  held_field flags = refl
+  held_field known = refl
+  held_field required = refl
+  held_field (needs Rdepend) = refl
+  held_field (needs Pdepend) = refl
+  held_field (needs Depend) = refl
+  held_field (needs Bdepend) = refl
+  held_field (needs Idepend) = refl
+
+  here_is : (k : Field) → here (name_of k) ≡ text_if (is_written k p) (value_of k p)
+  here_is k = held_is fields (name_of k) ∙ held_field k
+
+  text_is : (k : Field) → field_text (folder_of p (folder_files p)) k ≡ value_of k p
+  text_is k = ap (λ (x : Option Thing). unwrap_or (text_of x) []) (here_is k) ∙ text_held (is_needed k) (value_of k p)
+
+  there : (k : Field) → is_needed k ≡ true → IsSome (text_of (here (name_of k)))
+  there k needed = subst (λ (x : Option Thing). IsSome (text_of x)) (sym (here_is k)) (text_there (is_needed k) (value_of k p) needed)
+
+  reads : ContentsAreReadBack → IsRecordable p → AreDistinct (paths p) → (k : Field) → Reads k (value_of k p) p
+  reads back is once contents = back p.owned is.owned once
+  reads back is once eapi = refl
+  reads back is once slots = slots_said p.package_is.facts.slot p.package_is.facts.subslot is.named.slot is.named.subslot
+  reads back is once flags = flags_said p.package_is.facts.enabled is.named.enabled
+  reads back is once known = known_said p.package_is.facts.iuse is.named.known
+  reads back is once required = required_said p.package_is.required is.required
+  reads back is once (needs class) = (
+    tree_of class p.package_is,
+    needs_said (tree_of class p.package_is) (is.needs class).form,
+    sym (is.needs class).bound,
+  )
+
+  says : ContentsAreReadBack → IsRecordable p → AreDistinct (paths p) → Says (folder_of p (folder_files p)) p
+  says back is once = record {
+    there = there;
+    reads = λ k. subst (λ (text : List ℕ). Reads k text p) (sym (text_is k)) (reads back is once k);
+  }
+
+  -- each file is in the package's folder
+  in_folder : (b : Bool) (k : Field) (e : Entry) → Has (if b then record_file (id_of p) (name_of k) (value_of k p) ∷ [] else []) e → IsOf (id_of p) e.path
+  in_folder true k e (inl same) = subst (λ (x : Entry). IsOf (id_of p) x.path) same (name_of k, refl)
+  in_folder true k e (inr none) = absurd none
+  in_folder false k e has = absurd has
+
+  inside : (ks : List Field) (e : Entry) → Has (flat_map (file_if_written p) ks) e → IsOf (id_of p) e.path
+  inside [] e has = absurd has
+  inside (k ∷ ks) e has = elim (has-append_cases (file_if_written p k) (flat_map (file_if_written p) ks) e has) [
+    | inl first ↦ in_folder (is_written k p) k e first
+    | inr more ↦ inside ks e more
+  ]
+
+-- ---- paths that are put in order
+
+all_has : {A : Type 0} (P : A → Type 0) (xs : List A) (x : A) → AllByRecursion P xs → Has xs x → P x
+all_has P [] x all has = absurd has
+all_has P (y ∷ ys) x all (inl e) = subst P e all.0
+all_has P (y ∷ ys) x all (inr has) = all_has P ys x all.1 has
+
+all_by_has : {A : Type 0} (P : A → Type 0) (xs : List A) → ((x : A) → Has xs x → P x) → AllByRecursion P xs
+all_by_has P [] each = tt
+all_by_has P (x ∷ xs) each = (each x (inl refl), all_by_has P xs (λ y has. each y (inr has)))
+
+recordable : (p : Installed) (sorted : List Owned) → AreInOrder p.owned sorted → IsRecordable p → IsRecordable (installed_with p.package_is sorted)
+recordable p sorted order is = record {
+  named = is.named;
+  needs = is.needs;
+  required = is.required;
+  owned = all_by_has IsOwnable sorted (λ o has. all_has IsOwnable p.owned o is.owned (moved sorted p.owned o (IsPermutation-sym p.owned sorted order.all) has));
+}
+
+pub sorted_read_back : ContentsAreReadBack → SortedRecordsAreReadBack
+sorted_read_back back p es is once files =
+    let sorted = files.0 in
+    let q = installed_with p.package_is sorted in (
+      sorted,
+      files.1,
+      subst (λ (l : List Entry). Says (folder_of p l) q) (sym files.2) (says q back (recordable p sorted files.1 is) (distinct_moved p.owned sorted files.1.all once)),
+    )
+
+pub read_back : ContentsAreReadBack → RecordsAreReadBack
+read_back back p es is up files =
+    let found = sorted_read_back back p es is (rising_distinct p.owned up) files in
+    subst (λ (owned : List Owned). Says (folder_of p es) (installed_with p.package_is owned)) (already_sorted p.owned found.0 up found.1) found.2
+
+pub files_inside : FilesAreInTheFolder
+files_inside p es e files has =
+    inside (installed_with p.package_is files.0) fields e (subst (λ (l : List Entry). Has l e) files.2 has)

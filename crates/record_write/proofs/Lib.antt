@@ -1,0 +1,3 @@
+pub mod Words
+pub mod Order
+pub mod Folder

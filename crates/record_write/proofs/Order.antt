@@ -1,0 +1,153 @@
+-- Owned paths that are put in byte order.
+use Rattle.std.proofs.Common.{◌≡◌, ◌∙◌, ◌+◌, ◌<◌, ◌≤◌, ℕ, zero, suc, arith, false, true, is_lt, List, [], ◌∷◌, inl, inr, refl, ap, get_or, length, map, subst, sym}
+use Rattle.std.specs.Borrow.{Bor}
+use Rattle.std.specs.Prelude.{bytes_eq}
+use Rattle.std.specs.List.{AllByRecursion, IsDistinct}
+use Rattle.std.specs.List.Sorted.{IsPermutation, IsSortedBy, IsSortedByKey, IsStrictlySortedBy}
+use Rattle.std.specs.Ordering.{is_eq, nat_cmp, ordering_reverse}
+use Rattle.std.specs.declared.cmp.Ordering.{Ordering}
+use Rattle.std.specs.declared.cmp.Ordering.TheVariants.{Equal, Greater, Less}
+use Rattle.std.proofs.lemmas.Cmp.{nat_list_cmp_total}
+use Rattle.std.proofs.lemmas.List.{length-map}
+use Rattle.std.proofs.lemmas.List.Sorted.{Contains-permutation, IsPermutation-map, IsPermutation-sym, ranks_by, sorted_far}
+use Rattle.std.proofs.lemmas.Map.Keys.{IsDistinct-IsPermutation}
+use Rattle.std.proofs.lemmas.Map.Text.{is_eq-slice_cmp}
+use Rattle.std.proofs.lemmas.Slice.Eq.{bytes_eq-Decides}
+use Rattle.basics.specs.Members.{AreDistinct, Has}
+use Rattle.basics.proofs.Membership.{contains-from_has, has-from_contains, has-map}
+use Rattle.basics.proofs.Texts.{bytes_eq-apart, bytes_eq-swap}
+use Rattle.pms_names.specs.Flags.{IsRising, byte_order}
+use Rattle.contents_text.specs.Contents.{path_of}
+use Rattle.contents_text.specs.declared.owned.Owned.{Owned}
+use Rattle.database_law.proofs.Places.{not_less}
+use Rattle.record_write.specs.Written.{AreInOrder}
+
+-- ---- sorted by reference
+
+abbrev pub owned_at : Bor Owned → Owned
+owned_at o = o.now
+
+read_through : (xs : List (Bor Owned)) (k : ℕ) (d : Owned) (x : Bor Owned) → k < length xs → get_or (map owned_at xs) k d ≡ owned_at (get_or xs k x)
+read_through [] k d x lt = absurd (omega (arith, lt))
+read_through (y ∷ ys) zero d x lt = refl
+read_through (y ∷ ys) (suc k) d x lt = read_through ys k d x (omega (arith, lt))
+
+-- paths whose references ascend
+pub rising_through : (xs : List (Bor Owned)) → IsSortedBy (λ a b. is_lt (byte_order (path_of (owned_at a)) (path_of (owned_at b)))) xs → IsSortedByKey path_of byte_order (map owned_at xs)
+rising_through [] sorted k d low lt = absurd (omega (arith, lt))
+rising_through (x ∷ xs) sorted k d low lt =
+    let within : k + 1 < length (x ∷ xs) = omega (arith, lt, length-map xs owned_at) in
+    let here = read_through (x ∷ xs) k d x (omega (arith, within)) in
+    let next = read_through (x ∷ xs) (k + 1) d x within in
+    subst (λ (o : Owned). is_lt (byte_order (path_of o) (path_of (get_or (map owned_at (x ∷ xs)) k d))) ≡ false) (sym next)
+    (subst (λ (o : Owned). is_lt (byte_order (path_of (owned_at (get_or (x ∷ xs) (k + 1) x))) (path_of o)) ≡ false) (sym here) (sorted k x low within))
+
+-- ---- the same members
+
+pub moved : {A : Type 0} (xs ys : List A) (x : A) → IsPermutation xs ys → Has xs x → Has ys x
+moved xs ys x perm has = has-from_contains ys x (Contains-permutation xs ys x perm (contains-from_has xs x has))
+
+others_differ : (x : List ℕ) (xs : List (List ℕ)) → (Has xs x → ⊥) → AllByRecursion (λ y. bytes_eq x y ≡ false) xs
+others_differ x [] none = tt
+others_differ x (y ∷ ys) none = (bytes_eq-apart x y (λ e. none (inl (sym e))), others_differ x ys (λ has. none (inr has)))
+
+all_differ : (xs : List (List ℕ)) → AreDistinct xs → IsDistinct bytes_eq xs
+unfolding IsDistinct
+all_differ [] d = tt
+all_differ (x ∷ xs) d = (others_differ x xs d.0, all_differ xs d.1)
+
+none_same : (x : List ℕ) (xs : List (List ℕ)) → AllByRecursion (λ y. bytes_eq x y ≡ false) xs → Has xs x → ⊥
+none_same x [] all has = absurd has
+none_same x (y ∷ ys) all (inl e) = cc ((bytes_eq-Decides x y).1 (sym e), all.0)
+none_same x (y ∷ ys) all (inr has) = none_same x ys all.1 has
+
+distinct_if : (xs : List (List ℕ)) → IsDistinct bytes_eq xs → AreDistinct xs
+unfolding IsDistinct
+distinct_if [] d = tt
+distinct_if (x ∷ xs) d = (none_same x xs d.0, distinct_if xs d.1)
+
+pub distinct_moved : (xs ys : List Owned) → IsPermutation xs ys → AreDistinct (map path_of xs) → AreDistinct (map path_of ys)
+distinct_moved xs ys perm d =
+    distinct_if (map path_of ys) (IsDistinct-IsPermutation bytes_eq bytes_eq-swap (map path_of xs) (map path_of ys) (IsPermutation-map path_of xs ys perm) (all_differ (map path_of xs) d))
+
+-- ---- distinct paths that ascend rise
+
+-- no path is below an earlier one
+abbrev Ascends : List Owned → Type 0
+Ascends xs = (i j : ℕ) (d : Owned) → i ≤ j → j < length xs → is_lt (byte_order (path_of (get_or xs j d)) (path_of (get_or xs i d))) ≡ false
+
+strictly : (p q : List ℕ) → is_lt (byte_order q p) ≡ false → (p ≡ q → ⊥) → byte_order p q ≡ Less
+strictly p q above apart = go (byte_order p q) refl
+  where
+    go : (o : Ordering) → byte_order p q ≡ o → byte_order p q ≡ Less
+    go Less e = e
+    go Equal e = absurd (apart ((bytes_eq-Decides p q).0 (sym (is_eq-slice_cmp p q) ∙ ap is_eq e)))
+    go Greater e =
+        let back : byte_order q p ≡ Less = nat_list_cmp_total.antisymm q p ∙ ap ordering_reverse e in
+        absurd (cc (ap is_lt back, above))
+
+first_least : (x : Owned) (xs : List Owned) → ((k : ℕ) (d : Owned) → k < length xs → is_lt (byte_order (path_of (get_or xs k d)) (path_of x)) ≡ false) → (Has (map path_of xs) (path_of x) → ⊥)
+    → AllByRecursion (λ z. byte_order (path_of x) z ≡ Less) (map path_of xs)
+first_least x [] above none = tt
+first_least x (o ∷ os) above none = (
+  strictly (path_of x) (path_of o) (above 0 o (omega arith)) (λ e. none (inl (sym e))),
+  first_least x os (λ k d lt. above (suc k) d (omega (arith, lt))) (λ has. none (inr has)),
+)
+
+rising_if : (xs : List Owned) → Ascends xs → AreDistinct (map path_of xs) → IsRising (map path_of xs)
+unfolding IsStrictlySortedBy
+rising_if [] up d = tt
+rising_if (x ∷ xs) up d = (
+  first_least x xs (λ k e lt. up 0 (suc k) e (omega arith) (omega (arith, lt))) d.0,
+  rising_if xs (λ i j e le lt. up (suc i) (suc j) e (omega (arith, le)) (omega (arith, lt))) d.1,
+)
+
+-- ---- one order
+
+later : (x : List ℕ) (xs : List Owned) (o : Owned) → AllByRecursion (λ z. byte_order x z ≡ Less) (map path_of xs) → Has xs o → byte_order x (path_of o) ≡ Less
+later x [] o all has = absurd has
+later x (y ∷ ys) o all (inl e) = subst (λ (z : Owned). byte_order x (path_of z) ≡ Less) e all.0
+later x (y ∷ ys) o all (inr has) = later x ys o all.1 has
+
+not_both_less : (x y : List ℕ) → byte_order x y ≡ Less → byte_order y x ≡ Less → ⊥
+not_both_less x y a b = let e : Less ≡ Greater = sym a ∙ (nat_list_cmp_total.antisymm x y ∙ ap ordering_reverse b) in cc
+
+-- two rising lists with the same members are one
+one_order : (xs ys : List Owned) → IsRising (map path_of xs) → IsRising (map path_of ys) → ((o : Owned) → Has xs o → Has ys o) → ((o : Owned) → Has ys o → Has xs o) → xs ≡ ys
+unfolding IsStrictlySortedBy
+one_order [] [] a b h k = refl
+one_order [] (y ∷ ys) a b h k = absurd (k y (inl refl))
+one_order (x ∷ xs) [] a b h k = absurd (h x (inl refl))
+one_order (x ∷ xs) (y ∷ ys) a b h k =
+    let heads : x ≡ y = elim (h x (inl refl)) [
+      | inl e ↦ sym e
+      | inr in-ys ↦ elim (k y (inl refl)) [
+        | inl e ↦ e
+        | inr in-xs ↦ absurd (not_both_less (path_of y) (path_of x) (later (path_of y) ys x b.0 in-ys) (later (path_of x) xs y a.0 in-xs))
+      ]
+    ] in
+    let tails = one_order xs ys a.1 b.1
+    (λ o has. elim (h o (inr has)) [ inr there ↦ there | inl e ↦ absurd (not_less (path_of x) (path_of o) (ap path_of (heads ∙ e)) (later (path_of x) xs o a.0 has)) ])
+    (λ o has. elim (k o (inr has)) [ inr there ↦ there | inl e ↦ absurd (not_less (path_of y) (path_of o) (ap path_of (sym heads ∙ e)) (later (path_of y) ys o b.0 has)) ]) in
+    ap (λ (z : Owned). z ∷ xs) heads ∙ ap (λ (zs : List Owned). y ∷ zs) tails
+
+distinct_rising : (xs : List (List ℕ)) → IsRising xs → AreDistinct xs
+unfolding IsStrictlySortedBy
+distinct_rising [] up = tt
+distinct_rising (x ∷ xs) up = (least x xs up.0, distinct_rising xs up.1)
+  where
+    least : (x : List ℕ) (xs : List (List ℕ)) → AllByRecursion (λ z. byte_order x z ≡ Less) xs → Has xs x → ⊥
+    least x [] all has = absurd has
+    least x (y ∷ ys) all (inl e) = not_less x y (sym e) all.0
+    least x (y ∷ ys) all (inr has) = least x ys all.1 has
+
+pub rising_distinct : (owned : List Owned) → IsRising (map path_of owned) → AreDistinct (map path_of owned)
+rising_distinct owned up = distinct_rising (map path_of owned) up
+
+-- paths that rise are in order as they stand
+pub already_sorted : (owned sorted : List Owned) → IsRising (map path_of owned) → AreInOrder owned sorted → sorted ≡ owned
+already_sorted owned sorted up order =
+    let far : Ascends sorted = sorted_far (λ a b. is_lt (byte_order (path_of a) (path_of b))) (ranks_by nat_list_cmp_total path_of) sorted order.rising in
+    one_order sorted owned (rising_if sorted far (distinct_moved owned sorted order.all (rising_distinct owned up))) up
+    (λ o has. moved sorted owned o (IsPermutation-sym owned sorted order.all) has)
+    (λ o has. moved owned sorted o order.all has)

@@ -1,0 +1,130 @@
+-- The words of a text that is written are those that it was written from.
+use Rattle.std.proofs.Common.{◌≡◌, ◌∙◌, ◌++◌, ◌&&◌, ◌||◌, ◌==◌, ◌+◌, ℕ, arith, true, false, not, Bool, List, [], ◌∷◌, inl, inr, refl, ap, map, subst, sym}
+use Rattle.std.specs.Prelude.{bytes_eq, if◌then◌else◌}
+use Rattle.std.specs.List.{AllByRecursion, list_all}
+use Rattle.std.proofs.lemmas.Bool.{cases_Bool}
+use Rattle.std.proofs.lemmas.Bool.Decides.{nat_tests}
+use Rattle.basics.specs.Blanks.{is_blank}
+use Rattle.basics.specs.Members.{Has}
+use Rattle.pms_names.specs.Bytes.{begins_badly}
+use Rattle.pms_names.specs.Names.{IsName}
+use Rattle.pms_names.specs.declared.kind.Kind.{Kind}
+use Rattle.pms_names.specs.declared.kind.Kind.TheVariants as kinds
+use Rattle.dep_atom.proofs.Plain.{ArePlain, plain_differs, plain_name}
+use Rattle.dep_group.specs.Tokens.{IsFlag, IsInForm, tree_words}
+use Rattle.dep_group.specs.Words.{Spot, begins_word, is_word, spaced, texts, with_letter, words, words_of}
+use Rattle.dep_group.proofs.WordLemmas.{words-word, words_of-spaced}
+use Rattle.dep_tree.specs.Grammar as dependencies
+use Rattle.dep_tree.specs.Texts.{Dependencies}
+use Rattle.dep_tree.specs.Texts as dependency_texts
+use Rattle.required_use.specs.Grammar as expressions
+use Rattle.required_use.specs.Texts.{Expressions}
+use Rattle.required_use.specs.Texts as expression_texts
+use Rattle.slot_value.specs.Slots.{slot_text}
+use Rattle.slot_value.proofs.Parted.{printed_says}
+use Rattle.use_flags.specs.Items.{flag_of, hyphen, plus}
+use Rattle.database_law.specs.Fields.{AreFlags, AreSlots}
+use Rattle.record_write.specs.Written.{with_newline}
+use Rattle.record_write.specs.Recorded.{IsFlagSet}
+
+-- ---- a newline at the end
+
+begins_ended : (bs : List ℕ) → begins_word (bs ++ (10 ∷ [])) ≡ begins_word bs
+begins_ended [] = refl
+begins_ended (b ∷ bs) = refl
+
+words_ended : (at : ℕ) (bs : List ℕ) → words at (bs ++ (10 ∷ [])) ≡ words at bs
+words_ended at [] = refl
+words_ended at (b ∷ bs) =
+    ap (λ (begins : Bool). if is_blank b then words (at + 1) (bs ++ (10 ∷ [])) else with_letter at b begins (words (at + 1) (bs ++ (10 ∷ [])))) (begins_ended bs)
+    ∙ ap (λ (ws : List Spot). if is_blank b then ws else with_letter at b (begins_word bs) ws) (words_ended (at + 1) bs)
+
+words_newline : (text : List ℕ) → words_of (with_newline text) ≡ words_of text
+words_newline [] = refl
+words_newline (b ∷ bs) = ap texts (words_ended 0 (b ∷ bs))
+
+-- words with a space between each two and a newline behind are read back
+words_written : (ws : List (List ℕ)) → list_all is_word ws ≡ true → words_of (with_newline (spaced ws)) ≡ ws
+words_written ws h = words_newline (spaced ws) ∙ words_of-spaced ws h
+
+-- ---- names are words
+
+-- no byte of the text is a blank
+abbrev AreSolid : List ℕ → Type 0
+AreSolid bytes = AllByRecursion (λ b. is_blank b ≡ false) bytes
+
+plain_solid : (bytes : List ℕ) → ArePlain bytes → AreSolid bytes
+plain_solid [] h = tt
+plain_solid (b ∷ bs) h = (rw (plain_differs b 32 refl h.0, plain_differs b 9 refl h.0, plain_differs b 10 refl h.0, plain_differs b 13 refl h.0) refl, plain_solid bs h.1)
+
+solid-append : (xs ys : List ℕ) → AreSolid xs → AreSolid ys → AreSolid (xs ++ ys)
+solid-append [] ys h k = k
+solid-append (x ∷ xs) ys h k = (h.0, solid-append xs ys h.1 k)
+
+solid_word : (b : ℕ) (bs : List ℕ) → AreSolid (b ∷ bs) → is_word (b ∷ bs) ≡ true
+solid_word b [] h = ap not h.0
+solid_word b (c ∷ bs) h = ap (λ x. not x && is_word (c ∷ bs)) h.0 ∙ solid_word c bs h.1
+
+name_solid : (kind : Kind) (bytes : List ℕ) → IsName kind bytes → AreSolid bytes
+name_solid kind bytes is = plain_solid bytes (plain_name kind bytes is)
+
+name_word : (kind : Kind) (bytes : List ℕ) → IsName kind bytes → is_word bytes ≡ true
+name_word kind [] is = absurd (omega (arith, is.spelled.sized.some))
+name_word kind (b ∷ bs) is = solid_word b bs (name_solid kind (b ∷ bs) is)
+
+-- ---- SLOT
+
+slot_word : (slot subslot : List ℕ) → IsName kinds.Slot slot → IsName kinds.Slot subslot → is_word (slot_text slot subslot) ≡ true
+slot_word [] subslot is also = absurd (omega (arith, is.spelled.sized.some))
+slot_word (b ∷ bs) subslot is also =
+    let solid = name_solid kinds.Slot (b ∷ bs) is in
+    let more = name_solid kinds.Slot subslot also in
+    elim (cases_Bool (bytes_eq (b ∷ bs) subslot)) [
+      | inl e ↦ (ap (λ x. is_word (if x then b ∷ bs else (b ∷ bs) ++ (47 ∷ subslot))) e ∙ solid_word b bs solid)
+      | inr e ↦ (ap (λ x. is_word (if x then b ∷ bs else (b ∷ bs) ++ (47 ∷ subslot))) e ∙ solid_word b (bs ++ (47 ∷ subslot)) (solid-append (b ∷ bs) (47 ∷ subslot) solid (refl, more)))
+    ]
+
+pub slots_said : (slot subslot : List ℕ) → IsName kinds.Slot slot → IsName kinds.Slot subslot → AreSlots (words_of (with_newline (slot_text slot subslot))) slot subslot
+slots_said slot subslot is also = record {
+  word = slot_text slot subslot;
+  alone = words_newline (slot_text slot subslot) ∙ ap texts (words-word 0 (slot_text slot subslot) (slot_word slot subslot is also));
+  says = printed_says slot subslot is also;
+}
+
+-- ---- USE and IUSE
+
+flag_words : (ws : List (List ℕ)) → ((w : List ℕ) → Has ws w → IsFlag w) → list_all is_word ws ≡ true
+flag_words [] each = refl
+flag_words (w ∷ ws) each = ap (λ b. b && list_all is_word ws) (name_word kinds.Flag w (each w (inl refl))) ∙ flag_words ws (λ v has. each v (inr has))
+
+no_mark : (b : ℕ) → begins_badly kinds.Flag b ≡ false → (b == plus || b == hyphen) ≡ false
+no_mark b h = grind (arith, nat_tests)
+
+unmarked : (w : List ℕ) → IsFlag w → flag_of w ≡ w
+unmarked [] is = refl
+unmarked (b ∷ bs) is = ap (λ (x : Bool). if x then bs else b ∷ bs) (no_mark b is.spelled.begins)
+
+all_unmarked : (ws : List (List ℕ)) → ((w : List ℕ) → Has ws w → IsFlag w) → map flag_of ws ≡ ws
+all_unmarked [] each = refl
+all_unmarked (w ∷ ws) each =
+    ap (λ (v : List ℕ). v ∷ map flag_of ws) (unmarked w (each w (inl refl)))
+    ∙ ap (λ (vs : List (List ℕ)). w ∷ vs) (all_unmarked ws (λ v has. each v (inr has)))
+
+own_flags : (set : List (List ℕ)) → IsFlagSet set → AreFlags set set
+own_flags set is = record { rising = is.rising; each = is.names; members = λ flag. (λ h. h, λ h. h) }
+
+pub flags_said : (set : List (List ℕ)) → IsFlagSet set → AreFlags (words_of (with_newline (spaced set))) set
+flags_said set is =
+    subst (λ (ws : List (List ℕ)). AreFlags ws set) (sym (words_written set (flag_words set is.names))) (own_flags set is)
+
+pub known_said : (set : List (List ℕ)) → IsFlagSet set → AreFlags (map flag_of (words_of (with_newline (spaced set)))) set
+known_said set is =
+    subst (λ (ws : List (List ℕ)). AreFlags ws set) (sym (ap (map flag_of) (words_written set (flag_words set is.names)) ∙ all_unmarked set is.names)) (own_flags set is)
+
+-- ---- trees
+
+pub needs_said : (x : Dependencies) → IsInForm dependencies.grammar dependencies.is_block x → dependency_texts.Writes (with_newline (dependency_texts.text_of x)) x
+needs_said x form = (form, words_written (tree_words dependencies.grammar x) form.words)
+
+pub required_said : (x : Expressions) → IsInForm expressions.grammar expressions.never x → expression_texts.Writes (with_newline (expression_texts.text_of x)) x
+required_said x form = (form, words_written (tree_words expressions.grammar x) form.words)

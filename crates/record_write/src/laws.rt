@@ -1,0 +1,12 @@
+ghost use Rattle.record_write.specs.Recorded.{FilesAreInTheFolder, RecordsAreReadBack};
+ghost use Rattle.record_write.specs.Recorded.{SortedRecordsAreReadBack};
+
+/// A law on what is written of a package: a folder of just these files says the package, with its
+/// paths in byte order. Where they rise already that is the package itself.
+pub fn records_are_read_back()
+    ensures sorted { SortedRecordsAreReadBack }
+    ensures same { RecordsAreReadBack }
+    ensures inside { FilesAreInTheFolder }
+{
+    contents_text::contents_are_read_back();
+}

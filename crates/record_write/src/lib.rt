@@ -1,0 +1,22 @@
+//! The record of one installed package, as it is written: the files of its folder, each with its
+//! text.
+//!
+//! **A contract sees** an installed package as plain data, and the files as entries.
+//!
+//! **Proved**: the files are exactly those of the package, in byte order of their names, each with
+//! its one text; a folder of just these files says the package, so that it is read back.
+//!
+//! **Only tested**: nothing yet.
+//!
+//! ```
+//! let files = folder_files(alloc, &installed)?;
+//! ```
+#![tactic(auto)]
+
+mod contents;
+mod files;
+mod laws;
+mod texts;
+
+pub use files::folder_files;
+pub use laws::records_are_read_back;
