@@ -1,3 +1,4 @@
+pub mod Gathered
 pub mod Words
 pub mod Order
 pub mod Folder
