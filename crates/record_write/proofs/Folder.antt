@@ -22,9 +22,9 @@ use Rattle.database_law.specs.Database.{IsOf}
 use Rattle.database_law.specs.Fields.{Field, Reads, Says, contents, eapi, field_text, flags, is_needed, known, name_of, needs, required, slots, text_of}
 use Rattle.database_law.specs.Packages.{Installed, id_of, paths}
 use Rattle.record_write.specs.Written.{AreFolderFiles, AreInOrder, fields, file_if_written, folder_files, has_bytes, installed_with, is_written, value_of}
-use Rattle.record_write.specs.Recorded.{FilesAreInTheFolder, IsRecordable, RecordsAreReadBack, SortedRecordsAreReadBack, folder_of, held_by}
+use Rattle.record_write.specs.Recorded.{AreNamed, FilesAreInTheFolder, IsRecordable, RecordsAreReadBack, SortedRecordsAreReadBack, folder_of, held_by}
 use Rattle.record_write.proofs.Order.{already_sorted, distinct_moved, moved, rising_distinct}
-use Rattle.record_write.proofs.Words.{flags_said, known_said, needs_said, required_said, slots_said}
+use Rattle.record_write.proofs.Words.{all_has, flags_said, known_said, needs_said, required_said, slots_said}
 
 same_name : (id : PackageId) (a b : List ℕ) → bytes_eq (record_path id a) (record_path id b) ≡ bytes_eq a b
 same_name id a b = elim (cases_Bool (bytes_eq a b)) [
@@ -94,23 +94,23 @@ module _ (p : Installed) where
   there : (k : Field) → is_needed k ≡ true → IsSome (text_of (here (name_of k)))
   there k needed = subst (λ (x : Option Thing). IsSome (text_of x)) (sym (here_is k)) (text_there (is_needed k) (value_of k p) needed)
 
-  reads : ContentsAreReadBack → IsRecordable p → AreDistinct (paths p) → (k : Field) → Reads k (value_of k p) p
-  reads back is once contents = back p.owned is.owned once
-  reads back is once eapi = refl
-  reads back is once slots = slots_said p.package_is.facts.slot p.package_is.facts.subslot is.named.slot is.named.subslot
-  reads back is once flags = flags_said p.package_is.facts.enabled is.named.enabled
-  reads back is once known = known_said p.package_is.facts.iuse is.named.known
-  reads back is once required = required_said p.package_is.required is.required
-  reads back is once (needs class) = (
+  reads : ContentsAreReadBack → AreNamed p.package_is.facts → IsRecordable p → AreDistinct (paths p) → (k : Field) → Reads k (value_of k p) p
+  reads back named is once contents = back p.owned is.owned once
+  reads back named is once eapi = refl
+  reads back named is once slots = slots_said p.package_is.facts.slot p.package_is.facts.subslot named.slot named.subslot
+  reads back named is once flags = flags_said p.package_is.facts.enabled named.enabled
+  reads back named is once known = known_said p.package_is.facts.iuse named.known
+  reads back named is once required = required_said p.package_is.required is.required
+  reads back named is once (needs class) = (
     tree_of class p.package_is,
     needs_said (tree_of class p.package_is) (is.needs class).form,
     sym (is.needs class).bound,
   )
 
-  says : ContentsAreReadBack → IsRecordable p → AreDistinct (paths p) → Says (folder_of p (folder_files p)) p
-  says back is once = record {
+  says : ContentsAreReadBack → AreNamed p.package_is.facts → IsRecordable p → AreDistinct (paths p) → Says (folder_of p (folder_files p)) p
+  says back named is once = record {
     there = there;
-    reads = λ k. subst (λ (text : List ℕ). Reads k text p) (sym (text_is k)) (reads back is once k);
+    reads = λ k. subst (λ (text : List ℕ). Reads k text p) (sym (text_is k)) (reads back named is once k);
   }
 
   -- each file is in the package's folder
@@ -128,35 +128,29 @@ module _ (p : Installed) where
 
 -- ---- paths that are put in order
 
-all_has : {A : Type 0} (P : A → Type 0) (xs : List A) (x : A) → AllByRecursion P xs → Has xs x → P x
-all_has P [] x all has = absurd has
-all_has P (y ∷ ys) x all (inl e) = subst P e all.0
-all_has P (y ∷ ys) x all (inr has) = all_has P ys x all.1 has
-
 all_by_has : {A : Type 0} (P : A → Type 0) (xs : List A) → ((x : A) → Has xs x → P x) → AllByRecursion P xs
 all_by_has P [] each = tt
 all_by_has P (x ∷ xs) each = (each x (inl refl), all_by_has P xs (λ y has. each y (inr has)))
 
 recordable : (p : Installed) (sorted : List Owned) → AreInOrder p.owned sorted → IsRecordable p → IsRecordable (installed_with p.package_is sorted)
 recordable p sorted order is = record {
-  named = is.named;
   needs = is.needs;
   required = is.required;
   owned = all_by_has IsOwnable sorted (λ o has. all_has IsOwnable p.owned o is.owned (moved sorted p.owned o (IsPermutation-sym p.owned sorted order.all) has));
 }
 
 pub sorted_read_back : ContentsAreReadBack → SortedRecordsAreReadBack
-sorted_read_back back p es is once files =
+sorted_read_back back p es named is once files =
     let sorted = files.0 in
     let q = installed_with p.package_is sorted in (
       sorted,
       files.1,
-      subst (λ (l : List Entry). Says (folder_of p l) q) (sym files.2) (says q back (recordable p sorted files.1 is) (distinct_moved p.owned sorted files.1.all once)),
+      subst (λ (l : List Entry). Says (folder_of p l) q) (sym files.2) (says q back named (recordable p sorted files.1 is) (distinct_moved p.owned sorted files.1.all once)),
     )
 
 pub read_back : ContentsAreReadBack → RecordsAreReadBack
-read_back back p es is up files =
-    let found = sorted_read_back back p es is (rising_distinct p.owned up) files in
+read_back back p es named is up files =
+    let found = sorted_read_back back p es named is (rising_distinct p.owned up) files in
     subst (λ (owned : List Owned). Says (folder_of p es) (installed_with p.package_is owned)) (already_sorted p.owned found.0 up found.1) found.2
 
 pub files_inside : FilesAreInTheFolder

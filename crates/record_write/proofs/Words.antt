@@ -93,9 +93,9 @@ slots_said slot subslot is also = record {
 
 -- ---- USE and IUSE
 
-flag_words : (ws : List (List ℕ)) → ((w : List ℕ) → Has ws w → IsFlag w) → list_all is_word ws ≡ true
-flag_words [] each = refl
-flag_words (w ∷ ws) each = ap (λ b. b && list_all is_word ws) (name_word kinds.Flag w (each w (inl refl))) ∙ flag_words ws (λ v has. each v (inr has))
+flag_words : (ws : List (List ℕ)) → AllByRecursion IsFlag ws → list_all is_word ws ≡ true
+flag_words [] all = refl
+flag_words (w ∷ ws) all = ap (λ b. b && list_all is_word ws) (name_word kinds.Flag w all.0) ∙ flag_words ws all.1
 
 no_mark : (b : ℕ) → begins_badly kinds.Flag b ≡ false → (b == plus || b == hyphen) ≡ false
 no_mark b h = grind (arith, nat_tests)
@@ -104,14 +104,18 @@ unmarked : (w : List ℕ) → IsFlag w → flag_of w ≡ w
 unmarked [] is = refl
 unmarked (b ∷ bs) is = ap (λ (x : Bool). if x then bs else b ∷ bs) (no_mark b is.spelled.begins)
 
-all_unmarked : (ws : List (List ℕ)) → ((w : List ℕ) → Has ws w → IsFlag w) → map flag_of ws ≡ ws
-all_unmarked [] each = refl
-all_unmarked (w ∷ ws) each =
-    ap (λ (v : List ℕ). v ∷ map flag_of ws) (unmarked w (each w (inl refl)))
-    ∙ ap (λ (vs : List (List ℕ)). w ∷ vs) (all_unmarked ws (λ v has. each v (inr has)))
+all_unmarked : (ws : List (List ℕ)) → AllByRecursion IsFlag ws → map flag_of ws ≡ ws
+all_unmarked [] all = refl
+all_unmarked (w ∷ ws) all =
+    ap (λ (v : List ℕ). v ∷ map flag_of ws) (unmarked w all.0) ∙ ap (λ (vs : List (List ℕ)). w ∷ vs) (all_unmarked ws all.1)
+
+pub all_has : {A : Type 0} (P : A → Type 0) (xs : List A) (x : A) → AllByRecursion P xs → Has xs x → P x
+all_has P [] x all has = absurd has
+all_has P (y ∷ ys) x all (inl e) = subst P e all.0
+all_has P (y ∷ ys) x all (inr has) = all_has P ys x all.1 has
 
 own_flags : (set : List (List ℕ)) → IsFlagSet set → AreFlags set set
-own_flags set is = record { rising = is.rising; each = is.names; members = λ flag. (λ h. h, λ h. h) }
+own_flags set is = record { rising = is.rising; each = λ flag has. all_has IsFlag set flag is.names has; members = λ flag. (λ h. h, λ h. h) }
 
 pub flags_said : (set : List (List ℕ)) → IsFlagSet set → AreFlags (words_of (with_newline (spaced set))) set
 flags_said set is =

@@ -24,9 +24,9 @@ use Rattle.record_write.specs.Written.{AreFolderFiles, AreInOrder, installed_wit
 -- a set of flags: names, in byte order
 pub record IsFlagSet (set : List (List ℕ)) : Type 0 where
   pub rising : IsRising set
-  pub names : (flag : List ℕ) → Has set flag → IsFlag flag
+  pub names : AllByRecursion IsFlag set
 
--- the slots and the flags are names
+-- the slots and the flags are names, as they are in all facts that the code has
 pub record AreNamed (f : Facts) : Type 0 where
   pub slot : IsName kinds.Slot f.slot
   pub subslot : IsName kinds.Slot f.subslot
@@ -38,9 +38,8 @@ pub record AreBound (x : Dependencies) : Type 0 where
   pub form : IsInForm dependencies.grammar dependencies.is_block x
   pub bound : all_bound x ≡ x
 
--- the package can be recorded
+-- what the package needs and owns can be recorded
 pub record IsRecordable (p : Installed) : Type 0 where
-  pub named : AreNamed p.package_is.facts
   pub needs : (class : Class) → AreBound (tree_of class p.package_is)
   pub required : IsInForm expressions.grammar expressions.never p.package_is.required
   pub owned : AllByRecursion IsOwnable p.owned
@@ -58,15 +57,15 @@ folder_of p es = folder (held_by es) (id_of p)
 -- paths in byte order.
 abbrev pub SortedRecordsAreReadBack : Type 0
 SortedRecordsAreReadBack =
-    (p : Installed) (es : List Entry) → IsRecordable p → AreDistinct (paths p) →
-    AreFolderFiles p es → (sorted : List Owned) × AreInOrder p.owned sorted ×
+    (p : Installed) (es : List Entry) → AreNamed p.package_is.facts → IsRecordable p →
+    AreDistinct (paths p) → AreFolderFiles p es → (sorted : List Owned) × AreInOrder p.owned sorted ×
     Says (folder_of p es) (installed_with p.package_is sorted)
 
 -- Where the paths rise, they say the package itself.
 abbrev pub RecordsAreReadBack : Type 0
 RecordsAreReadBack =
-    (p : Installed) (es : List Entry) → IsRecordable p → IsRising (paths p) →
-    AreFolderFiles p es → Says (folder_of p es) p
+    (p : Installed) (es : List Entry) → AreNamed p.package_is.facts → IsRecordable p →
+    IsRising (paths p) → AreFolderFiles p es → Says (folder_of p es) p
 
 -- All of the files are in the package's folder.
 abbrev pub FilesAreInTheFolder : Type 0

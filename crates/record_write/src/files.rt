@@ -1,11 +1,16 @@
 ghost use Rattle.std.specs.Prelude.{◌≡◌, ◌++◌, IfOk, OnOk, map};
-ghost use Rattle.database_law.specs.Fields.{is_needed, name_of};
+ghost use Rattle.pms_names.specs.Flags.{IsRising};
+ghost use Rattle.database_law.specs.Fields.{Says, is_needed, name_of};
+ghost use Rattle.database_law.specs.Packages.{paths};
 ghost use Rattle.vdb_text.specs.Files.{record_file, record_path};
 ghost use Rattle.record_read.specs.Views.{field_of};
+ghost use Rattle.record_write.specs.Recorded.{IsRecordable, folder_of};
 ghost use Rattle.record_write.specs.Written.{AreFolderFiles, file_if_written, installed_with};
 ghost use Rattle.record_write.specs.Written.{value_of};
 
 use crate::contents::{in_order, text_of_contents};
+use crate::laws::records_are_read_back;
+use crate::named::facts_are_named;
 use crate::texts::{text_of_flags, text_of_needs, text_of_required, text_of_slots};
 use contents_text::Owned;
 use dep_atom::PackageId;
@@ -32,8 +37,12 @@ const FILES: [RecordFile; 11] = [
 /// The files of the package's folder, in byte order of their names: CONTENTS, EAPI and SLOT, and of
 /// the others those that have something to say. CONTENTS has the paths in byte order.
 pub fn folder_files(alloc: Global, installed: &Installed) -> Result<Vec<Entry>, AllocError>
-    ensures { IfOk result (λ v. AreFolderFiles installed.now v.items) }
+    ensures files { IfOk result (λ v. AreFolderFiles installed.now v.items) }
+    ensures said { IsRecordable installed.now → IsRising (paths installed.now) →
+        IfOk result (λ v. Says (folder_of installed.now v.items) installed.now) }
 {
+    facts_are_named(&installed.pkg.facts);
+    records_are_read_back();
     let owned = in_order(alloc, &installed.owned)?;
     let mut files = Vec::new(alloc);
     for file in FILES {

@@ -16,7 +16,9 @@
 mod contents;
 mod files;
 mod laws;
+mod named;
 mod texts;
 
 pub use files::folder_files;
 pub use laws::records_are_read_back;
+pub use named::facts_are_named;
