@@ -24,7 +24,7 @@ use Rattle.database_law.specs.Packages.{Installed, id_of, paths}
 use Rattle.record_write.specs.Written.{AreFolderFiles, AreInOrder, fields, file_if_written, folder_files, has_bytes, installed_with, is_written, value_of}
 use Rattle.record_write.specs.Recorded.{AreNamed, FilesAreInTheFolder, IsRecordable, RecordsAreReadBack, SortedRecordsAreReadBack, folder_of, held_by}
 use Rattle.record_write.proofs.Order.{already_sorted, distinct_moved, moved, rising_distinct}
-use Rattle.record_write.proofs.Words.{all_has, flags_said, known_said, needs_said, required_said, slots_said}
+use Rattle.record_write.proofs.Words.{all_by_has, all_has, flags_said, known_said, needs_said, required_said, slots_said}
 
 same_name : (id : PackageId) (a b : List ℕ) → bytes_eq (record_path id a) (record_path id b) ≡ bytes_eq a b
 same_name id a b = elim (cases_Bool (bytes_eq a b)) [
@@ -127,10 +127,6 @@ module _ (p : Installed) where
   ]
 
 -- ---- paths that are put in order
-
-all_by_has : {A : Type 0} (P : A → Type 0) (xs : List A) → ((x : A) → Has xs x → P x) → AllByRecursion P xs
-all_by_has P [] each = tt
-all_by_has P (x ∷ xs) each = (each x (inl refl), all_by_has P xs (λ y has. each y (inr has)))
 
 recordable : (p : Installed) (sorted : List Owned) → AreInOrder p.owned sorted → IsRecordable p → IsRecordable (installed_with p.package_is sorted)
 recordable p sorted order is = record {

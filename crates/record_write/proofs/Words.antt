@@ -114,6 +114,10 @@ all_has P [] x all has = absurd has
 all_has P (y ∷ ys) x all (inl e) = subst P e all.0
 all_has P (y ∷ ys) x all (inr has) = all_has P ys x all.1 has
 
+pub all_by_has : {A : Type 0} (P : A → Type 0) (xs : List A) → ((x : A) → Has xs x → P x) → AllByRecursion P xs
+all_by_has P [] each = tt
+all_by_has P (x ∷ xs) each = (each x (inl refl), all_by_has P xs (λ y has. each y (inr has)))
+
 own_flags : (set : List (List ℕ)) → IsFlagSet set → AreFlags set set
 own_flags set is = record { rising = is.rising; each = λ flag has. all_has IsFlag set flag is.names has; members = λ flag. (λ h. h, λ h. h) }
 

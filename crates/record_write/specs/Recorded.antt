@@ -72,3 +72,9 @@ abbrev pub FilesAreInTheFolder : Type 0
 FilesAreInTheFolder =
     (p : Installed) (es : List Entry) (e : Entry) → AreFolderFiles p es → Has es e →
     IsOf (id_of p) e.path
+
+-- What a folder says can be recorded again.
+abbrev pub SaidIsRecordable : Type 0
+SaidIsRecordable =
+    (f : Folder) (p : Installed) → Says f p →
+    AreNamed p.package_is.facts × IsRecordable p × AreDistinct (paths p)

@@ -20,5 +20,5 @@ mod named;
 mod texts;
 
 pub use files::folder_files;
-pub use laws::records_are_read_back;
+pub use laws::{records_are_read_back, said_packages_are_recordable};
 pub use named::facts_are_named;
