@@ -1,8 +1,8 @@
 -- What a folder says of a package can be recorded again.
-use Rattle.std.proofs.Common.{◌≡◌, ◌∙◌, ◌++◌, ◌&&◌, ◌+◌, ◌≤◌, ℕ, Bool, true, false, max, List, [], ◌∷◌, Option, Some, None, inl, inr, refl, ap, map, subst, sym}
+use Rattle.std.proofs.Common.{◌≡◌, ◌∙◌, ◌++◌, ◌&&◌, ◌+◌, ◌≤◌, ℕ, Bool, true, false, max, List, [], ◌∷◌, Option, Some, None, refl, ap, map, subst, sym}
 use Rattle.std.specs.Prelude.{◌↔◌, if◌then◌else◌, unwrap_or}
-use Rattle.std.specs.List.{AllByRecursion, flat_map}
-use Rattle.basics.specs.Members.{AreDistinct, Has}
+use Rattle.std.specs.List.{AllByRecursion}
+use Rattle.basics.specs.Members.{AreDistinct}
 use Rattle.merge_record.specs.Spelling.{IsPathText}
 use Rattle.pms_names.specs.Names.{IsName}
 use Rattle.pms_names.specs.declared.kind.Kind.TheVariants as kinds
@@ -12,8 +12,7 @@ use Rattle.dep_atom.specs.Values.{AtomValue}
 use Rattle.dep_atom.specs.declared.slot.SlotPart.{SlotPart}
 use Rattle.dep_atom.specs.declared.slot.SlotPart.TheVariants.{Equals, Free, Given, Star}
 use Rattle.dep_group.specs.Tokens.{AreMadeOf, IsFlag, IsInForm, IsMadeOf}
-use Rattle.dep_group.specs.Trees.{Tree, Trees, all_depth, all_free, depth, group, is_any_of, is_free, leaf, no_trees, opens_any, tree}
-use Rattle.dep_group.specs.Words.{words_of}
+use Rattle.dep_group.specs.Trees.{Tree, all_depth, all_free, depth, group, is_any_of, is_free, leaf, no_trees, tree}
 use Rattle.dep_group.specs.declared.token.Opener.{Opener}
 use Rattle.dep_tree.specs.Grammar.{AreAtomsInGroups, grammar, is_block}
 use Rattle.dep_tree.specs.Texts.{Dependencies}
@@ -22,9 +21,8 @@ use Rattle.contents_text.specs.Contents.{IsContent, IsLine, IsOwnable, Line, Tel
 use Rattle.contents_text.specs.declared.owned.Content.{Content}
 use Rattle.contents_text.specs.declared.owned.Content.TheVariants.{File, Link}
 use Rattle.contents_text.specs.declared.owned.Owned.{Owned}
-use Rattle.database_law.specs.Fields.{AreFlags, AreSlots, Folder, Says, all_bound, bound_alone, contents, flags, known, needs, required, slots, tree_bound, without_equals}
-use Rattle.database_law.specs.Packages.{Installed, paths}
-use Rattle.record_write.specs.Recorded.{AreBound, AreNamed, IsFlagSet, IsRecordable, SaidIsRecordable}
+use Rattle.database_law.specs.Fields.{AreFlags, AreSlots, all_bound, bound_alone, contents, flags, known, needs, required, slots, tree_bound, without_equals}
+use Rattle.record_write.specs.Recorded.{AreBound, IsFlagSet, SaidIsRecordable}
 use Rattle.record_write.proofs.Words.{all_by_has}
 
 -- ---- names

@@ -1,14 +1,13 @@
 -- A folder of the files that are written of a package says the package.
-use Rattle.std.proofs.Common.{◌≡◌, ◌∙◌, ◌++◌, ◌||◌, ℕ, Bool, true, false, List, [], ◌∷◌, Option, Some, None, inl, inr, refl, ap, map, subst, sym}
+use Rattle.std.proofs.Common.{◌≡◌, ◌∙◌, ◌++◌, ◌||◌, ℕ, Bool, true, false, List, [], ◌∷◌, Option, Some, None, inl, inr, refl, ap, subst, sym}
 use Rattle.std.specs.Prelude.{IsSome, bytes_eq, if◌then◌else◌, unwrap_or}
-use Rattle.std.specs.List.{AllByRecursion, flat_map}
+use Rattle.std.specs.List.{flat_map}
 use Rattle.std.proofs.lemmas.Bool.{cases_Bool}
 use Rattle.std.proofs.lemmas.List.Sorted.{IsPermutation-sym}
 use Rattle.std.proofs.lemmas.Slice.Eq.{bytes_eq-Decides}
 use Rattle.basics.specs.Members.{AreDistinct, Has}
 use Rattle.basics.proofs.Membership.{has-append_cases}
 use Rattle.basics.proofs.Texts.{bytes_eq-apart, bytes_eq-same}
-use Rattle.pms_names.specs.Flags.{IsRising}
 use Rattle.dep_atom.specs.declared.package.PackageId.{PackageId}
 use Rattle.file_tree.specs.Thing.{Thing, plain}
 use Rattle.file_tree.specs.declared.objects.Entry.{Entry}
@@ -21,7 +20,7 @@ use Rattle.contents_text.specs.declared.owned.Owned.{Owned}
 use Rattle.database_law.specs.Database.{IsOf}
 use Rattle.database_law.specs.Fields.{Field, Reads, Says, contents, eapi, field_text, flags, is_needed, known, name_of, needs, required, slots, text_of}
 use Rattle.database_law.specs.Packages.{Installed, id_of, paths}
-use Rattle.record_write.specs.Written.{AreFolderFiles, AreInOrder, fields, file_if_written, folder_files, has_bytes, installed_with, is_written, value_of}
+use Rattle.record_write.specs.Written.{AreInOrder, fields, file_if_written, folder_files, has_bytes, installed_with, is_written, value_of}
 use Rattle.record_write.specs.Recorded.{AreNamed, FilesAreInTheFolder, IsRecordable, RecordsAreReadBack, SortedRecordsAreReadBack, folder_of, held_by}
 use Rattle.record_write.proofs.Order.{already_sorted, distinct_moved, moved, rising_distinct}
 use Rattle.record_write.proofs.Words.{all_by_has, all_has, flags_said, known_said, needs_said, required_said, slots_said}

@@ -95,11 +95,10 @@ fn text_of(
 fn is_needed(file: RecordFile) -> bool
     ensures { result ≡ is_needed (field_of file) }
 {
-    match file {
-        RecordFile::Contents | RecordFile::Eapi | RecordFile::Slot => true,
-        RecordFile::Use | RecordFile::Iuse | RecordFile::RequiredUse | RecordFile::Needs(_) =>
-            false,
-    }
+    matches!(
+        file,
+        RecordFile::Contents | RecordFile::Eapi | RecordFile::Slot
+    )
 }
 
 /// The file of the package's folder with this text.

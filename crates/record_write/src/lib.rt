@@ -15,10 +15,12 @@
 
 mod contents;
 mod files;
+mod flags;
 mod laws;
 mod named;
 mod texts;
 
 pub use files::folder_files;
+pub use flags::recorded_flags;
 pub use laws::{records_are_read_back, said_packages_are_recordable};
 pub use named::facts_are_named;

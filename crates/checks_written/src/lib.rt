@@ -1,0 +1,10 @@
+//! Tests of the files that are written of an installed package.
+//!
+//! It promises nothing and exports nothing. The tests stand here and not beside what they test,
+//! since a crate with tests is proved twice.
+#![tactic(auto)]
+
+#[cfg(test)]
+mod packages;
+#[cfg(test)]
+mod texts;
