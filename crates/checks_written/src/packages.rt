@@ -4,7 +4,7 @@ use std::test::Fail;
 /// What is said of two packages in odd ways, and the files that are written of each.
 const PACKAGES: [(&str, &str); 2] = [
     (
-        "c/p-1/CONTENTS=dir /usr
+        "c/p-1/CONTENTS=dir /u
 c/p-1/EAPI= 8
 c/p-1/SLOT=0/0
 c/p-1/USE=~
@@ -15,7 +15,7 @@ c/p-1/SLOT=0~
 ",
     ),
     (
-        "c/q-1.2-r3/CONTENTS=sym /usr/b -> a 17~dir /usr~obj /usr/a 0cc175b9c0f1b6a831c399e269772661 5
+        "c/q-1.2-r3/CONTENTS=sym /u/b -> a 17~dir /u~obj /u/a 0cc175b9c0f1b6a831c399e269772661 5
 c/q-1.2-r3/EAPI=8~
 c/q-1.2-r3/SLOT=2/3
 c/q-1.2-r3/RDEPEND= c/x:= c/y:0/2=~~ u? ( c/z )
@@ -27,7 +27,7 @@ c/q-1.2-r3/REQUIRED_USE=u? ( !v )~
 c/q-1.2-r3/IUSE=v +u -w
 c/q-1.2-r3/USE=u t",
         "c/q-1.2-r3/BDEPEND=|| ( c/x:0 c/y )~
-c/q-1.2-r3/CONTENTS=obj /usr/a 0cc175b9c0f1b6a831c399e269772661 0~sym /usr/b -> a 0~
+c/q-1.2-r3/CONTENTS=obj /u/a 0cc175b9c0f1b6a831c399e269772661 0~sym /u/b -> a 0~
 c/q-1.2-r3/DEPEND=>=c/t-1 !!c/u[v]~
 c/q-1.2-r3/EAPI=8~
 c/q-1.2-r3/IUSE=u v w~

@@ -1,5 +1,5 @@
-//! Trees and files as texts of lines `path=text`, in which `~` stands for a newline. The paths begin
-//! behind the database's folder.
+//! Trees and files as texts of lines `path=text`, in which `~` stands for a newline. The paths
+//! begin behind the database's folder.
 
 use database_read::read_database;
 use file_tree::{Entry, Kind, Object, Path};

@@ -1,9 +1,9 @@
 -- Owned paths that are put in byte order.
-use Rattle.std.proofs.Common.{◌≡◌, ◌∙◌, ◌+◌, ◌<◌, ◌≤◌, ℕ, zero, suc, arith, false, is_lt, List, [], ◌∷◌, inl, inr, refl, ap, get_or, length, map, subst, sym}
+use Rattle.std.proofs.Common.{◌≡◌, ◌∙◌, ◌+◌, ◌<◌, ◌≤◌, ℕ, zero, suc, arith, Bool, true, cond, false, is_lt, List, [], ◌∷◌, inl, inr, refl, ap, get_or, length, map, subst, sym}
 use Rattle.std.specs.Borrow.{Bor}
 use Rattle.std.specs.Prelude.{bytes_eq}
-use Rattle.std.specs.List.{AllByRecursion, IsDistinct}
-use Rattle.std.specs.List.Sorted.{IsPermutation, IsSortedBy, IsSortedByKey, IsStrictlySortedBy}
+use Rattle.std.specs.List.{AllByRecursion, IsDistinct, filter}
+use Rattle.std.specs.List.Sorted.{IsPermutation, IsSortedBy, IsSortedByKey, IsStableBy, IsStableByKey, IsStrictlySortedBy, ties}
 use Rattle.std.specs.Ordering.{is_eq, ordering_reverse}
 use Rattle.std.specs.declared.cmp.Ordering.{Ordering}
 use Rattle.std.specs.declared.cmp.Ordering.TheVariants.{Equal, Greater, Less}
@@ -27,13 +27,16 @@ use Rattle.record_write.specs.Written.{AreInOrder}
 abbrev pub owned_at : Bor Owned → Owned
 owned_at o = o.now
 
+abbrev pub is_below : Bor Owned → Bor Owned → Bool
+is_below a b = is_lt (byte_order (path_of (owned_at a)) (path_of (owned_at b)))
+
 read_through : (xs : List (Bor Owned)) (k : ℕ) (d : Owned) (x : Bor Owned) → k < length xs → get_or (map owned_at xs) k d ≡ owned_at (get_or xs k x)
 read_through [] k d x lt = absurd (omega (arith, lt))
 read_through (y ∷ ys) zero d x lt = refl
 read_through (y ∷ ys) (suc k) d x lt = read_through ys k d x (omega (arith, lt))
 
 -- paths whose references ascend
-pub rising_through : (xs : List (Bor Owned)) → IsSortedBy (λ a b. is_lt (byte_order (path_of (owned_at a)) (path_of (owned_at b)))) xs → IsSortedByKey path_of byte_order (map owned_at xs)
+pub rising_through : (xs : List (Bor Owned)) → IsSortedBy is_below xs → IsSortedByKey path_of byte_order (map owned_at xs)
 rising_through [] sorted k d low lt = absurd (omega (arith, lt))
 rising_through (x ∷ xs) sorted k d low lt =
     let within : k + 1 < length (x ∷ xs) = omega (arith, lt, length-map xs owned_at) in
@@ -41,6 +44,25 @@ rising_through (x ∷ xs) sorted k d low lt =
     let next = read_through (x ∷ xs) (k + 1) d x within in
     subst (λ (o : Owned). is_lt (byte_order (path_of o) (path_of (get_or (map owned_at (x ∷ xs)) k d))) ≡ false) (sym next)
     (subst (λ (o : Owned). is_lt (byte_order (path_of (owned_at (get_or (x ∷ xs) (k + 1) x))) (path_of o)) ≡ false) (sym here) (sorted k x low within))
+
+kept_if : (t : Bool) (b : Bor Owned) (os : List Owned) (bs : List (Bor Owned)) → os ≡ map owned_at bs → cond t (owned_at b ∷ os) os ≡ map owned_at (cond t (b ∷ bs) bs)
+kept_if true b os bs e = ap (λ (l : List Owned). owned_at b ∷ l) e
+kept_if false b os bs e = e
+
+filter_through : (p : Owned → Bool) (xs : List (Bor Owned)) → filter p (map owned_at xs) ≡ map owned_at (filter (λ b. p (owned_at b)) xs)
+filter_through p [] = refl
+filter_through p (b ∷ bs) = kept_if (p (owned_at b)) b (filter p (map owned_at bs)) (filter (λ c. p (owned_at c)) bs) (filter_through p bs)
+
+stable_by : (xs ys : List (Bor Owned)) (d : Bor Owned) → IsStableBy is_below xs ys → IsStableByKey path_of byte_order (map owned_at xs) (map owned_at ys)
+stable_by xs ys d stable o =
+    let p : Owned → Bool = ties (λ a b. is_lt (byte_order (path_of a) (path_of b))) o in
+    filter_through p ys ∙ ap (map owned_at) (stable (record d { now = o })) ∙ sym (filter_through p xs)
+
+-- paths whose references keep their order where they tie
+pub stable_through : (xs ys : List (Bor Owned)) → IsStableBy is_below xs ys → IsStableByKey path_of byte_order (map owned_at xs) (map owned_at ys)
+stable_through [] [] stable o = refl
+stable_through [] (y ∷ ys) stable o = stable_by [] (y ∷ ys) y stable o
+stable_through (x ∷ xs) ys stable o = stable_by (x ∷ xs) ys x stable o
 
 -- ---- the same members
 

@@ -58,7 +58,8 @@ folder_of p es = folder (held_by es) (id_of p)
 abbrev pub SortedRecordsAreReadBack : Type 0
 SortedRecordsAreReadBack =
     (p : Installed) (es : List Entry) → AreNamed p.package_is.facts → IsRecordable p →
-    AreDistinct (paths p) → AreFolderFiles p es → (sorted : List Owned) × AreInOrder p.owned sorted ×
+    AreDistinct (paths p) → AreFolderFiles p es →
+    (sorted : List Owned) × AreInOrder p.owned sorted ×
     Says (folder_of p es) (installed_with p.package_is sorted)
 
 -- Where the paths rise, they say the package itself.

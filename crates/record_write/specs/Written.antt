@@ -1,7 +1,7 @@
 -- What is written of an installed package: a text for each field, and the files that have them.
 use Rattle.std.specs.Prelude.{◌≡◌, ◌||◌, ℕ, Bool, true, false, List, [], ◌∷◌, ◌++◌, if◌then◌else◌}
 use Rattle.std.specs.List.{flat_map}
-use Rattle.std.specs.List.Sorted.{IsPermutation, IsSortedByKey}
+use Rattle.std.specs.List.Sorted.{IsPermutation, IsSortedByKey, IsStableByKey}
 use Rattle.pms_names.specs.Flags.{byte_order}
 use Rattle.dep_group.specs.Words.{spaced}
 use Rattle.dep_tree.specs.Texts as dependencies
@@ -54,10 +54,11 @@ fields = needs Bdepend ∷ contents ∷ needs Depend ∷ eapi ∷ needs Idepend 
 abbrev pub folder_files : Installed → List Entry
 folder_files p = flat_map (file_if_written p) fields
 
--- the same paths, in byte order
+-- the same paths, in byte order; what is owned twice keeps its order
 pub record AreInOrder (owned sorted : List Owned) : Type 0 where
   pub all : IsPermutation owned sorted
   pub rising : IsSortedByKey path_of byte_order sorted
+  pub stable : IsStableByKey path_of byte_order owned sorted
 
 -- the package that owns these paths
 abbrev pub installed_with : Package → List Owned → Installed

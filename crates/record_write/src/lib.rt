@@ -4,9 +4,11 @@
 //! **A contract sees** an installed package as plain data, and the files as entries.
 //!
 //! **Proved**: the files are exactly those of the package, in byte order of their names, each with
-//! its one text; a folder of just these files says the package, so that it is read back.
+//! its one text. A folder of just these files says the package, so that it is read back; and what
+//! any folder says can be written. The flags that a record has are the enabled ones of the package's
+//! own.
 //!
-//! **Only tested**: nothing yet.
+//! **Only tested**: that with ample memory the files of a package are made.
 //!
 //! ```
 //! let files = folder_files(alloc, &installed)?;
