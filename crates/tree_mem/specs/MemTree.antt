@@ -1,5 +1,5 @@
 -- What the clauses of a memory tree and a memory sink speak of.
-use Rattle.std.specs.Prelude.{◌≡◌, ◌⊎◌, ◌&&◌, ℕ, Bool, true, false, not, List, IsTrue}
+use Rattle.std.specs.Prelude.{◌≡◌, ◌⊎◌, ◌&&◌, ℕ, Bool, true, false, not, List, IsTrue, if◌then◌else◌}
 use Rattle.file_tree.specs.Disk.{Map, Story, with_touch}
 use Rattle.tree_mem.specs.declared.tree.MemTree.{MemTree}
 use Rattle.tree_mem.specs.Calls.{Counts, call_fails, counted, counts_of, one_more}
@@ -19,6 +19,10 @@ mem_counts t = counts_of t.calls
 -- how many calls failed
 abbrev pub fault_count : MemTree → ℕ
 fault_count t = (mem_counts t).faults
+
+-- how many syncs answered Ok
+abbrev pub mem_syncs : MemTree → ℕ
+mem_syncs t = t.syncs
 
 -- whether the call of this number is to fail
 abbrev pub mem_fails : MemTree → ℕ → Bool
@@ -44,6 +48,10 @@ CountsListed old new = mem_counts new ≡ counted (next_fails old) false (mem_co
 abbrev pub CountsCall : Bool → MemTree → MemTree → Type 0
 CountsCall failed old new =
     mem_counts new ≡ counted failed (failed && not (next_fails old)) (mem_counts old)
+
+-- the syncs after one more, by whether it answered Ok
+abbrev pub CountsSync : Bool → MemTree → MemTree → Type 0
+CountsSync ok old new = mem_syncs new ≡ (if ok then one_more (mem_syncs old) else mem_syncs old)
 
 -- what a failed call that was to change the path leaves: it was to fail, and the path holds what it
 -- held and is touched; or a growth was refused, and only the counts changed

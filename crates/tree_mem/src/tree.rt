@@ -12,6 +12,7 @@ use std::alloc::{AllocError, Global};
 pub struct MemTree {
     disk: MemDisk,
     calls: Calls,
+    syncs: u64,
 }
 
 impl MemTree {
@@ -27,7 +28,7 @@ impl MemTree {
     ghost use Rattle.tree_mem.specs.Fault.{IsMemFault};
     ghost use Rattle.tree_mem.specs.Image.{AllTouched, IsImageFault, chosen};
     ghost use Rattle.tree_mem.specs.MemTree.{IsRefusedBy, IsTouchedBy, SameFailures, mem_counts};
-    ghost use Rattle.tree_mem.specs.MemTree.{mem_fails, mem_holds, mem_story};
+    ghost use Rattle.tree_mem.specs.MemTree.{mem_fails, mem_holds, mem_story, mem_syncs};
 
     /// A tree that holds these objects. Nothing is touched, no call was made, and none is to fail.
     pub fn new(alloc: Global, objects: Vec<(Path, Object)>) -> Result<MemTree, MemFault>
@@ -38,6 +39,7 @@ impl MemTree {
         ensures past { IfOk result (λ t. (mem_story t).past ≡ []) }
         ensures counts { IfOk result (λ t. mem_counts t ≡
             record { calls = 0; faults = 0; refused = 0 }) }
+        ensures syncs { IfOk result (λ t. mem_syncs t ≡ 0) }
         ensures fails { IfOk result (λ t. (n : ℕ) → mem_fails t n ≡ false) }
         ensures fault { IfErr result (IsMemFault (paths objects.items)) }
     {
@@ -45,6 +47,7 @@ impl MemTree {
         Ok(MemTree {
             disk: MemDisk::new(alloc, objects),
             calls: Calls::new(alloc),
+            syncs: 0,
         })
     }
 
@@ -55,6 +58,7 @@ impl MemTree {
         ensures err { OnErr result (SameFailures self.old self.new) }
         ensures story { mem_story self.new ≡ mem_story self.old }
         ensures counts { mem_counts self.new ≡ mem_counts self.old }
+        ensures syncs { mem_syncs self.new ≡ mem_syncs self.old }
     {
         self.calls.fail_at(call)
     }
@@ -64,6 +68,7 @@ impl MemTree {
         ensures fails { (n : ℕ) → mem_fails self.new n ≡ nat_le call n || mem_fails self.old n }
         ensures story { mem_story self.new ≡ mem_story self.old }
         ensures counts { mem_counts self.new ≡ mem_counts self.old }
+        ensures syncs { mem_syncs self.new ≡ mem_syncs self.old }
     {
         self.calls.stop_at(call);
     }
@@ -80,6 +85,13 @@ impl MemTree {
         ensures { result ≡ (mem_counts self.now).refused }
     {
         self.calls.refused()
+    }
+
+    /// How many syncs answered Ok.
+    pub fn syncs(&self) -> u64
+        ensures { result ≡ mem_syncs self.now }
+    {
+        self.syncs
     }
 
     /// All objects, in byte order of their paths.
@@ -102,12 +114,17 @@ impl MemTree {
         ensures past { IfOk result (λ t. (mem_story t).past ≡ []) }
         ensures counts { IfOk result (λ t. mem_counts t ≡
             record { calls = 0; faults = 0; refused = 0 }) }
+        ensures syncs { IfOk result (λ t. mem_syncs t ≡ 0) }
         ensures fails { IfOk result (λ t. (n : ℕ) → mem_fails t n ≡ false) }
         ensures fault { IfErr result (IsImageFault (mem_story self.now).now.touched choice.now) }
     {
         let disk = self.disk.image(choice)?;
         let calls = Calls::new(self.disk.alloc());
-        Ok(MemTree { disk, calls })
+        Ok(MemTree {
+            disk,
+            calls,
+            syncs: 0,
+        })
     }
 
     /// A call that was to change the path fails: the path is touched, where memory allows.
@@ -115,6 +132,7 @@ impl MemTree {
         ensures done { (IsTouchedBy self.old path.now self.new) ⊎ (IsRefusedBy self.old self.new) }
         ensures grows { self.old.calls.faults ≤ self.new.calls.faults }
         ensures rose { Rose self.old.calls.faults self.new.calls.faults }
+        ensures syncs { mem_syncs self.new ≡ mem_syncs self.old }
     {
         match self.disk.touch(path) {
             Ok(()) => self.calls.fail(),
@@ -125,16 +143,16 @@ impl MemTree {
 }
 
 impl Tree for MemTree {
-    ghost use Rattle.std.specs.Prelude.{◌≡◌, ℕ, Some, None, true, is_err, IfOk, IsErr, IsErrOf};
-    ghost use Rattle.std.specs.Prelude.{IsSome, IsTrue, OnErr, OnOk};
+    ghost use Rattle.std.specs.Prelude.{◌≡◌, ℕ, Some, None, true, is_err, is_ok, IfOk, IsErr};
+    ghost use Rattle.std.specs.Prelude.{IsErrOf, IsSome, IsTrue, OnErr, OnOk};
     ghost use Rattle.std.specs.Cmp.Lexicographic.{slice_cmp};
     ghost use Rattle.std.specs.List.Sorted.{IsStrictlySortedBy};
     ghost use Rattle.std.specs.Ordering.{nat_cmp};
     ghost use Rattle.file_tree.specs.Disk.{CountsFault, Lists, Looks, Moves, Syncs, with_sync};
     ghost use Rattle.file_tree.specs.Disk.{with_write};
     ghost use Rattle.tree_mem.specs.MemTree.{CountsCall, CountsListed, CountsOk, FailsAt};
-    ghost use Rattle.tree_mem.specs.MemTree.{SameFailures, fault_count, mem_holds, mem_story};
-    ghost use Rattle.tree_mem.specs.MemTree.{next_fails};
+    ghost use Rattle.tree_mem.specs.MemTree.{CountsSync, SameFailures, fault_count, mem_holds};
+    ghost use Rattle.tree_mem.specs.MemTree.{mem_story, mem_syncs, next_fails};
 
     ghost tells = { true };
 
@@ -148,6 +166,7 @@ impl Tree for MemTree {
         ensures listed { IsTrue (next_fails self.old) → IsErr result }
         ensures counts { CountsCall (is_err result) self.old self.new }
         ensures plan { SameFailures self.old self.new }
+        ensures syncs { mem_syncs self.new ≡ mem_syncs self.old }
         ensures faults { CountsFault (IsErr result) (fault_count self.old) (fault_count self.new) }
     {
         if self.calls.begin() {
@@ -169,6 +188,7 @@ impl Tree for MemTree {
         ensures listed { IsTrue (next_fails self.old) → IsErrOf result TreeFault.Failed }
         ensures counts { CountsListed self.old self.new }
         ensures plan { SameFailures self.old self.new }
+        ensures syncs { mem_syncs self.new ≡ mem_syncs self.old }
         ensures faults { CountsFault (IsErrOf result TreeFault.Failed) (fault_count self.old)
             (fault_count self.new) }
     {
@@ -187,6 +207,7 @@ impl Tree for MemTree {
         ensures listed { IsTrue (next_fails self.old) → IsErrOf result TreeFault.Failed }
         ensures counts { CountsListed self.old self.new }
         ensures plan { SameFailures self.old self.new }
+        ensures syncs { mem_syncs self.new ≡ mem_syncs self.old }
         ensures faults { CountsFault (IsErrOf result TreeFault.Failed) (fault_count self.old)
             (fault_count self.new) }
     {
@@ -207,6 +228,7 @@ impl Tree for MemTree {
         ensures memory { IsErrOf result TreeFault.Memory → mem_story self.new ≡ mem_story self.old }
         ensures counts { (¬ IsErrOf result TreeFault.Failed) → CountsOk self.old self.new }
         ensures plan { SameFailures self.old self.new }
+        ensures syncs { mem_syncs self.new ≡ mem_syncs self.old }
         ensures faults { CountsFault (IsErrOf result TreeFault.Failed) (fault_count self.old)
             (fault_count self.new) }
     {
@@ -229,6 +251,7 @@ impl Tree for MemTree {
         ensures err { OnErr result (FailsAt self.old to.now self.new) }
         ensures counts { OnOk result (CountsOk self.old self.new) }
         ensures plan { SameFailures self.old self.new }
+        ensures syncs { mem_syncs self.new ≡ mem_syncs self.old }
         ensures faults { CountsFault (IsErr result) (fault_count self.old) (fault_count self.new) }
     {
         if self.calls.begin() {
@@ -251,6 +274,7 @@ impl Tree for MemTree {
         ensures err { OnErr result (FailsAt self.old path.now self.new) }
         ensures counts { OnOk result (CountsOk self.old self.new) }
         ensures plan { SameFailures self.old self.new }
+        ensures syncs { mem_syncs self.new ≡ mem_syncs self.old }
         ensures faults { CountsFault (IsErr result) (fault_count self.old) (fault_count self.new) }
     {
         if self.calls.begin() {
@@ -272,6 +296,7 @@ impl Tree for MemTree {
         ensures listed { IsTrue (next_fails self.old) → IsErr result }
         ensures counts { CountsCall (is_err result) self.old self.new }
         ensures plan { SameFailures self.old self.new }
+        ensures syncs { CountsSync (is_ok result) self.old self.new }
         ensures faults { CountsFault (IsErr result) (fault_count self.old) (fault_count self.new) }
     {
         if self.calls.begin() {
@@ -279,7 +304,10 @@ impl Tree for MemTree {
             return Err(Failed);
         }
         match self.disk.settle() {
-            Ok(()) => Ok(()),
+            Ok(()) => {
+                self.syncs = self.syncs.saturating_add(1);
+                Ok(())
+            }
             Err(_) => {
                 self.calls.refuse();
                 Err(Failed)
