@@ -1,0 +1,6 @@
+pub mod Enter
+pub mod Copied
+pub mod Coming
+pub mod Pairs
+pub mod Ruling
+pub mod Forming

@@ -1,0 +1,13 @@
+use Rattle.std.proofs.Common.{◌≡◌, ap, rules}
+use Rattle.dep_atom.specs.declared.package.PackageId.{PackageId}
+use Rattle.plan_link.proofs.finding.same_id.Goals as goal
+
+one_id : (a b : PackageId) → a.name ≡ b.name → a.version ≡ b.version → a ≡ b
+one_id a b name version i = record { name = name i; version = version i }
+
+pub returns-then-eq : goal.returns-then-eq
+returns-then-eq c =
+    let same : c.args.a.now.name ≡ c.args.b.now.name = search rules in (
+      (λ t. one_id c.args.a.now c.args.b.now same (c.same_version.ensures.0 t)),
+      (λ e. c.same_version.ensures.1 (ap (λ (x : PackageId). x.version) e)),
+    )

@@ -1,0 +1,13 @@
+use Rattle.std.proofs.Common.{drop, map, take}
+use Rattle.std.specs.List.{AllZip}
+use Rattle.plan_text.specs.Plans.{group_value}
+use Rattle.plan_check.specs.Verdicts.{each_from}
+use Rattle.plan_check.proofs.Trying.{Hears}
+use Rattle.plan_link.specs.Faults.{group_rule}
+use Rattle.plan_link.specs.Linked.{IsLinkedGroup}
+use Rattle.plan_link.proofs.linking.link_groups.Given as goal
+
+abbrev pub invariant-loop-g : goal.invariant-loop-g
+invariant-loop-g l =
+    AllZip (IsLinkedGroup l.offered) (take l.g (map group_value l.groups)) l.linked.items
+    × Hears (each_from l.g (drop l.g (map group_value l.groups)) (group_rule l.offered)) (each_from 0 (map group_value l.groups) (group_rule l.offered))

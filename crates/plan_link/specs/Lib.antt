@@ -1,0 +1,5 @@
+pub mod Entering
+pub mod Offers
+pub mod Faults
+pub mod Linked
+pub mod Judged

@@ -1,0 +1,39 @@
+//! From the text of a plan to the plan that it stands for, over the packages that are offered.
+//!
+//! Each addition of the text is the first offered package of its name, version and slots. It comes
+//! with the flags of the text and the implicit ones on, and as it enters: the leaves of its RDEPEND
+//! that ask for a bind take those of the text, in written order, and each other slot operator that
+//! names no subslot is dropped, in all classes. No bind reaches into an any-of group or into one
+//! whose condition isn't met, a block asks for none, and a slot that is written stays.
+//!
+//! **A contract sees** a text as the list of its groups, as `plan_text` has it, and a plan as that of
+//! `plan_check`.
+//!
+//! **Proved**: of a text in form [`link`] gives a plan that is linked to it, group by group and
+//! addition by addition (`IsLinked` of `specs/Linked.antt`). But for want of memory it is refused
+//! exactly where an addition names no offered package, or where it has a flag that its package
+//! doesn't know, for the first such addition and flag (`link_rule` of `specs/Faults.antt`).
+//!
+//! **Only tested**: nothing yet.
+//!
+//! Each addition takes time that is linear in the number of packages that are offered.
+//!
+//! ```
+//! let text = plan_text::Plan::parse(alloc, "plan 1\ngroup 1\nadd c/p-1:0/0\n")?;
+//! let plan = link(alloc, &text, &offered)?;
+//! ```
+#![tactic(auto)]
+
+mod entering;
+mod fault;
+mod finding;
+mod flags;
+mod group;
+mod judging;
+mod linking;
+mod package;
+mod required;
+
+pub use fault::{LinkFault, PlanFault};
+pub use judging::judge_plan;
+pub use linking::link;

@@ -1,0 +1,47 @@
+ghost use Rattle.std.specs.Prelude.{◌≡◌, ◌≢◌, ◌≤◌, IfErr, IfOk, None, Some, length, map};
+ghost use Rattle.plan_text.specs.Plans.{group_value, plan_value};
+ghost use Rattle.plan_text.specs.Texts.{IsPlan};
+ghost use Rattle.plan_link.specs.Faults.{Says, link_rule};
+ghost use Rattle.plan_link.specs.Linked.{IsLinked};
+ghost use Rattle.plan_link.specs.declared.fault.LinkFault.TheVariants.{Memory};
+
+use crate::fault::LinkFault;
+use crate::group::link_group;
+use pkg_state::Pkg;
+use plan_check as check;
+use plan_text::{Group, Plan};
+use std::alloc::Global;
+
+fn link_groups(
+    alloc: Global,
+    offered: &[Pkg],
+    groups: &[Group],
+) -> Result<Vec<check::Group>, LinkFault>
+    requires { length groups.now ≤ 4096 }
+    ensures linked { IfOk result (λ plan.
+        IsLinked offered.now (map group_value groups.now) plan.items) }
+    ensures says { Says (link_rule offered.now (map group_value groups.now)) result }
+{
+    let mut linked = Vec::new(alloc);
+    for (g, group) in groups.iter().enumerate() {
+        linked.push(link_group(alloc, offered, g, group)?)?;
+    }
+    Ok(linked)
+}
+
+/// The plan that the text stands for, over the packages that are offered. Of these the flags that are
+/// on are the implicit ones.
+pub fn link(alloc: Global, text: &Plan, offered: &[Pkg]) -> Result<check::Plan, LinkFault>
+    requires { IsPlan (plan_value text.now) }
+    ensures found { IfOk result (λ plan. IsLinked offered.now (plan_value text.now) plan) }
+    ensures fine { link_rule offered.now (plan_value text.now) None →
+        IfErr result (λ e. e ≡ Memory) }
+    ensures fault { IfErr result (λ e. e ≢ Memory →
+        link_rule offered.now (plan_value text.now) (Some e)) }
+{
+    let groups = link_groups(alloc, offered, &text.groups)?;
+    match check::Plan::new(groups) {
+        Some(plan) => Ok(plan),
+        None => unreachable!(),
+    }
+}

@@ -1,0 +1,52 @@
+ghost use Rattle.std.specs.Prelude.{◌≡◌, IfOk};
+ghost use Rattle.plan_text.specs.Plans.{addition_value};
+ghost use Rattle.plan_link.specs.Offers.{ComesAs, with_flags};
+
+use crate::entering::{closed_tree, entered_tree};
+use crate::flags::flags_on;
+use crate::required::copy_required;
+use dep_atom::Facts;
+use pkg_state::Pkg;
+use plan_text::Addition;
+use pms_names::Flags;
+use std::alloc::{AllocError, Global};
+
+fn facts_with(facts: &Facts, enabled: Flags) -> Result<Facts, AllocError>
+    ensures { IfOk result (λ copy. copy ≡ with_flags enabled facts.now) }
+{
+    let id = facts.id.try_clone()?;
+    let slot = facts.slot.try_clone()?;
+    let subslot = facts.subslot.try_clone()?;
+    let iuse = facts.iuse.try_clone()?;
+    Ok(Facts {
+        id,
+        slot,
+        subslot,
+        iuse,
+        enabled,
+    })
+}
+
+/// The offered package as it enters with the addition.
+pub(crate) fn entering(alloc: Global, addition: &Addition, pkg: &Pkg) -> Result<Pkg, AllocError>
+    ensures { IfOk result (λ q. ComesAs (addition_value addition.now) pkg.now q) }
+{
+    let on = flags_on(&addition.enabled, &pkg.facts.enabled)?;
+    let rdepend = entered_tree(alloc, &pkg.rdepend, &on, &addition.binds)?;
+    let pdepend = closed_tree(alloc, &pkg.pdepend, &on)?;
+    let depend = closed_tree(alloc, &pkg.depend, &on)?;
+    let bdepend = closed_tree(alloc, &pkg.bdepend, &on)?;
+    let idepend = closed_tree(alloc, &pkg.idepend, &on)?;
+    let required_use = copy_required(alloc, &pkg.required_use)?;
+    let facts = facts_with(&pkg.facts, on)?;
+    Ok(Pkg {
+        facts,
+        eapi: pkg.eapi,
+        rdepend,
+        pdepend,
+        depend,
+        bdepend,
+        idepend,
+        required_use,
+    })
+}
