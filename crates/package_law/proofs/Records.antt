@@ -85,7 +85,7 @@ unfolding IsDistinct
 distinct_if [] d = tt
 distinct_if (x ∷ xs) d = (none_same x xs d.0, distinct_if xs d.1)
 
-distinct_moved : (xs ys : List (List ℕ)) → IsPermutation xs ys → AreDistinct xs → AreDistinct ys
+pub distinct_moved : (xs ys : List (List ℕ)) → IsPermutation xs ys → AreDistinct xs → AreDistinct ys
 distinct_moved xs ys perm d = distinct_if ys (IsDistinct-IsPermutation bytes_eq bytes_eq-swap xs ys perm (all_differ xs d))
 
 -- ---- CONTENTS
