@@ -1,111 +1,146 @@
 -- The owners that a book of packages has.
-use Rattle.std.proofs.Common.{◌≡◌, ◌∙◌, ◌+◌, ℕ, zero, suc, Bool, true, false, List, [], ◌∷◌, Option, Some, None, Result, Ok, Err, Vec, Global, inl, inr, map, refl, ap, arith, subst, sym}
-use Rattle.std.specs.Prelude.{IfOk, IsSome, is_some, length, nat_eq, slice_get}
+use Rattle.std.proofs.Common.{◌≡◌, ◌∙◌, ◌+◌, ◌<◌, ℕ, zero, suc, Bool, true, false, List, [], ◌∷◌, ◌++◌, Option, Some, None, Vec, Global, length, take, get_or, inl, inr, map, refl, ap, arith, subst, sym}
+use Rattle.std.specs.Prelude.{IsSome, bytes_eq, if◌then◌else◌, is_some, slice_get}
+use Rattle.std.specs.List.Sorted.{IsStrictlySortedBy}
+use Rattle.std.specs.declared.cmp.Ordering.TheVariants.{Less}
 use Rattle.std.proofs.lemmas.Bool.{cases_Bool, cond-false, cond-true}
-use Rattle.std.proofs.lemmas.Bool.Decides.{nat_tests}
+use Rattle.std.proofs.lemmas.List.{length-take, take_more}
+use Rattle.std.proofs.lemmas.Slice.Eq.{bytes_eq-Decides}
 use Rattle.basics.specs.Members.{Has}
-use Rattle.dep_group.specs.Trees.{Tree, Trees, trees_of}
+use Rattle.basics.proofs.Texts.{bytes_eq-apart, bytes_eq-same}
+use Rattle.pms_names.specs.Flags.{IsRising, byte_order}
+use Rattle.file_tree.specs.Disk.{Map}
 use Rattle.merge_record.specs.Judging.{is_in}
 use Rattle.merge_record.specs.declared.record.OwnerKey.{OwnerKey}
 use Rattle.merge_record.proofs.Form.{has_if_in, in_if_has}
 use Rattle.owner_book.specs.Book.{Book, owner_among, owner_in}
-use Rattle.database_law.specs.Packages.{Installed, paths}
-use Rattle.database_law.specs.Database.{IsDatabase, IsTidy}
-use Rattle.database_read.specs.Machine.{IsOfMachine}
-use Rattle.database_read.specs.declared.fault.DatabaseFault.{DatabaseFault}
-use Rattle.database_read.specs.declared.fault.DatabaseFault.TheVariants as databases
-use Rattle.file_tree.specs.Disk.{Map}
-use Rattle.opening.specs.Faults.{HasNoOpening, Refuses, fault_of}
-use Rattle.opening.specs.Openings.{is_empty, need_nothing}
-use Rattle.opening.specs.Owners.{AreOwners, key_at, keyed}
+use Rattle.database_law.specs.Database.{IsCounted, IsDatabase, IsOf, IsTidy, folder, folder_name}
+use Rattle.database_law.specs.Packages.{Installed, id_of, paths}
+use Rattle.database_law.specs.Step.{Owns}
+use Rattle.database_law.proofs.Places.{all_less, cases_option, counted_dropped, counted_of, none_is_not_some, not_less, one_of_rising, path_free}
+use Rattle.opening.proofs.Below.{one_name}
+use Rattle.claim_law.specs.Owners.{OwnersAre}
+use Rattle.run_law.specs.Openings.{AreOwners, key_among, key_at, place_of}
+use Rattle.opening.specs.Rows.{AreRows, IsRow}
 
-not_zero : (n : ℕ) → nat_eq (suc n) 0 ≡ false
-not_zero n = grind (arith, nat_tests)
+abbrev pub Rows : Type 0
+Rows = List (OwnerKey × Vec (List ℕ) Global)
 
--- no trees are there where none is listed
-pub none_listed : {O L : Type 0} (ts : List (Tree O L)) (n : ℕ) (b : Bool) → b ≡ nat_eq n 0 → n ≡ length ts → b ≡ is_empty (trees_of ts)
-none_listed [] n b is count = is ∙ ap (λ k. nat_eq k 0) count
-none_listed (t ∷ ts) n b is count = is ∙ ap (λ k. nat_eq k 0) count ∙ not_zero (length ts)
+has_if_got : (ps : List Installed) (j : ℕ) (p : Installed) → slice_get ps j ≡ Some p → Has ps p
+has_if_got [] j p e = absurd (cc e)
+has_if_got (x ∷ ps) zero p e = inl (some_same x p e)
+  where
+    some_same : (a b : Installed) → ◌≡◌ {A = Option Installed} (Some a) (Some b) → a ≡ b
+    some_same a b s = cc s
+has_if_got (x ∷ ps) (suc j) p e = inr (has_if_got ps j p e)
 
-abbrev pub Keyed : Type 0
-Keyed = List (OwnerKey × Vec (List ℕ) Global)
+-- the folder of the package at a place is there first
+place_got : (ps : List Installed) (j : ℕ) (p : Installed) → IsRising (map folder_name ps) → slice_get ps j ≡ Some p → place_of (folder_name p) (map folder_name ps) ≡ j
+unfolding IsStrictlySortedBy
+place_got [] j p rising e = absurd (cc e)
+place_got (x ∷ ps) zero p rising e =
+    let same : x ≡ p = cc e in
+    ap (λ (b : Bool). if b then 0 else suc (place_of (folder_name p) (map folder_name ps))) (ap (λ (y : Installed). bytes_eq (folder_name p) (folder_name y)) same ∙ bytes_eq-same (folder_name p))
+place_got (x ∷ ps) (suc j) p rising e =
+    let less = all_less (folder_name x) ps p rising.0 (has_if_got ps j p e) in
+    let apart = bytes_eq-apart (folder_name p) (folder_name x) (λ same. not_less (folder_name x) (folder_name p) (sym same) less) in
+    ap (λ (b : Bool). if b then 0 else suc (place_of (folder_name p) (map folder_name ps))) apart ∙ ap suc (place_got ps j p rising.1 e)
 
-abbrev pub listed : Keyed → List (OwnerKey × List (List ℕ))
-listed os = map (λ o. (o.0, o.1.items)) os
+-- one row more
+rows_behind : (m : Map) (place : ℕ) (ps : List Installed) (rows : Rows) (p : Installed) (row : OwnerKey × Vec (List ℕ) Global) → AreRows m place ps rows → IsRow m (place + length ps) p row.0 row.1.items → AreRows m place (ps ++ p ∷ []) (rows ++ row ∷ [])
+rows_behind m place [] [] p row are is = let at : place + 0 ≡ place = omega arith in (subst (λ (n : ℕ). IsRow m n p row.0 row.1.items) at is, tt)
+rows_behind m place [] (o ∷ os) p row are is = absurd are
+rows_behind m place (x ∷ ps) [] p row are is = absurd are
+rows_behind m place (x ∷ ps) (o ∷ os) p row are is =
+    let at : place + suc (length ps) ≡ (place + 1) + length ps = omega arith in
+    (are.0, rows_behind m (place + 1) ps os p row are.1 (subst (λ (n : ℕ). IsRow m n p row.0 row.1.items) at is))
 
-abbrev Rows : Type 0
-Rows = List (OwnerKey × List (List ℕ))
+pub rows_more : (m : Map) (ps : List Installed) (i : ℕ) (p : Installed) (rows new : Rows) (row : OwnerKey × Vec (List ℕ) Global) → i < length ps → p ≡ get_or ps i p → AreRows m 0 (take i ps) rows → IsRow m i p row.0 row.1.items → new ≡ rows ++ row ∷ [] → AreRows m 0 (take (i + 1) ps) new
+rows_more m ps i p rows new row lt at are is made =
+    let front : take (i + 1) ps ≡ take i ps ++ p ∷ [] = take_more ps i p lt ∙ ap (λ (x : Installed). take i ps ++ x ∷ []) (sym at) in
+    let place : i ≡ 0 + length (take i ps) = omega (arith, length-take i ps) in
+    subst (λ (l : List Installed). AreRows m 0 l new) (sym front) (subst (λ (r : Rows). AreRows m 0 (take i ps ++ p ∷ []) r) (sym made)
+    (rows_behind m 0 (take i ps) rows p row are (subst (λ (n : ℕ). IsRow m n p row.0 row.1.items) place is)))
 
-abbrev first_key : Rows → OwnerKey
-first_key [] = key_at 0
-first_key (r ∷ rs) = r.0
-
-abbrev first_paths : Rows → List (List ℕ)
-first_paths [] = []
-first_paths (r ∷ rs) = r.1
-
-abbrev others : Rows → Rows
-others [] = []
-others (r ∷ rs) = rs
-
--- the path has an owner where a package of the list has it
-mine_in : (place : ℕ) (ps : List Installed) (os : Keyed) (p : Installed) (q : List ℕ) → listed os ≡ keyed place ps → Has ps p → Has (paths p) q → IsSome (owner_among os q)
-mine_in place [] os p q are here owns = absurd here
-mine_in place (x ∷ ps) [] p q are here owns = absurd (cc are)
-mine_in place (x ∷ ps) (o ∷ os) p q are here owns =
-    let paths_are : o.1.items ≡ paths x = ap first_paths are in
+-- the path has an owner where a package of the list owns it
+mine_in : (m : Map) (place : ℕ) (ps : List Installed) (rows : Rows) (p : Installed) (q : List ℕ) → AreRows m place ps rows → Has ps p → Owns m p q → IsSome (owner_among rows q)
+mine_in m place [] rows p q are here owns = absurd here
+mine_in m place (x ∷ ps) [] p q are here owns = absurd are
+mine_in m place (x ∷ ps) (o ∷ os) p q are here owns =
     elim (cases_Bool (is_in o.1.items q)) [
       | inl e ↦ ap is_some (cond-true (is_in o.1.items q) (Some o.0) (owner_among os q) e)
       | inr e ↦ (
-          let rest = ap others are in
           ap is_some (cond-false (is_in o.1.items q) (Some o.0) (owner_among os q) e)
           ∙ elim here [
-            | inl same ↦ absurd (let there = in_if_has o.1.items q (subst (λ (l : List (List ℕ)). Has l q) (sym (paths_are ∙ ap paths same)) owns) in cc (there, e))
-            | inr other ↦ mine_in (place + 1) ps os p q rest other owns
+            | inl same ↦ absurd (let there = in_if_has o.1.items q ((are.0.owned q).1 (subst (λ (y : Installed). Owns m y q) (sym same) owns)) in cc (there, e))
+            | inr other ↦ mine_in m (place + 1) ps os p q are.1 other owns
           ])
     ]
 
--- the owner of a path is a package of the list that has it
-only_in : (place : ℕ) (ps : List Installed) (os : Keyed) (q : List ℕ) (k : OwnerKey) → listed os ≡ keyed place ps → owner_among os q ≡ Some k
-    → (j : ℕ) × (k.number ≡ place + j) × ((p : Installed) × (slice_get ps j ≡ Some p) × Has (paths p) q)
-only_in place [] [] q k are e = absurd (cc e)
-only_in place [] (o ∷ os) q k are e = absurd (cc are)
-only_in place (x ∷ ps) [] q k are e = absurd (cc are)
-only_in place (x ∷ ps) (o ∷ os) q k are e =
+-- the owner of a path is a package of the list that owns it, by its place
+record IsFound (m : Map) (place : ℕ) (ps : List Installed) (q : List ℕ) (k : OwnerKey) : Type 0 where
+  behind : ℕ
+  keyed : k ≡ key_at (place + behind)
+  «package» : Installed
+  there : slice_get ps behind ≡ Some «package»
+  owns : Owns m «package» q
+
+only_in : (m : Map) (place : ℕ) (ps : List Installed) (rows : Rows) (q : List ℕ) (k : OwnerKey) → AreRows m place ps rows → owner_among rows q ≡ Some k → IsFound m place ps q k
+only_in m place [] [] q k are e = absurd (cc e)
+only_in m place [] (o ∷ os) q k are e = absurd are
+only_in m place (x ∷ ps) [] q k are e = absurd are
+only_in m place (x ∷ ps) (o ∷ os) q k are e =
     elim (cases_Bool (is_in o.1.items q)) [
       | inl there ↦ (
           let is : Some o.0 ≡ Some k = sym (cond-true (is_in o.1.items q) (Some o.0) (owner_among os q) there) ∙ e in
           let same : o.0 ≡ k = cc is in
-          let number : k.number ≡ place = ap (λ (y : OwnerKey). y.number) (sym same ∙ ap first_key are) in
-          (0, omega (arith, number), (x, refl, subst (λ (l : List (List ℕ)). Has l q) (ap first_paths are) (has_if_in o.1.items q there))))
+          let at : place ≡ place + 0 = omega arith in
+          record { behind = 0; keyed = sym same ∙ (are.0.keyed ∙ ap key_at at); «package» = x; there = refl; owns = (are.0.owned q).0 (has_if_in o.1.items q there) })
       | inr none ↦ (
-          let rest = only_in (place + 1) ps os q k (ap others are) (sym (cond-false (is_in o.1.items q) (Some o.0) (owner_among os q) none) ∙ e) in
-          (suc rest.0, omega (arith, rest.1), rest.2))
+          let rest = only_in m (place + 1) ps os q k are.1 (sym (cond-false (is_in o.1.items q) (Some o.0) (owner_among os q) none) ∙ e) in
+          let at : (place + 1) + rest.behind ≡ place + suc rest.behind = omega arith in
+          record { behind = suc rest.behind; keyed = rest.keyed ∙ ap key_at at; «package» = rest.«package»; there = rest.there; owns = rest.owns })
     ]
 
-pub owners_ok : {E : Type 0} (ps : List Installed) (os : Keyed) (r : Result Book E) → listed os ≡ keyed 0 ps → IfOk r (λ b. (q : List ℕ) → owner_in b.owned q ≡ owner_among os q) → IfOk r (λ b. b.claims ≡ []) → IfOk r (AreOwners ps)
-owners_ok ps os (Ok b) are owners claims = record {
-  unclaimed = claims;
-  mine = λ p q here owns. ap is_some (owners q) ∙ mine_in 0 ps os p q are here owns;
-  only = λ q k e.
-      (let found = only_in 0 ps os q k are (sym (owners q) ∙ e) in
-      let at : found.0 ≡ k.number = omega (arith, found.1) in
-      (found.2.0, subst (λ (j : ℕ). slice_get ps j ≡ Some found.2.0) at found.2.1, found.2.2));
-}
-owners_ok ps os (Err e) are owners claims = tt
+module _ (m : Map) (ps : List Installed) (db : IsDatabase m ps) (tidy : IsTidy ps) where
+  in_own : (r : Installed) (q : List ℕ) → Has ps r → IsOf (id_of r) q → IsCounted q
+  in_own r q has is = subst IsCounted (sym is.1) (counted_of (id_of r) is.0 (db.ids r has))
 
--- a fault of the database is what the tree is refused for
-pub refused_by : (m : Map) (e : DatabaseFault) → ((ps : List Installed) → IsDatabase m ps → IsTidy ps → IsOfMachine e) → Refuses m (fault_of e)
-refused_by m databases.Failed h = tt
-refused_by m databases.Memory h = tt
-refused_by m (databases.Name p) h = λ ps o plain. absurd (elim (h ps o.database o.tidy) [ inl x ↦ cc x | inr x ↦ cc x ])
-refused_by m (databases.Missing p) h = λ ps o plain. absurd (elim (h ps o.database o.tidy) [ inl x ↦ cc x | inr x ↦ cc x ])
-refused_by m (databases.Eapi p) h = λ ps o plain. absurd (elim (h ps o.database o.tidy) [ inl x ↦ cc x | inr x ↦ cc x ])
-refused_by m (databases.Text p line) h = λ ps o plain. absurd (elim (h ps o.database o.tidy) [ inl x ↦ cc x | inr x ↦ cc x ])
-refused_by m (databases.Dep p at) h = λ ps o plain. absurd (elim (h ps o.database o.tidy) [ inl x ↦ cc x | inr x ↦ cc x ])
-refused_by m (databases.OwnedTwice p) h = λ ps o plain. absurd (elim (h ps o.database o.tidy) [ inl x ↦ cc x | inr x ↦ cc x ])
-refused_by m (databases.Nested p q) h = λ ps o plain. absurd (elim (h ps o.database o.tidy) [ inl x ↦ cc x | inr x ↦ cc x ])
+  -- what is recorded is in no package's folder
+  recorded_outside : (p r : Installed) (q : List ℕ) → Has ps p → Has ps r → Has (paths p) q → IsOf (id_of r) q → ⊥
+  recorded_outside p r q hp hr recorded is =
+      let dropped = counted_dropped q (in_own r q hr is) in
+      let free = path_free (folder m (id_of p)) p q (db.says p hp) recorded in
+      cc (dropped, free)
 
--- packages that need something are no others that need nothing
-pub refused_for : (m : Map) (vs : List Installed) → ((ps : List Installed) → IsDatabase m ps → IsTidy ps → vs ≡ ps) → need_nothing vs ≡ false → HasNoOpening m
-refused_for m vs one some ps o plain = cc (some, plain, ap need_nothing (one ps o.database o.tidy))
+  one_folder : (p r : Installed) (q : List ℕ) → Has ps p → Has ps r → IsOf (id_of p) q → IsOf (id_of r) q → folder_name p ≡ folder_name r
+  one_folder p r q hp hr a b = one_name (id_of p) (id_of r) a.0 b.0 (db.ids p hp) (db.ids r hr) (sym a.1 ∙ b.1)
+
+  -- no path has two owners
+  one_owner : (p r : Installed) (q : List ℕ) → Has ps p → Has ps r → Owns m p q → Owns m r q → p ≡ r
+  one_owner p r q hp hr (inl a) (inl b) = tidy.once p r q hp hr a b
+  one_owner p r q hp hr (inl a) (inr b) = absurd (recorded_outside p r q hp hr a b.0)
+  one_owner p r q hp hr (inr a) (inl b) = absurd (recorded_outside r p q hr hp b a.0)
+  one_owner p r q hp hr (inr a) (inr b) = one_of_rising ps p r db.rising hp hr (one_folder p r q hp hr a.0 b.0)
+
+  found_key : (q : List ℕ) (k : OwnerKey) (f : IsFound m 0 ps q k) → k ≡ key_among ps f.«package»
+  found_key q k f =
+      let at : 0 + f.behind ≡ f.behind = omega arith in
+      f.keyed ∙ (ap key_at at ∙ ap key_at (sym (place_got ps f.behind f.«package» db.rising f.there)))
+
+  owners_are : (rows : Rows) (own : List ℕ → Option OwnerKey) → AreRows m 0 ps rows → ((q : List ℕ) → own q ≡ owner_among rows q) → OwnersAre (key_among ps) m ps own
+  owners_are rows own are same = record {
+    mine = λ p q has owns. elim (cases_option (owner_among rows q)) [
+      | inl none ↦ absurd (none_is_not_some (owner_among rows q) none (mine_in m 0 ps rows p q are has owns))
+      | inr one ↦ (
+          let f = only_in m 0 ps rows q one.0 are one.1 in
+          let mine : f.«package» ≡ p = one_owner f.«package» p q (has_if_got ps f.behind f.«package» f.there) has f.owns owns in
+          same q ∙ (one.1 ∙ ap Some (found_key q one.0 f ∙ ap (key_among ps) mine)))
+    ];
+    only = λ q k e.
+        (let f = only_in m 0 ps rows q k are (sym (same q) ∙ e) in
+        (f.«package», has_if_got ps f.behind f.«package» f.there, f.owns, sym (found_key q k f)));
+  }
+
+  pub owners_of : (rows : Rows) (b : Book) → AreRows m 0 ps rows → ((q : List ℕ) → owner_in b.owned q ≡ owner_among rows q) → b.claims ≡ [] → AreOwners m ps b
+  owners_of rows b are owners claims = record { unclaimed = claims; owners = owners_are rows (owner_in b.owned) are owners }

@@ -1,3 +1,4 @@
-pub mod Openings
-pub mod Owners
+pub mod Matched
+pub mod Order
+pub mod Rows
 pub mod Faults

@@ -2,7 +2,8 @@ ghost use Rattle.std.specs.Prelude.{◌≡◌, IfOk, bytes_eq, string_bytes};
 ghost use Rattle.dep_atom.specs.Ids.{id_text};
 ghost use Rattle.dep_atom.specs.Values.{atom_value};
 ghost use Rattle.pkg_state.specs.Package.{line_of};
-ghost use Rattle.opening.specs.Openings.{is_matched, is_taken, takes_place};
+ghost use Rattle.run_law.specs.Openings.{is_taken, takes_place};
+ghost use Rattle.opening.specs.Matched.{is_matched};
 
 use dep_atom::{Atom, Facts};
 use pkg_state::{LineName, Pkg};
@@ -45,7 +46,11 @@ fn takes_place(
 
 /// Whether one of the packages is on the line of the package that is to come, or has its name and
 /// version.
-pub fn is_taken(alloc: Global, facts: &Facts, packages: &[Installed]) -> Result<bool, AllocError>
+pub(crate) fn is_taken(
+    alloc: Global,
+    facts: &Facts,
+    packages: &[Installed],
+) -> Result<bool, AllocError>
     ensures { IfOk result (λ b. b ≡ is_taken facts.now packages.now) }
 {
     let line = LineName::new(alloc, &facts.id.name, &facts.slot)?;

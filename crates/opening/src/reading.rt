@@ -1,29 +1,37 @@
-ghost use Rattle.std.specs.Prelude.{◌≡◌, true, IfErr, IfOk, IsErrOf, IsTrue};
+ghost use Rattle.std.specs.Prelude.{◌≡◌, [], List, IfErr, IfOk, IsErrOf, IsTrue, MatchResult};
+ghost use Rattle.database_law.specs.Packages.{Installed as InstalledValue};
 ghost use Rattle.file_tree.specs.Disk.{CountsFault};
-ghost use Rattle.opening.specs.Faults.{Refuses};
-ghost use Rattle.opening.specs.Openings.{HasOpening, need_nothing};
+ghost use Rattle.pkg_state.specs.Consistent.{AreConsistent};
+ghost use Rattle.run_law.specs.Openings.{AreOwners, HasOpening, packages_of};
+ghost use Rattle.opening.specs.Faults.{IsOfMachine, Refuses};
 
 use crate::fault::OpeningFault;
-use crate::needs::need_nothing;
+use crate::judging::judged;
+use crate::opened::Opening;
+use crate::owners::book_of;
 use database_read::read_database;
 use file_tree::Tree;
-use record_read::Installed;
 use std::alloc::Global;
 
-/// The installed packages of a tree, in byte order of their folders, where none of them needs
-/// anything.
-pub fn read_opening<T: Tree>(alloc: Global, tree: &mut T) -> Result<Vec<Installed>, OpeningFault>
+/// What a run with this tree begins with. First come the faults of the database, then that its
+/// packages don't go together.
+pub fn read_opening<T: Tree>(alloc: Global, tree: &mut T) -> Result<Opening, OpeningFault>
     ensures found { IsTrue T.tells → IfOk result
-        (λ v. HasOpening (T.story tree.old).now.holds v.items) }
-    ensures plain { IfOk result (λ v. need_nothing v.items ≡ true) }
+        (λ o. HasOpening (T.story tree.old).now.holds o.packages.items) }
+    ensures consistent { IfOk result (λ o. AreConsistent (packages_of o.packages.items)) }
+    ensures owners { IsTrue T.tells → IfOk result
+        (λ o. AreOwners (T.story tree.old).now.holds o.packages.items o.book) }
+    ensures unclaimed { IfOk result (λ o. o.book.claims ≡ []) }
+    ensures only { IsTrue T.tells → (ps : List InstalledValue) →
+        HasOpening (T.story tree.old).now.holds ps →
+        MatchResult result (λ o. o.packages.items ≡ ps) IsOfMachine }
     ensures refused { IsTrue T.tells → IfErr result (Refuses (T.story tree.old).now.holds) }
     ensures same { IsTrue T.tells → T.story tree.new ≡ T.story tree.old }
     ensures faults { CountsFault (IsErrOf result OpeningFault.Failed) (T.faults tree.old)
         (T.faults tree.new) }
 {
-    let packages = read_database(alloc, tree)?;
-    if !need_nothing(&packages) {
-        return Err(OpeningFault::Other);
-    }
-    Ok(packages)
+    let found = read_database(alloc, tree)?;
+    let packages = judged(alloc, found)?;
+    let book = book_of(alloc, tree, &packages)?;
+    Ok(Opening { packages, book })
 }

@@ -1,5 +1,5 @@
 use Rattle.std.proofs.Common.{◌≡◌, drop}
-use Rattle.opening.specs.Openings.{is_taken}
+use Rattle.run_law.specs.Openings.{is_taken}
 use Rattle.opening.proofs.places.is_taken.Given as goal
 
 abbrev pub invariant-loop-package : goal.invariant-loop-package

@@ -1,0 +1,89 @@
+-- Packages that change their places stay as consistent as they are.
+use Rattle.std.proofs.Common.{◌≡◌, ◌∙◌, ◌<◌, ◌+◌, ◌||◌, ℕ, zero, suc, Bool, true, false, List, [], ◌∷◌, length, get_or, map, inl, inr, refl, ap, sym, subst, arith}
+use Rattle.std.specs.Prelude.{bytes_eq}
+use Rattle.std.specs.Cmp.{IsTotalOrder}
+use Rattle.std.specs.List.{AllByRecursion, IsDistinct, list_any}
+use Rattle.std.specs.List.Sorted.{IsPermutation, IsSortedBy}
+use Rattle.std.proofs.lemmas.Cmp.{nat_list_cmp_total, on_total, then_total}
+use Rattle.std.proofs.lemmas.List.{length-map}
+use Rattle.std.proofs.lemmas.List.Sorted.{Contains-permutation, IsPermutation-map, IsPermutation-sym, list_any-IsPermutation}
+use Rattle.std.proofs.lemmas.Map.Keys.{IsDistinct-IsPermutation}
+use Rattle.std.proofs.lemmas.Slice.Eq.{bytes_eq-Decides}
+use Rattle.version_text.specs.Grammar.{spelling}
+use Rattle.basics.specs.Members.{AreDistinct, Has}
+use Rattle.basics.proofs.Membership.{contains-from_has, has-from_contains}
+use Rattle.basics.proofs.Texts.{bytes_eq-apart, bytes_eq-swap}
+use Rattle.pms_names.specs.Flags.{has}
+use Rattle.dep_atom.specs.Match.{value_matches}
+use Rattle.dep_atom.specs.Values.{AtomValue}
+use Rattle.dep_atom.specs.declared.package.Facts.{Facts}
+use Rattle.dep_group.specs.Trees.{all_hold}
+use Rattle.dep_tree.specs.Grammar.{is_block}
+use Rattle.dep_tree.specs.Truth.{is_fact, kind}
+use Rattle.pkg_state.specs.Consistent.{AreConsistent, facts_of, is_met}
+use Rattle.pkg_state.specs.Package.{Package, line_of, lines_of, tree_of}
+use Rattle.pkg_state.specs.declared.class.Class.{Class}
+use Rattle.pkg_state.specs.declared.class.Class.TheVariants.{Rdepend}
+use Rattle.opening.specs.Order.{line_cmp}
+
+-- the order of lines is total
+pub line_total : IsTotalOrder line_cmp
+line_total = then_total (on_total (λ (p : Package). line_of p.facts) nat_list_cmp_total) (on_total (λ (p : Package). spelling p.facts.id.version) nat_list_cmp_total)
+
+-- elements that ascend by what they say
+pub sorted_through : {A B : Type 0} (f : A → B) (lt : B → B → Bool) (xs : List A) → IsSortedBy (λ a b. lt (f a) (f b)) xs → IsSortedBy lt (map f xs)
+sorted_through f lt [] sorted k d low less = absurd (omega (arith, less))
+sorted_through {A} {B} f lt (x ∷ xs) sorted k d low less =
+    let within : k + 1 < length (x ∷ xs) = omega (arith, less, length-map xs f) in
+    let here = read_through (x ∷ xs) k d x (omega (arith, within)) in
+    let next = read_through (x ∷ xs) (k + 1) d x within in
+    subst (λ (e : B). lt e (get_or (map f (x ∷ xs)) k d) ≡ false) (sym next)
+    (subst (λ (e : B). lt (f (get_or (x ∷ xs) (k + 1) x)) e ≡ false) (sym here) (sorted k x low within))
+  where
+    read_through : (ys : List A) (i : ℕ) (e : B) (y : A) → i < length ys → get_or (map f ys) i e ≡ f (get_or ys i y)
+    read_through [] i e y lt' = absurd (omega (arith, lt'))
+    read_through (z ∷ ys) zero e y lt' = refl
+    read_through (z ∷ ys) (suc i) e y lt' = read_through ys i e y (omega (arith, lt'))
+
+moved : {A : Type 0} (xs ys : List A) (x : A) → IsPermutation xs ys → Has xs x → Has ys x
+moved xs ys x perm there = has-from_contains ys x (Contains-permutation xs ys x perm (contains-from_has xs x there))
+
+others_differ : (x : List ℕ) (xs : List (List ℕ)) → (Has xs x → ⊥) → AllByRecursion (λ y. bytes_eq x y ≡ false) xs
+others_differ x [] none = tt
+others_differ x (y ∷ ys) none = (bytes_eq-apart x y (λ e. none (inl (sym e))), others_differ x ys (λ there. none (inr there)))
+
+all_differ : (xs : List (List ℕ)) → AreDistinct xs → IsDistinct bytes_eq xs
+unfolding IsDistinct
+all_differ [] d = tt
+all_differ (x ∷ xs) d = (others_differ x xs d.0, all_differ xs d.1)
+
+none_same : (x : List ℕ) (xs : List (List ℕ)) → AllByRecursion (λ y. bytes_eq x y ≡ false) xs → Has xs x → ⊥
+none_same x [] all there = absurd there
+none_same x (y ∷ ys) all (inl e) = cc ((bytes_eq-Decides x y).1 (sym e), all.0)
+none_same x (y ∷ ys) all (inr there) = none_same x ys all.1 there
+
+distinct_if : (xs : List (List ℕ)) → IsDistinct bytes_eq xs → AreDistinct xs
+unfolding IsDistinct
+distinct_if [] d = tt
+distinct_if (x ∷ xs) d = (none_same x xs d.0, distinct_if xs d.1)
+
+distinct_moved : (xs ys : List (List ℕ)) → IsPermutation xs ys → AreDistinct xs → AreDistinct ys
+distinct_moved xs ys perm d = distinct_if ys (IsDistinct-IsPermutation bytes_eq bytes_eq-swap xs ys perm (all_differ xs d))
+
+module _ (ps qs : List Package) (perm : IsPermutation ps qs) where
+  same_fact : (asker : List (List ℕ)) (a : AtomValue) → is_fact (facts_of ps) asker a ≡ is_fact (facts_of qs) asker a
+  same_fact asker a = ap (λ (b : Bool). is_block a || b) (list_any-IsPermutation (λ f. value_matches a f asker) (facts_of ps) (facts_of qs) (IsPermutation-map (λ (p : Package). p.facts) ps qs perm))
+
+  same_met : (p : Package) → is_met (facts_of ps) Rdepend p ≡ is_met (facts_of qs) Rdepend p
+  same_met p = ap (λ (fact : AtomValue → Bool). all_hold kind fact (has p.facts.enabled) (tree_of Rdepend p)) (λ i a. same_fact p.facts.enabled a i)
+
+  back : (p : Package) → Has qs p → Has ps p
+  back p there = moved qs ps p (IsPermutation-sym ps qs perm) there
+
+  pub consistent_moved : AreConsistent ps → AreConsistent qs
+  consistent_moved h = record {
+    apart = distinct_moved (lines_of ps) (lines_of qs) (IsPermutation-map (λ (p : Package). line_of p.facts) ps qs perm) h.apart;
+    required = λ p there. h.required p (back p there);
+    unblocked = λ p q hp hq. h.unblocked p q (back p hp) (back q hq);
+    runtime = λ p there. sym (same_met p) ∙ h.runtime p (back p there);
+  }

@@ -1,0 +1,85 @@
+ghost use Rattle.std.specs.Prelude.{◌≡◌, IfOk};
+ghost use Rattle.dep_group.specs.Trees.{no_trees};
+ghost use Rattle.dep_tree.specs.View.{trees};
+ghost use Rattle.package_law.specs.Records.{needing_nothing};
+ghost use Rattle.required_use.specs.View as required;
+
+use crate::expressions::copy_demand;
+use dep_atom::Facts;
+use dep_tree::DepTree;
+use pkg_state::{Eapi, Pkg};
+use required_use::RequiredUse;
+use std::alloc::{AllocError, Global};
+
+fn copy_facts(facts: &Facts) -> Result<Facts, AllocError>
+    ensures { IfOk result (λ copy. copy ≡ facts.now) }
+{
+    let id = facts.id.try_clone()?;
+    let slot = facts.slot.try_clone()?;
+    let subslot = facts.subslot.try_clone()?;
+    let iuse = facts.iuse.try_clone()?;
+    let enabled = facts.enabled.try_clone()?;
+    Ok(Facts {
+        id,
+        slot,
+        subslot,
+        iuse,
+        enabled,
+    })
+}
+
+/// The same package, in memory of its own.
+pub(crate) fn copy_package(alloc: Global, pkg: &Pkg) -> Result<Pkg, AllocError>
+    ensures { IfOk result (λ copy. copy ≡ pkg.now) }
+{
+    let facts = copy_facts(&pkg.facts)?;
+    let rdepend = pkg.rdepend.try_clone()?;
+    let pdepend = pkg.pdepend.try_clone()?;
+    let depend = pkg.depend.try_clone()?;
+    let bdepend = pkg.bdepend.try_clone()?;
+    let idepend = pkg.idepend.try_clone()?;
+    let required_use = copy_demand(alloc, &pkg.required_use)?;
+    Ok(Pkg {
+        facts,
+        eapi: pkg.eapi,
+        rdepend,
+        pdepend,
+        depend,
+        bdepend,
+        idepend,
+        required_use,
+    })
+}
+
+/// The package with these facts that needs nothing.
+pub(crate) fn needing_nothing(alloc: Global, facts: &Facts) -> Result<Pkg, AllocError>
+    ensures { IfOk result (λ p. p ≡ needing_nothing facts.now) }
+{
+    let facts = copy_facts(facts)?;
+    Ok(Pkg {
+        facts,
+        eapi: Eapi::Eight,
+        rdepend: no_needs(alloc),
+        pdepend: no_needs(alloc),
+        depend: no_needs(alloc),
+        bdepend: no_needs(alloc),
+        idepend: no_needs(alloc),
+        required_use: no_demand(alloc),
+    })
+}
+
+fn no_needs(alloc: Global) -> DepTree
+    ensures { trees result ≡ no_trees }
+{
+    DepTree {
+        nodes: Vec::new(alloc),
+    }
+}
+
+fn no_demand(alloc: Global) -> RequiredUse
+    ensures { required.trees result ≡ no_trees }
+{
+    RequiredUse {
+        nodes: Vec::new(alloc),
+    }
+}
