@@ -9,6 +9,8 @@ mod atoms;
 #[cfg(test)]
 mod gates;
 #[cfg(test)]
+mod openings;
+#[cfg(test)]
 mod second;
 #[cfg(test)]
 mod stops;

@@ -97,8 +97,6 @@ fn trees_that_are_not_built_yet(rt: HostRuntime) -> Result<(), Fail> {
     let other = "var/db/repos/gentoo/metadata/md5-cache/c/q-1";
     let repository = told_beside(alloc, "=c/q-1", other, image)?;
     assert_eq!(rt; repository.as_str(), "20 emerge: NotBuilt: Repository\n");
-    let database = told_beside(alloc, "=c/p-1", "var/db/pkg/c/q-1/SLOT", image)?;
-    assert_eq!(rt; database.as_str(), "20 emerge: NotBuilt: Database\n");
     Ok(())
 }
 

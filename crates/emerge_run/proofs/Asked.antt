@@ -46,11 +46,12 @@ pub word_refused : (words : List (List ℕ)) (m : Map) (image : Order → List E
 word_refused words m image (status.Usage fault) ends = ends
 word_refused words m image (status.NotBuilt part.Command) ends = ends
 word_refused words m image (status.NotBuilt part.Repository) ends = absurd ends
-word_refused words m image (status.NotBuilt part.Database) ends = absurd ends
 word_refused words m image (status.NotBuilt part.Result) ends = absurd ends
 word_refused words m image status.Memory ends = tt
 word_refused words m image (status.Ok groups) ends = absurd ends
+word_refused words m image (status.BadDatabase fault) ends = absurd ends
 word_refused words m image (status.BadJournal fault) ends = absurd ends
+word_refused words m image (status.Inconsistent fault) ends = absurd ends
 word_refused words m image (status.Limit quantity) ends = absurd ends
 word_refused words m image (status.NoCandidate atom reasons) ends = absurd ends
 word_refused words m image (status.Collision c) ends = absurd ends

@@ -1,9 +1,8 @@
 -- How a run chooses a package, or ends without one.
-use Rattle.std.proofs.Common.{◌≡◌, ◌⊎◌, ◌<◌, ℕ, Bool, true, List, [], Result, Ok, Err, inl, inr, length, refl, ap, sym, subst}
+use Rattle.std.proofs.Common.{◌≡◌, ℕ, Bool, true, List, [], Result, Ok, Err, refl, sym, subst}
 use Rattle.std.specs.Prelude.{Contains, IfErr, IfOk, IsErrOf, IsTrue}
 use Rattle.file_tree.specs.Disk.{IsUntouched, Map, Story}
 use Rattle.file_tree.specs.Moments.{Since}
-use Rattle.file_tree.specs.declared.limits.Quantity.TheVariants.{Candidates, Groups, Packages, Paths, RecordBytes}
 use Rattle.file_tree.specs.declared.objects.Entry.{Entry}
 use Rattle.build_pool.specs.declared.orders.Order.{Order}
 use Rattle.dep_atom.specs.Match.{value_matches}
@@ -39,7 +38,9 @@ early_build tells told id status.Memory h = tt
 early_build tells told id (status.Collision c) h = tt
 early_build tells told id (status.BadImage b) h = tt
 early_build tells told id (status.NotBuilt what) h = tt
+early_build tells told id (status.BadDatabase fault) h = tt
 early_build tells told id (status.BadJournal fault) h = tt
+early_build tells told id (status.Inconsistent fault) h = tt
 early_build tells told id status.DeviceFault h = tt
 early_build tells told id status.OutputFault h = absurd h
 early_build tells told id (status.Usage fault) h = tt
@@ -47,7 +48,9 @@ early_build tells told id (status.NoCandidate atom reasons) h = tt
 early_build tells told id (status.Ok groups) h = absurd h
 
 pub early_tree : (r : Refusal) → IsEarly (status_of r)
-early_tree (refusals.NotBuilt what) = tt
+early_tree refusals.OddEntry = tt
+early_tree (refusals.BadDatabase fault) = tt
+early_tree (refusals.Inconsistent fault packages) = tt
 early_tree refusals.Failed = tt
 early_tree refusals.Memory = tt
 
@@ -66,7 +69,9 @@ early_words words (status.Limit quantity) h = tt
 early_words words (status.BuildFailed failed) h = tt
 early_words words (status.Collision c) h = tt
 early_words words (status.BadImage b) h = tt
+early_words words (status.BadDatabase fault) h = tt
 early_words words (status.BadJournal fault) h = tt
+early_words words (status.Inconsistent fault) h = tt
 early_words words status.DeviceFault h = tt
 early_words words status.OutputFault h = absurd h
 early_words words (status.NoCandidate atom reasons) h = tt
@@ -76,7 +81,9 @@ pub usage_build : (tells : Bool) (told : List Entry) (id : PackageId) (s : Statu
 usage_build tells told id s f h e = subst (λ (x : Status). BuildEnds tells told id x) e h
 
 pub usage_tree : (r : Refusal) (f : WordFault) → status_of r ≡ status.Usage f → ⊥
-usage_tree (refusals.NotBuilt what) f e = absurd (cc e)
+usage_tree refusals.OddEntry f e = absurd (cc e)
+usage_tree (refusals.BadDatabase fault) f e = absurd (cc e)
+usage_tree (refusals.Inconsistent fault packages) f e = absurd (cc e)
 usage_tree refusals.Failed f e = absurd (cc e)
 usage_tree refusals.Memory f e = absurd (cc e)
 
@@ -92,10 +99,11 @@ pub not_of_words : (a : AtomValue) (m : Map) (image : Order → List Entry) (s :
 not_of_words a m image (status.Usage fault) asks of = asks
 not_of_words a m image (status.NotBuilt part.Command) asks of = asks
 not_of_words a m image (status.NotBuilt part.Repository) asks of = of
-not_of_words a m image (status.NotBuilt part.Database) asks of = of
 not_of_words a m image (status.NotBuilt part.Result) asks of = of
 not_of_words a m image (status.Ok groups) asks of = of
+not_of_words a m image (status.BadDatabase fault) asks of = of
 not_of_words a m image (status.BadJournal fault) asks of = of
+not_of_words a m image (status.Inconsistent fault) asks of = of
 not_of_words a m image (status.Limit quantity) asks of = of
 not_of_words a m image (status.Collision c) asks of = of
 not_of_words a m image (status.BadImage b) asks of = of
@@ -136,13 +144,13 @@ module _ {B : Type 0} (tells : Bool) (told : B → Order → List Entry) (restin
     has_chosen image ps f entries ready seen = subst (λ (x : Story). HasChosen words image old x ps f entries) (sym same)
         (record { atom = a; asked = asked; moments = since; recovered = recovered; rest = rest; ready = ready; told = seen })
 
-    pub chosen_after : (r : Result Chosen Status) → IfOk r (λ c. IsReady mid.now.holds a c.opening.items c.facts)
+    pub chosen_after : (ps : List Installed) (r : Result Chosen Status) → IfOk r (λ c. IsReady mid.now.holds a ps c.facts)
         → IfOk r (λ c. (b : B) × Contains resting b × IsTold tells (told b (order_of c.facts)) c.addition.image.items)
-        → IfOk r (λ c. OfSomeBuilder tells told resting (λ image. HasChosen words image old new c.opening.items c.facts c.addition.image.items))
-    chosen_after (Ok c) ready (b, has, its) =
+        → IfOk r (λ c. OfSomeBuilder tells told resting (λ image. HasChosen words image old new ps c.facts c.addition.image.items))
+    chosen_after ps (Ok c) ready (b, has, its) =
         let k = seen_image tells (told b) (order_of c.facts) c.addition.image.items its in
-        (b, has, (k.0, k.1, has_chosen k.0 c.opening.items c.facts c.addition.image.items ready k.2))
-    chosen_after (Err s) ready its = tt
+        (b, has, (k.0, k.1, has_chosen k.0 ps c.facts c.addition.image.items ready k.2))
+    chosen_after ps (Err s) ready its = tt
 
     pub ended_after : {X : Type 0} (r : Result X Status) → IfErr r (λ s. OfSomeBuilder tells told resting (λ image. AsksFor a mid.now.holds image s))
         → IfErr r (λ s. OfSomeBuilder tells told resting (λ image. Outcome words image old new [] s))
@@ -153,10 +161,10 @@ module _ {B : Type 0} (tells : Bool) (told : B → Order → List Entry) (restin
     unchanged_after P (Ok x) h = tt
     unchanged_after P (Err s) (b, has, (image, its, asks)) = λ of. absurd (not_of_words a mid.now.holds image s asks of)
 
-pub named_after : (words : List (List ℕ)) (a : AtomValue) (tells : Bool) (opening m : Map) (r : Result Chosen Status) → IsRequest words a → (IsTrue tells → IsRecovered opening m)
-    → IfOk r (λ c. value_matches a c.facts [] ≡ true) → (IsTrue tells → IfOk r (λ c. IsReady m a c.opening.items c.facts)) → IfOk r (λ c. IsNamed words tells opening c.facts.id)
-named_after words a tells opening m (Ok c) asked is matched ready = named_of words a tells opening m c.facts asked is matched (λ t. (c.opening.items, ready t))
-named_after words a tells opening m (Err s) asked is matched ready = tt
+pub named_after : (words : List (List ℕ)) (a : AtomValue) (tells : Bool) (opening m : Map) (ps : List Installed) (r : Result Chosen Status) → IsRequest words a → (IsTrue tells → IsRecovered opening m)
+    → IfOk r (λ c. value_matches a c.facts [] ≡ true) → (IsTrue tells → IfOk r (λ c. IsReady m a ps c.facts)) → IfOk r (λ c. IsNamed words tells opening c.facts.id)
+named_after words a tells opening m ps (Ok c) asked is matched ready = named_of words a tells opening m c.facts asked is matched (λ t. (ps, ready t))
+named_after words a tells opening m ps (Err s) asked is matched ready = tt
 
 pub at_rest : (opening : Map) (s : Story) → IsRecovered opening s.now.holds × IsUntouched s.now → IsAtRest s.now.holds s.now
 at_rest opening s h = record { untouched = h.1; reads = λ q. refl; empty = h.0.cleared }

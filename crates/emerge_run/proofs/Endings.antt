@@ -1,8 +1,8 @@
 -- How a run's outcome comes of its stages.
-use Rattle.std.proofs.Common.{◌≡◌, ◌≢◌, ◌∙◌, ◌⊎◌, ◌<◌, ℕ, Bool, true, false, List, [], length, None, inl, inr, refl, ap, sym, subst}
+use Rattle.std.proofs.Common.{◌≡◌, ◌∙◌, ◌⊎◌, ◌<◌, ℕ, Bool, true, false, List, [], length, None, inl, inr, refl, ap, sym, subst}
 use Rattle.std.specs.Prelude.{Contains, IsTrue, if◌then◌else◌}
-use Rattle.file_tree.specs.Disk.{Disk, Map, Story}
-use Rattle.file_tree.specs.Moments.{Leaves, Since}
+use Rattle.file_tree.specs.Disk.{Map, Story}
+use Rattle.file_tree.specs.Moments.{Since}
 use Rattle.file_tree.specs.Paths.{is_below}
 use Rattle.file_tree.specs.declared.limits.Quantity.TheVariants.{Candidates, Groups, Packages, Paths, RecordBytes}
 use Rattle.file_tree.proofs.Moments.{since_same, since_start, since_then, since_weaker}
@@ -20,11 +20,11 @@ use Rattle.merge_record.specs.Recovered.{IsRecovered}
 use Rattle.recovery.specs.Promise.{IsFaultOf}
 use Rattle.recovery.specs.declared.fault.RecoverFault.{RecoverFault}
 use Rattle.recovery.specs.declared.fault.RecoverFault.TheVariants as recovery
-use Rattle.group_run.specs.Applied.{HasHistory, Recovers}
+use Rattle.group_run.specs.Applied.{Recovers}
 use Rattle.emerge_run.specs.Answers.{Asks, AsksFor, AsksMerge, IsReady}
 use Rattle.emerge_run.specs.Images as images
 use Rattle.image_fit.specs.declared.limits.TheConstants.{MOST_ENTRIES}
-use Rattle.emerge_run.specs.Outcomes.{BuildEnds, HasChosen, HasGroups, IsKept, IsMerge, IsNamed, IsOfTree, IsPackageOf, IsReached, LeavesGroups, MergedTo, OfSomeBuilder, Outcome}
+use Rattle.emerge_run.specs.Outcomes.{BuildEnds, HasChosen, IsKept, IsMerge, IsNamed, IsOfTree, IsReached, MergedTo, OfSomeBuilder, Outcome}
 use Rattle.emerge_run.specs.Package.{MayCome, order_of}
 use Rattle.emerge_run.specs.Refusals.{TreeRefuses, status_of, status_of_recovery}
 use Rattle.emerge_words.specs.declared.request.WordFault.{WordFault}
@@ -32,7 +32,7 @@ use Rattle.emerge_run.specs.Words.{AskForPackage, EndsAtWords, IsOfWords, IsRequ
 use Rattle.emerge_run.proofs.Merged.{has_weaker, leaves_weaker, recovers_weaker}
 use Rattle.emerge_run.specs.declared.refusal.Refusal.{Refusal}
 use Rattle.emerge_run.specs.declared.refusal.Refusal.TheVariants as refusals
-use Rattle.emerge_run.specs.declared.status.Part.TheVariants.{Command, Database, Repository, Result}
+use Rattle.emerge_run.specs.declared.status.Part.TheVariants.{Command, Repository, Result}
 use Rattle.emerge_run.specs.declared.status.Status.{Status}
 use Rattle.emerge_run.specs.declared.status.Status.TheVariants as status
 
@@ -64,7 +64,9 @@ build_asks tells told m a ps f status.Memory ready seen h = (told, (λ t. refl),
 build_asks tells told m a ps f (status.Collision c) ready seen h = absurd h
 build_asks tells told m a ps f (status.BadImage b) ready seen h = absurd h
 build_asks tells told m a ps f (status.NotBuilt what) ready seen h = absurd h
+build_asks tells told m a ps f (status.BadDatabase fault) ready seen h = absurd h
 build_asks tells told m a ps f (status.BadJournal fault) ready seen h = absurd h
+build_asks tells told m a ps f (status.Inconsistent fault) ready seen h = absurd h
 build_asks tells told m a ps f status.DeviceFault ready seen h = absurd h
 build_asks tells told m a ps f status.OutputFault ready seen h = absurd h
 build_asks tells told m a ps f (status.Usage fault) ready seen h = absurd h
@@ -73,10 +75,9 @@ build_asks tells told m a ps f (status.Ok groups) ready seen h = absurd h
 
 -- what a refused tree asks for
 pub tree_asks : (a : AtomValue) (m : Map) (image : Order → List Entry) (r : Refusal) → TreeRefuses m a r → AsksFor a m image (status_of r)
-tree_asks a m image (refusals.NotBuilt Repository) refuses = refuses
-tree_asks a m image (refusals.NotBuilt Database) refuses = refuses
-tree_asks a m image (refusals.NotBuilt Result) refuses = refuses
-tree_asks a m image (refusals.NotBuilt Command) refuses = absurd refuses
+tree_asks a m image refusals.OddEntry refuses = refuses
+tree_asks a m image (refusals.BadDatabase fault) refuses = refuses
+tree_asks a m image (refusals.Inconsistent fault packages) refuses = record { entries = refuses.entries; packages = packages.items; broken = refuses.broken }
 tree_asks a m image refusals.Failed refuses = tt
 tree_asks a m image refusals.Memory refuses = tt
 
@@ -93,11 +94,12 @@ pub words_not_of_tree : (words : List (List ℕ)) (s : Status) → EndsAtWords w
 words_not_of_tree words (status.Usage fault) ends of = of
 words_not_of_tree words (status.NotBuilt Command) ends of = of
 words_not_of_tree words (status.NotBuilt Repository) ends of = ends
-words_not_of_tree words (status.NotBuilt Database) ends of = ends
 words_not_of_tree words (status.NotBuilt Result) ends of = ends
 words_not_of_tree words status.Memory ends of = of
 words_not_of_tree words (status.Ok groups) ends of = ends
+words_not_of_tree words (status.BadDatabase fault) ends of = ends
 words_not_of_tree words (status.BadJournal fault) ends of = ends
+words_not_of_tree words (status.Inconsistent fault) ends of = ends
 words_not_of_tree words (status.Limit quantity) ends of = ends
 words_not_of_tree words (status.NoCandidate atom reasons) ends of = ends
 words_not_of_tree words (status.Collision c) ends of = ends
@@ -144,7 +146,9 @@ asks_after : (words : List (List ℕ)) (a : AtomValue) (opening m : Map) (image 
 asks_after words a opening m image (status.Ok groups) asked is asks = (a, asked, (m, is, asks))
 asks_after words a opening m image (status.Usage fault) asked is asks = absurd asks
 asks_after words a opening m image (status.NotBuilt Command) asked is asks = absurd asks
+asks_after words a opening m image (status.BadDatabase fault) asked is asks = (a, asked, (m, is, asks))
 asks_after words a opening m image (status.BadJournal fault) asked is asks = absurd asks
+asks_after words a opening m image (status.Inconsistent fault) asked is asks = (a, asked, (m, is, asks))
 asks_after words a opening m image (status.Limit Paths) asked is asks = (a, asked, (m, is, asks))
 asks_after words a opening m image (status.Limit Groups) asked is asks = absurd asks.3
 asks_after words a opening m image (status.Limit Packages) asked is asks = absurd asks.3
@@ -153,7 +157,6 @@ asks_after words a opening m image (status.Limit RecordBytes) asked is asks = (a
 asks_after words a opening m image (status.Collision c) asked is asks = (a, asked, (m, is, asks))
 asks_after words a opening m image (status.BadImage b) asked is asks = (a, asked, (m, is, asks))
 asks_after words a opening m image (status.NotBuilt Repository) asked is asks = (a, asked, (m, is, asks))
-asks_after words a opening m image (status.NotBuilt Database) asked is asks = (a, asked, (m, is, asks))
 asks_after words a opening m image (status.NotBuilt Result) asked is asks = (a, asked, (m, is, asks))
 asks_after words a opening m image (status.NoCandidate atom reasons) asked is asks = (a, asked, (m, is, asks))
 asks_after words a opening m image (status.BuildFailed failed) asked is asks = (a, asked, (m, is, asks))
@@ -194,7 +197,9 @@ merge_asks a ps f m image status.DeviceFault ready asks = tt
 merge_asks a ps f m image status.OutputFault ready asks = tt
 merge_asks a ps f m image status.Memory ready asks = tt
 merge_asks a ps f m image (status.Usage fault) ready asks = absurd asks
+merge_asks a ps f m image (status.BadDatabase fault) ready asks = absurd asks
 merge_asks a ps f m image (status.BadJournal fault) ready asks = absurd asks
+merge_asks a ps f m image (status.Inconsistent fault) ready asks = absurd asks
 merge_asks a ps f m image (status.NotBuilt part) ready asks = absurd asks
 merge_asks a ps f m image (status.NoCandidate atom reasons) ready asks = absurd asks
 merge_asks a ps f m image (status.BuildFailed id) ready asks = absurd asks

@@ -2,5 +2,6 @@ pub mod Asked
 pub mod Built
 pub mod Chosen
 pub mod Endings
+pub mod Givens
 pub mod Lines
 pub mod Merged

@@ -70,6 +70,11 @@ pub wrote_weaker : (P Q : PackageId → Type 0) (history acknowledged old new : 
 wrote_weaker P Q history acknowledged old new so (text, named, e) =
     (text, record { line = named.line; named = named_weaker P Q named.line history so named.named; lines = named.lines }, e)
 
+-- only a device's fault stays where its last line can't be written
+pub unwritten_other : (s : Status) → (s ≡ status.DeviceFault → ⊥) → unwritten s ≡ status.OutputFault
+unwritten_other status.DeviceFault other = absurd (other refl)
+unwritten_other s other = refl
+
 -- the last line, whole
 pub last_whole : (s : Status) (line old new : List ℕ) → line ≡ last_line s → new ≡ old ++ line → Wrote (IsLast s s) old new
 last_whole s line old new is wrote = (line, inl (refl, is), wrote)

@@ -8,7 +8,7 @@ use Rattle.file_tree.proofs.Moments.{since_weaker}
 use Rattle.dep_atom.specs.declared.package.Facts.{Facts}
 use Rattle.database_law.specs.Packages.{Installed}
 use Rattle.journal.specs.Group.{Group}
-use Rattle.opening.specs.Owners.{AreOwners, key_at}
+use Rattle.run_law.specs.Openings.{AreOwners, key_at}
 use Rattle.owner_book.specs.Book.{Book}
 use Rattle.merge_site.specs.declared.fault.ClaimStop.{ClaimStop}
 use Rattle.merge_site.specs.declared.fault.ClaimStop.TheVariants as claims
@@ -49,7 +49,7 @@ first_group : (P : Group → Type 0) (groups : List Group) (n : ℕ) → ((x : G
 first_group P [] n of are = absurd (cc are)
 first_group P (x ∷ xs) n of are = (x, of x (inl refl))
 
-module _ (ps : List Installed) (f : Facts) (image : List Entry) (book : Book) (owners : AreOwners ps book) (old new : Story) (history : List ℕ) (end : Result ⊤ Stop) where
+module _ (ps : List Installed) (f : Facts) (image : List Entry) (book : Book) (old new : Story) (owners : AreOwners old.now.holds ps book) (history : List ℕ) (end : Result ⊤ Stop) where
   abbrev m : Map
   m = old.now.holds
 

@@ -20,26 +20,28 @@ use Rattle.recovery.specs.Promise.{IsFaultOf}
 use Rattle.recovery.specs.declared.fault.RecoverFault.{RecoverFault}
 use Rattle.recovery.specs.declared.fault.RecoverFault.TheVariants as recovery
 use Rattle.database_law.specs.Packages.{Installed}
-use Rattle.opening.specs.Faults.{HasNoOpening}
-use Rattle.opening.specs.Openings.{HasOpening, is_matched, is_taken, need_nothing}
+use Rattle.database_read.specs.declared.fault.DatabaseFault.{DatabaseFault}
+use Rattle.pkg_state.specs.declared.broken.Broken.{Broken}
+use Rattle.run_law.specs.Openings.{HasOpening, MayJoin}
+use Rattle.opening.specs.Faults.{IsBadDatabase, IsInconsistent}
+use Rattle.opening.specs.Matched.{is_matched}
 use Rattle.visible_set.specs.Candidates.{AreOffers, HasOddEntry, IsChosen}
 use Rattle.emerge_run.specs.Package.{MayCome, StopsAt, order_of}
 use Rattle.emerge_run.specs.Words.{AskForOther, AskForPackage, IsRequest, IsUsage}
 use Rattle.emerge_run.specs.declared.judge.Standing.{Standing}
-use Rattle.emerge_run.specs.declared.judge.Standing.TheVariants.{Chosen, Met, Unmatched}
+use Rattle.emerge_run.specs.declared.judge.Standing.TheVariants.{Barred, Chosen, Met, Unmatched}
 use Rattle.emerge_run.specs.declared.status.Part.{Part}
-use Rattle.emerge_run.specs.declared.status.Part.TheVariants.{Command, Repository, Database, Result}
+use Rattle.emerge_run.specs.declared.status.Part.TheVariants.{Command, Repository, Result}
 use Rattle.emerge_run.specs.declared.status.Reason.{Reason}
 use Rattle.emerge_run.specs.declared.status.Reason.TheVariants.{NotMatched}
 use Rattle.emerge_run.specs.declared.status.Status.{Status}
 use Rattle.emerge_run.specs.declared.status.Status.TheVariants as status
 
 -- each candidate of the atom's name has its entry in the one form that is read, and these are the
--- installed packages, none of which needs anything
+-- installed packages, which go together
 pub record IsRead (m : Map) (a : AtomValue) (ps : List Installed) : Type 0 where
   pub entries : HasOddEntry m a.name → ⊥
   pub opening : HasOpening m ps
-  pub plain : need_nothing ps ≡ true
 
 -- the atom matches one of the installed packages
 abbrev pub IsMet : Map → AtomValue → Type 0
@@ -50,11 +52,11 @@ pub record IsOpen (m : Map) (a : AtomValue) (ps : List Installed) : Type 0 where
   pub read : IsRead m a ps
   pub unmet : is_matched a ps ≡ false
 
--- the same, and the atom chooses this candidate, whose place none of them takes
+-- the same, and the atom chooses this candidate, which may join them
 pub record IsReady (m : Map) (a : AtomValue) (ps : List Installed) (f : Facts) : Type 0 where
   pub open_to : IsOpen m a ps
   pub chosen : IsChosen m a f
-  pub free : is_taken f ps ≡ false
+  pub joins : MayJoin f ps
 
 -- why the atom doesn't choose a candidate that could be read
 abbrev pub not_matched : Facts → PackageId × Reason
@@ -70,32 +72,44 @@ pub record HasNone (m : Map) (a : AtomValue) (reasons : List (PackageId × Reaso
   pub none : AllByRecursion (λ f. value_matches a f [] ≡ false) offers
   pub told : reasons ≡ map not_matched offers
 
--- how a recovered tree stands to an atom
-abbrev pub Stands : Map → AtomValue → Standing → Type 0
-Stands m a Met = IsMet m a
-Stands m a (Chosen f packages) = IsReady m a packages.items f
-Stands m a (Unmatched reasons) = HasNone m a reasons.items
-
--- a candidate that was chosen is one that the atom matches, whatever the tree tells
-abbrev pub HasMatched : AtomValue → Standing → Type 0
-HasMatched a Met = Unit {0}
-HasMatched a (Chosen f packages) = value_matches a f [] ≡ true
-HasMatched a (Unmatched reasons) = Unit {0}
-
--- the atom chooses a candidate whose place an installed package takes
-pub record IsTakenFor (m : Map) (a : AtomValue) : Type 0 where
+-- the atom chooses a candidate that may not join the installed packages
+pub record IsBarred (m : Map) (a : AtomValue) : Type 0 where
   pub packages : List Installed
   pub open_to : IsOpen m a packages
   pub facts : Facts
   pub chosen : IsChosen m a facts
-  pub taken : is_taken facts packages ≡ true
+  pub barred : ¬ MayJoin facts packages
 
--- what a recovered tree is refused for, the first in this order
+-- how a recovered tree with these packages stands to an atom
+abbrev pub Stands : Map → AtomValue → List Installed → Standing → Type 0
+Stands m a ps Met = IsMet m a
+Stands m a ps (Chosen f) = IsReady m a ps f
+Stands m a ps Barred = IsBarred m a
+Stands m a ps (Unmatched reasons) = HasNone m a reasons.items
+
+-- a candidate that was chosen is one that the atom matches, whatever the tree tells
+abbrev pub HasMatched : AtomValue → Standing → Type 0
+HasMatched a Met = Unit {0}
+HasMatched a (Chosen f) = value_matches a f [] ≡ true
+HasMatched a Barred = Unit {0}
+HasMatched a (Unmatched reasons) = Unit {0}
+
+-- the entries are in form, and this is the first fault of the database
+pub record HasBadDatabase (m : Map) (a : AtomValue) (fault : DatabaseFault) : Type 0 where
+  pub entries : HasOddEntry m a.name → ⊥
+  pub first : IsBadDatabase m fault
+
+-- the entries are in form, and this is first wrong with the installed packages
+pub record HasBroken (m : Map) (a : AtomValue) (fault : Broken) : Type 0 where
+  pub entries : HasOddEntry m a.name → ⊥
+  pub packages : List Installed
+  pub broken : IsInconsistent m packages fault
+
+-- which part is missing for a recovered tree
 abbrev pub Refuses : Map → AtomValue → Part → Type 0
 Refuses m a Command = ⊥
 Refuses m a Repository = HasOddEntry m a.name
-Refuses m a Database = (HasOddEntry m a.name → ⊥) × HasNoOpening m
-Refuses m a Result = IsTakenFor m a
+Refuses m a Result = IsBarred m a
 
 -- the answer of the merge of a package with this image over a tree: each refusal comes exactly
 -- where it is the first, of the objects, of the record, and then of the claim
@@ -131,14 +145,15 @@ AsksFor a m image (status.Ok groups) = AsksPackage a m image (status.Ok groups) 
     (IsMet m a × (groups ≡ 0))
 AsksFor a m image (status.Usage fault) = ⊥
 AsksFor a m image (status.NotBuilt Command) = ⊥
+AsksFor a m image (status.BadDatabase fault) = HasBadDatabase m a fault
 AsksFor a m image (status.BadJournal fault) = ⊥
+AsksFor a m image (status.Inconsistent fault) = HasBroken m a fault
 AsksFor a m image (status.Limit Paths) =
     HasMany a m image ⊎ AsksPackage a m image (status.Limit Paths)
 AsksFor a m image (status.Limit quantity) = AsksPackage a m image (status.Limit quantity)
 AsksFor a m image (status.Collision c) = AsksPackage a m image (status.Collision c)
 AsksFor a m image (status.BadImage b) = AsksPackage a m image (status.BadImage b)
 AsksFor a m image (status.NotBuilt Repository) = Refuses m a Repository
-AsksFor a m image (status.NotBuilt Database) = Refuses m a Database
 AsksFor a m image (status.NotBuilt Result) = Refuses m a Result
 AsksFor a m image (status.NoCandidate atom reasons) =
     (atom_value atom ≡ a) × HasNone m a reasons.items
@@ -171,6 +186,10 @@ abbrev pub Asks : List (List ℕ) → Map → (Order → List Entry) → Status 
 Asks words opening image (status.Ok groups) = AsksAfter words opening image (status.Ok groups)
 Asks words opening image (status.Usage fault) = IsUsage words fault
 Asks words opening image (status.NotBuilt Command) = AskForOther words
+Asks words opening image (status.BadDatabase fault) =
+    AsksAfter words opening image (status.BadDatabase fault)
+Asks words opening image (status.Inconsistent fault) =
+    AsksAfter words opening image (status.Inconsistent fault)
 Asks words opening image (status.BadJournal fault) = AskForPackage words × IsBroken fault opening
 Asks words opening image (status.Limit Paths) = AsksAfter words opening image (status.Limit Paths)
 Asks words opening image (status.Limit RecordBytes) =
@@ -181,8 +200,6 @@ Asks words opening image (status.Collision c) =
 Asks words opening image (status.BadImage b) = AsksAfter words opening image (status.BadImage b)
 Asks words opening image (status.NotBuilt Repository) =
     AsksAfter words opening image (status.NotBuilt Repository)
-Asks words opening image (status.NotBuilt Database) =
-    AsksAfter words opening image (status.NotBuilt Database)
 Asks words opening image (status.NotBuilt Result) =
     AsksAfter words opening image (status.NotBuilt Result)
 Asks words opening image (status.NoCandidate atom reasons) =

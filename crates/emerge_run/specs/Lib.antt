@@ -1,5 +1,6 @@
 pub mod Answers
 pub mod Images
+pub mod Openings
 pub mod Outcomes
 pub mod Output
 pub mod Package

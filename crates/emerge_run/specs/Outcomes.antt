@@ -2,7 +2,7 @@
 use Rattle.std.specs.Prelude.{◌≡◌, ◌≢◌, ◌⊎◌, true, ℕ, Bool, List, [], Contains, IsTrue}
 use Rattle.file_tree.specs.Disk.{Disk, IsImage, Map, Story}
 use Rattle.file_tree.specs.Moments.{Leaves, Since}
-use Rattle.file_tree.specs.declared.limits.Quantity.TheVariants.{Groups, Paths}
+use Rattle.file_tree.specs.declared.limits.Quantity.TheVariants.{Groups, Paths, RecordBytes}
 use Rattle.file_tree.specs.declared.objects.Entry.{Entry}
 use Rattle.build_pool.specs.declared.orders.Order.{Order}
 use Rattle.dep_atom.specs.Match.{value_matches}
@@ -19,7 +19,7 @@ use Rattle.emerge_run.specs.Answers.{Asks, AsksMerge, IsReady}
 use Rattle.emerge_run.specs.Images.{HasMany}
 use Rattle.emerge_run.specs.Package.{MayCome, order_of}
 use Rattle.emerge_run.specs.Words.{IsRequest}
-use Rattle.emerge_run.specs.declared.status.Part.TheVariants.{Command}
+use Rattle.emerge_run.specs.declared.status.Part.TheVariants.{Command, Result}
 use Rattle.emerge_run.specs.declared.status.Status.{Status}
 use Rattle.emerge_run.specs.declared.status.Status.TheVariants as status
 
@@ -82,6 +82,8 @@ IsOfTree (status.BadImage b) = Unit {0}
 IsOfTree (status.BuildFailed id) = Unit {0}
 IsOfTree (status.Limit Groups) = ⊥
 IsOfTree (status.Limit quantity) = Unit {0}
+IsOfTree (status.BadDatabase fault) = Unit {0}
+IsOfTree (status.Inconsistent fault) = Unit {0}
 IsOfTree (status.NotBuilt Command) = ⊥
 IsOfTree (status.NotBuilt part) = Unit {0}
 IsOfTree (status.Usage fault) = ⊥
@@ -147,7 +149,9 @@ IsNamed words tells opening id = (a : AtomValue) × IsRequest words a ×
 -- an answer of a run that merged nothing
 abbrev pub IsRefusal : Status → Type 0
 IsRefusal (status.Usage fault) = Unit {0}
+IsRefusal (status.BadDatabase fault) = Unit {0}
 IsRefusal (status.BadJournal fault) = Unit {0}
+IsRefusal (status.Inconsistent fault) = Unit {0}
 IsRefusal (status.Limit quantity) = Unit {0}
 IsRefusal (status.NotBuilt part) = Unit {0}
 IsRefusal (status.NoCandidate atom reasons) = Unit {0}
@@ -162,12 +166,23 @@ IsEarly (status.Ok groups) = groups ≡ 0
 IsEarly status.OutputFault = ⊥
 IsEarly s = Unit {0}
 
+-- the answers of a run that has read its tree, and merges nothing
+abbrev pub IsUnmerged : Status → Type 0
+IsUnmerged (status.Ok groups) = groups ≡ 0
+IsUnmerged (status.NoCandidate atom reasons) = Unit {0}
+IsUnmerged (status.BuildFailed id) = Unit {0}
+IsUnmerged (status.Limit Paths) = Unit {0}
+IsUnmerged (status.NotBuilt Result) = Unit {0}
+IsUnmerged status.Memory = Unit {0}
+IsUnmerged s = ⊥
+
 -- the answers of the merge of a package
 abbrev pub IsOfMerge : Status → Type 0
 IsOfMerge (status.Ok groups) = Unit {0}
 IsOfMerge (status.Collision c) = Unit {0}
 IsOfMerge (status.BadImage b) = Unit {0}
-IsOfMerge (status.Limit quantity) = Unit {0}
+IsOfMerge (status.Limit Paths) = Unit {0}
+IsOfMerge (status.Limit RecordBytes) = Unit {0}
 IsOfMerge status.DeviceFault = Unit {0}
 IsOfMerge status.OutputFault = Unit {0}
 IsOfMerge status.Memory = Unit {0}

@@ -1,14 +1,19 @@
 -- What a run writes, and the number that it ends with.
-use Rattle.std.specs.Prelude.{ℕ, List, [], ◌∷◌, ◌++◌, codes, string_bytes}
+use Rattle.std.specs.Prelude.{ℕ, List, [], ◌∷◌, ◌++◌, Option, None, Some, codes, string_bytes}
 use Rattle.std.specs.Fmt.{decimal}
 use Rattle.std.specs.List.{flat_map}
 use Rattle.dep_atom.specs.Ids.{id_text}
 use Rattle.dep_atom.specs.Text.{atom_text}
+use Rattle.dep_atom.specs.declared.atom.Atom.{Atom}
 use Rattle.dep_atom.specs.declared.package.PackageId.{PackageId}
+use Rattle.database_read.specs.declared.fault.DatabaseFault.{DatabaseFault}
+use Rattle.database_read.specs.declared.fault.DatabaseFault.TheVariants as databases
+use Rattle.pkg_state.specs.declared.broken.Broken.{Broken}
+use Rattle.pkg_state.specs.declared.broken.Broken.TheVariants as broken
 use Rattle.emerge_words.specs.declared.request.WordFault.{WordFault}
 use Rattle.emerge_words.specs.declared.request.WordFault.TheVariants as words
 use Rattle.emerge_run.specs.declared.status.Part.{Part}
-use Rattle.emerge_run.specs.declared.status.Part.TheVariants.{Command, Repository, Database, Result}
+use Rattle.emerge_run.specs.declared.status.Part.TheVariants.{Command, Repository, Result}
 use Rattle.file_tree.specs.declared.limits.Quantity.{Quantity}
 use Rattle.file_tree.specs.declared.limits.Quantity.TheVariants.{Candidates, Groups, Packages, Paths, RecordBytes}
 use Rattle.owner_book.specs.declared.fault.Collision.{Collision}
@@ -29,7 +34,6 @@ done_line id group = codes "done " ++ (decimal group ++ (codes " +" ++ (id_text 
 abbrev pub part_word : Part → List ℕ
 part_word Command = codes "Command"
 part_word Repository = codes "Repository"
-part_word Database = codes "Database"
 part_word Result = codes "Result"
 
 abbrev pub reason_word : Reason → List ℕ
@@ -45,6 +49,35 @@ usage_word words.Usage = codes "Usage"
 usage_word (words.BadAtom word) = codes "Usage: bad atom " ++ string_bytes word
 usage_word (words.BadNumber word) = codes "Usage: bad number " ++ string_bytes word
 usage_word words.Memory = codes "Usage"
+
+-- the path at which the database is at fault; of a path above another that path
+abbrev pub place_of_fault : DatabaseFault → List ℕ
+place_of_fault (databases.Name path) = path
+place_of_fault (databases.Missing path) = path
+place_of_fault (databases.Eapi path) = path
+place_of_fault (databases.Text path line) = path
+place_of_fault (databases.Dep path at) = path
+place_of_fault (databases.OwnedTwice path) = path
+place_of_fault (databases.Nested path below) = path
+place_of_fault databases.Failed = []
+place_of_fault databases.Memory = []
+
+-- the leaf that isn't met, or a hyphen
+abbrev pub leaf_text : Option Atom → List ℕ
+leaf_text (Some atom) = atom_text atom
+leaf_text None = codes "-"
+
+abbrev pub pair_text : PackageId → PackageId → List ℕ
+pair_text one other = id_text one ++ (32 ∷ id_text other)
+
+-- what is wrong with the packages, with those that it names
+abbrev pub inconsistent_text : Broken → List ℕ
+inconsistent_text (broken.Runtime one leaf) =
+    codes "Runtime " ++ (id_text one ++ (32 ∷ leaf_text leaf))
+inconsistent_text (broken.Blocked one by) = codes "Blocked " ++ pair_text one by
+inconsistent_text (broken.RequiredUse one) = codes "RequiredUse " ++ id_text one
+inconsistent_text (broken.SlotTwice one other) = codes "SlotTwice " ++ pair_text one other
+inconsistent_text broken.Memory = []
 
 -- the group whose record is broken, or the stage
 abbrev pub broken_text : RecoverFault → List ℕ
@@ -76,6 +109,8 @@ quantity_word RecordBytes = codes "RecordBytes"
 abbrev pub last_word : Status → List ℕ
 last_word (status.Ok groups) = codes "ok " ++ decimal groups
 last_word (status.Usage fault) = usage_word fault
+last_word (status.BadDatabase fault) = codes "BadDatabase: " ++ place_of_fault fault
+last_word (status.Inconsistent fault) = codes "Inconsistent: " ++ inconsistent_text fault
 last_word (status.BadJournal fault) = codes "BadJournal: " ++ broken_text fault
 last_word (status.NoCandidate atom reasons) =
     codes "NoCandidate: " ++ (atom_text atom ++ flat_map reason_text reasons.items)
@@ -95,7 +130,9 @@ last_line s = codes "emerge: " ++ (last_word s ++ (10 ∷ []))
 abbrev pub code_of : Status → ℕ
 code_of (status.Ok groups) = 0
 code_of (status.Usage fault) = 2
+code_of (status.BadDatabase fault) = 4
 code_of (status.BadJournal fault) = 5
+code_of (status.Inconsistent fault) = 6
 code_of (status.NoCandidate atom reasons) = 7
 code_of (status.Collision c) = 13
 code_of (status.BadImage b) = 14

@@ -1,74 +1,110 @@
-ghost use Rattle.std.specs.Prelude.{◌≡◌, ◌≤◌, [], true, false, IfErr, IfOk, IsErrOf, IsTrue};
+ghost use Rattle.std.specs.Prelude.{◌≡◌, ◌↔◌, [], true, false, IfErr, IfOk, IsErrOf, IsTrue};
 ghost use Rattle.std.specs.Prelude.{MatchResult, map};
-ghost use Rattle.file_tree.specs.Disk.{Map, Rose};
+ghost use Rattle.file_tree.specs.Disk.{CountsFault, Map};
 ghost use Rattle.dep_atom.specs.Match.{value_matches};
 ghost use Rattle.dep_atom.specs.Values.{atom_value};
-ghost use Rattle.emerge_run.specs.Answers.{HasMatched, IsOpen, Stands, not_matched};
+ghost use Rattle.run_law.specs.Openings.{AreOwners, MayJoin};
+ghost use Rattle.emerge_run.specs.Answers.{HasMatched, IsOpen, IsRead, Stands, not_matched};
 ghost use Rattle.emerge_run.specs.Refusals.{TreeRefuses};
 ghost use Rattle.visible_set.specs.Candidates.{AreOffers};
 
 use crate::refusal::Refusal;
-use crate::status::{Part, Reason};
+use crate::status::Reason;
 use dep_atom::{Atom, Facts, PackageId};
 use file_tree::Tree;
-use opening::{is_matched, is_taken, read_opening};
+use opening::{Opening, is_matched, may_join, read_opening};
+use owner_book::OwnerBook;
 use record_read::Installed;
 use std::alloc::{AllocError, Global};
 use visible_set::{candidates, choose};
 
-/// How a tree stands to the atom of a run.
+/// What a run reads of its recovered tree.
+#[derive(Drop)]
+pub struct Read {
+    /// The candidates of the atom's name.
+    pub offers: Vec<Facts>,
+    /// The installed packages.
+    pub packages: Vec<Installed>,
+    pub book: OwnerBook,
+}
+
+/// How the installed packages and the candidates stand to the atom of a run.
 #[derive(Debug, Drop)]
 pub enum Standing {
     /// The atom matches a package that is installed.
     Met,
     /// It matches none, and chooses this candidate, to come beside those that are installed.
-    Chosen(Facts, Vec<Installed>),
+    Chosen(Facts),
+    /// It matches none, and chooses a candidate that may not come beside them.
+    Barred,
     /// It matches neither an installed package nor one of these candidates.
     Unmatched(Vec<(PackageId, Reason)>),
 }
 
-/// Judges a recovered tree before anything is built: the cache entries of the atom's name, the
-/// database, and then which candidate the atom chooses, and whether its place is free.
-pub fn judge_tree<T: Tree>(alloc: Global, tree: &mut T, atom: &Atom) -> Result<Standing, Refusal>
-    ensures stands { IsTrue T.tells → IfOk result
-        (Stands (T.story tree.old).now.holds (atom_value atom.now)) }
-    ensures matched { IfOk result (HasMatched (atom_value atom.now)) }
+/// Reads a recovered tree before anything is built: the cache entries of the atom's name, and then
+/// the database.
+pub fn read_tree<T: Tree>(alloc: Global, tree: &mut T, atom: &Atom) -> Result<Read, Refusal>
+    ensures offers { IsTrue T.tells → IfOk result (λ r.
+        AreOffers (T.story tree.old).now.holds atom.now.name r.offers.items) }
+    ensures read { IsTrue T.tells → IfOk result (λ r.
+        IsRead (T.story tree.old).now.holds (atom_value atom.now) r.packages.items) }
+    ensures owners { IsTrue T.tells → IfOk result (λ r.
+        AreOwners (T.story tree.old).now.holds r.packages.items r.book) }
+    ensures unclaimed { IfOk result (λ r. r.book.claims ≡ []) }
     ensures refused { IsTrue T.tells → IfErr result
         (TreeRefuses (T.story tree.old).now.holds (atom_value atom.now)) }
     ensures same { IsTrue T.tells → T.story tree.new ≡ T.story tree.old }
-    ensures count { T.faults tree.old ≤ T.faults tree.new }
-    ensures cause { IsErrOf result Refusal.Failed → Rose (T.faults tree.old) (T.faults tree.new) }
+    ensures faults { CountsFault (IsErrOf result Refusal.Failed) (T.faults tree.old)
+        (T.faults tree.new) }
 {
     let offers = candidates(alloc, tree, &atom.name)?;
-    let packages = read_opening(alloc, tree)?;
-    if is_matched(alloc, atom, &packages) {
-        return Ok(Standing::Met);
-    }
-    standing_of(alloc, atom, offers, packages)
+    let opening = read_opening(alloc, tree)?;
+    let Opening { packages, book } = opening;
+    Ok(Read {
+        offers,
+        packages,
+        book,
+    })
 }
 
-/// Which of the candidates the atom chooses, where it matches none of these packages.
-fn standing_of(
+/// Whether the atom matches one of the packages, or else which of the candidates it chooses, and
+/// whether that one may join them.
+pub fn standing_of(
     alloc: Global,
     atom: &Atom,
     offers: Vec<Facts>,
-    packages: Vec<Installed>,
-) -> Result<Standing, Refusal>
+    packages: &[Installed],
+) -> Result<Standing, AllocError>
     ensures stands { (m : Map) → AreOffers m atom.now.name offers.items →
-        IsOpen m (atom_value atom.now) packages.items →
-        IfOk result (Stands m (atom_value atom.now)) }
+        IsRead m (atom_value atom.now) packages.now →
+        IfOk result (Stands m (atom_value atom.now) packages.now) }
     ensures matched { IfOk result (HasMatched (atom_value atom.now)) }
-    ensures refused { (m : Map) → AreOffers m atom.now.name offers.items →
-        IsOpen m (atom_value atom.now) packages.items →
-        IfErr result (TreeRefuses m (atom_value atom.now)) }
-    ensures healthy { IfErr result (λ r. ¬ (r ≡ Refusal.Failed)) }
+{
+    if is_matched(alloc, atom, packages) {
+        return Ok(Standing::Met);
+    }
+    chosen_of(alloc, atom, offers, packages)
+}
+
+/// The same, where the atom matches none of the packages.
+fn chosen_of(
+    alloc: Global,
+    atom: &Atom,
+    offers: Vec<Facts>,
+    packages: &[Installed],
+) -> Result<Standing, AllocError>
+    ensures stands { (m : Map) → AreOffers m atom.now.name offers.items →
+        IsOpen m (atom_value atom.now) packages.now →
+        IfOk result (Stands m (atom_value atom.now) packages.now) }
+    ensures matched { IfOk result (HasMatched (atom_value atom.now)) }
 {
     match choose(alloc, atom, offers) {
         Ok(chosen) => {
-            if is_taken(alloc, &chosen, &packages)? {
-                return Err(Refusal::NotBuilt(Part::Result));
+            if may_join(alloc, &chosen, packages)? {
+                Ok(Standing::Chosen(chosen))
+            } else {
+                Ok(Standing::Barred)
             }
-            Ok(Standing::Chosen(chosen, packages))
         }
         Err(offers) => Ok(Standing::Unmatched(reasons_of(alloc, offers)?)),
     }

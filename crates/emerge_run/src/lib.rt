@@ -1,14 +1,15 @@
 //! The top call of the product: one command, from its words to its last line.
 //!
 //! **A contract sees** the tree as its story, the sink as the bytes that it took, the builders by
-//! the images that they tell, and a run's end by its status, the order of its machine, its groups
-//! and the acknowledged ones.
+//! the images that they tell, and a run's end by its status, the packages that it found installed,
+//! the order of its machine, its groups and the acknowledged ones.
 //!
 //! **Proved**: a crash at any moment recovers to what the tree recovered to, with some groups of
 //! the run, at its end with all of the history; a group of the run places just the package that the
-//! words choose, and its claim was granted; the answer is the one that was asked for; what was
-//! written is the lines of the acknowledged groups and the last line; each answer but want of
-//! memory has its cause; the pool comes back whole.
+//! words choose, which may join the installed ones, and its claim was granted; the answer is the one
+//! that was asked for, and the installed packages come back where they were read; what was written
+//! is the lines of the acknowledged groups and the last line; each answer but want of memory has its
+//! cause; the pool comes back whole.
 //!
 //! **Only tested**: whole runs with ample memory.
 //!

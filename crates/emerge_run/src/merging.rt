@@ -16,6 +16,7 @@ use file_tree::{Quantity, Sink, Tree};
 use group_run::{Merged, Stop};
 use merge_site::ClaimStop;
 use package_run::merge_package;
+use record_read::Installed;
 use std::alloc::Global;
 
 /// Merges the package that was chosen, and tells how that ended.
@@ -23,12 +24,16 @@ pub fn merge_chosen<T: Tree, S: Sink>(
     alloc: Global,
     tree: T,
     out: S,
+    opening: Vec<Installed>,
     chosen: Chosen,
 ) -> Reached<T, S>
     requires rest { IsTrue T.tells → IsAtRest (T.story tree).now.holds (T.story tree).now }
-    requires added { IsAddition chosen.opening.items chosen.facts chosen.addition }
-    ensures merged { IsTrue T.tells → MergedTo chosen.opening.items chosen.facts
-        chosen.addition.image.items (T.story tree) (T.story result.tree) result.history.items result.status }
+    requires added { IsAddition T.tells (T.story tree).now.holds opening.items chosen.facts
+        chosen.addition }
+    ensures merged { IsTrue T.tells → MergedTo opening.items chosen.facts
+        chosen.addition.image.items (T.story tree) (T.story result.tree) result.history.items
+        result.status }
+    ensures opening { result.opening.items ≡ opening.items }
     ensures machine { MatchOption result.machine (result.history.items ≡ [])
         (λ k. result.history.items ≡ map number k.order) }
     ensures of { IsOfMerge result.status }
@@ -46,11 +51,7 @@ pub fn merge_chosen<T: Tree, S: Sink>(
     ensures output { CountsFault (result.status ≡ Status.OutputFault) (S.faults out)
         (S.faults result.out) }
 {
-    let Chosen {
-        facts,
-        addition,
-        ..
-    } = chosen;
+    let Chosen { facts, addition } = chosen;
     let Merged {
         tree,
         sink,
@@ -64,6 +65,7 @@ pub fn merge_chosen<T: Tree, S: Sink>(
         status,
         tree,
         out: sink,
+        opening,
         machine,
         history,
         acknowledged,

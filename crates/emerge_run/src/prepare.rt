@@ -1,6 +1,10 @@
-ghost use Rattle.std.specs.Prelude.{◌≡◌, ◌≤◌, ◌<◌, Contains, IfErr, IfOk, IsErrOf, length};
+ghost use Rattle.std.specs.Prelude.{◌≡◌, ◌≤◌, ◌<◌, Bool, List, [], Contains, IfErr, IfOk, IsErrOf};
+ghost use Rattle.std.specs.Prelude.{IsTrue, length};
 ghost use Rattle.build_pool.specs.Pool.{PoolRose, SameIds, faults_of};
+ghost use Rattle.database_law.specs.Packages.{Installed};
 ghost use Rattle.dep_atom.specs.declared.package.PackageId.{PackageId};
+ghost use Rattle.file_tree.specs.Disk.{Map};
+ghost use Rattle.run_law.specs.Openings.{AreOwners};
 ghost use Rattle.emerge_run.specs.Images.{IsTold};
 ghost use Rattle.emerge_run.specs.Outcomes.{BuildEnds};
 ghost use Rattle.emerge_run.specs.Package.{IsAddition, order_of};
@@ -12,9 +16,8 @@ use build_pool::{BuildPool, BuildStop, Builder, Order};
 use dep_atom::Facts;
 use file_tree::{Entry, Quantity};
 use merge_record::OwnerKey;
-use opening::book_of;
+use owner_book::OwnerBook;
 use package_run::Addition;
-use record_read::Installed;
 use std::alloc::{AllocError, Global};
 
 /// Has the image of a package built.
@@ -47,20 +50,22 @@ pub fn find_image<B: Builder>(
     }
 }
 
-/// What is made for the merge of a package beside these, with its image.
+/// What is made for the merge of a package beside so many, with its image.
 pub fn addition_of(
     alloc: Global,
     facts: &Facts,
     image: Vec<Entry>,
-    packages: &[Installed],
+    count: usize,
+    book: OwnerBook,
 ) -> Result<Addition, AllocError>
     ensures image { IfOk result (λ a. a.image.items ≡ image.items) }
-    ensures added { IfOk result (IsAddition packages.now facts.now) }
+    ensures added { (tells : Bool) (m : Map) (ps : List Installed) → length ps ≡ count →
+        book.claims ≡ [] → (IsTrue tells → AreOwners m ps book) →
+        IfOk result (IsAddition tells m ps facts.now) }
 {
-    let number = u32::try_from(packages.len()).map_err(|_| AllocError)?;
+    let number = u32::try_from(count).map_err(|_| AllocError)?;
     let text = line_of_group(alloc, &facts.id, 1)?;
     let line = text.as_bytes().to_vec(alloc)?;
-    let book = book_of(alloc, packages)?;
     Ok(Addition {
         owner: OwnerKey { number },
         image,

@@ -1,39 +1,27 @@
-use crate::status::{Part, Status};
+use crate::status::Status;
+use database_read::DatabaseFault;
 use emerge_words::WordFault;
 use file_tree::{Failed, Quantity, TreeFault};
 use opening::OpeningFault;
+use pkg_state::Broken;
+use record_read::Installed;
 use recovery::RecoverFault;
 use std::alloc::AllocError;
 use visible_set::CandidateFault;
 
 /// Why a look at the tree ends the run.
-#[derive(Clone, Copy, Debug, PartialEq, Eq)]
+#[derive(Debug, Drop)]
 pub enum Refusal {
-    NotBuilt(Part),
+    /// A cache entry is in no form that is read so far.
+    OddEntry,
+    BadDatabase(DatabaseFault),
+    /// These packages are installed, and don't go together.
+    Inconsistent {
+        fault: Broken,
+        packages: Vec<Installed>,
+    },
     Failed,
     Memory,
-}
-
-impl From<Failed> for Refusal {
-    ghost use Rattle.std.specs.Prelude.{◌≡◌};
-    ghost use Rattle.emerge_run.specs.declared.refusal.Refusal.TheVariants as refusals;
-
-    ghost from_gives = { λ _ r. r ≡ refusals.Failed };
-
-    fn from(_: Failed) -> Refusal {
-        Refusal::Failed
-    }
-}
-
-impl From<AllocError> for Refusal {
-    ghost use Rattle.std.specs.Prelude.{◌≡◌};
-    ghost use Rattle.emerge_run.specs.declared.refusal.Refusal.TheVariants as refusals;
-
-    ghost from_gives = { λ _ r. r ≡ refusals.Memory };
-
-    fn from(_: AllocError) -> Refusal {
-        Refusal::Memory
-    }
 }
 
 impl From<OpeningFault> for Refusal {
@@ -44,7 +32,10 @@ impl From<OpeningFault> for Refusal {
 
     fn from(fault: OpeningFault) -> Refusal {
         match fault {
-            OpeningFault::Other => Refusal::NotBuilt(Part::Database),
+            OpeningFault::Database(fault) => Refusal::BadDatabase(fault),
+            OpeningFault::Inconsistent { fault, packages } => {
+                Refusal::Inconsistent { fault, packages }
+            }
             OpeningFault::Failed => Refusal::Failed,
             OpeningFault::Memory => Refusal::Memory,
         }
@@ -59,24 +50,9 @@ impl From<CandidateFault> for Refusal {
 
     fn from(fault: CandidateFault) -> Refusal {
         match fault {
-            CandidateFault::OddEntry => Refusal::NotBuilt(Part::Repository),
+            CandidateFault::OddEntry => Refusal::OddEntry,
             CandidateFault::Failed => Refusal::Failed,
             CandidateFault::Memory => Refusal::Memory,
-        }
-    }
-}
-
-impl From<Refusal> for Status {
-    ghost use Rattle.std.specs.Prelude.{◌≡◌};
-    ghost use Rattle.emerge_run.specs.Refusals.{status_of};
-
-    ghost from_gives = { λ r s. s ≡ status_of r };
-
-    fn from(refusal: Refusal) -> Status {
-        match refusal {
-            Refusal::NotBuilt(what) => Status::NotBuilt { what },
-            Refusal::Failed => Status::DeviceFault,
-            Refusal::Memory => Status::Memory,
         }
     }
 }

@@ -3,6 +3,7 @@ ghost use Rattle.std.specs.Prelude.{string_bytes};
 ghost use Rattle.file_tree.specs.Disk.{Rose};
 ghost use Rattle.build_pool.specs.Pool.{PoolRose, SameIds};
 ghost use Rattle.dep_atom.specs.declared.package.PackageId.{PackageId};
+ghost use Rattle.emerge_run.specs.Openings.{AreInstalledAfter, GivesBack, IsUnread};
 ghost use Rattle.emerge_run.specs.Outcomes.{IsAnswer, IsNamed, IsRefusal, OfSomeBuilder, Outcome};
 ghost use Rattle.group_run.specs.Applied.{number};
 ghost use Rattle.group_run.specs.Lines.{Wrote};
@@ -10,13 +11,14 @@ ghost use Rattle.emerge_run.specs.Output.{IsLines, IsOutput};
 ghost use Rattle.emerge_run.specs.Words.{AskForPackage, IsOfWords, IsUsage};
 ghost use Rattle.emerge_words.specs.declared.request.WordFault.{WordFault};
 
-use crate::choosing::choose;
+use crate::choosing::{Found, choose};
 use crate::ending::finish;
 use crate::merging::merge_chosen;
 use crate::status::Status;
 use build_pool::{BuildPool, Builder};
 use file_tree::{Sink, Tree};
 use merge_core::Core;
+use record_read::Installed;
 use std::alloc::Global;
 
 /// What a run gives back: how it ended, what it was lent, and its groups.
@@ -26,6 +28,9 @@ pub struct Ended<T, S, B: Builder> {
     pub tree: T,
     pub out: S,
     pub pool: BuildPool<B>,
+    /// The packages that were installed in the recovered tree, in byte order of their folders; none
+    /// where the run ended before it had read them.
+    pub opening: Vec<Installed>,
     /// The machine as the merge left it, where there was one.
     pub machine: Option<Core>,
     /// The groups that are in the tree for good, in order.
@@ -40,6 +45,7 @@ pub struct Reached<T, S> {
     pub status: Status,
     pub tree: T,
     pub out: S,
+    pub opening: Vec<Installed>,
     pub machine: Option<Core>,
     pub history: Vec<u32>,
     pub acknowledged: Vec<u32>,
@@ -69,6 +75,11 @@ pub fn emerge<T: Tree + Send, S: Sink + Send, B: Builder + Send>(
         (T.story result.tree) result.history.items result.status) }
     ensures unchanged { IsTrue T.tells → IsOfWords result.status →
         T.story result.tree ≡ T.story tree }
+
+    // What was installed comes back, where it was read.
+    ensures opening { IsTrue T.tells → GivesBack (AreInstalledAfter (T.story tree).now.holds)
+        result.status result.opening.items }
+    ensures unread { IsUnread result.status → result.opening.items ≡ [] }
 
     // The history is the order of the machine, and its beginning is acknowledged.
     ensures machine { MatchOption result.machine (result.history.items ≡ [])
@@ -109,6 +120,7 @@ pub fn emerge<T: Tree + Send, S: Sink + Send, B: Builder + Send>(
         status,
         tree,
         mut out,
+        opening,
         machine,
         history,
         acknowledged,
@@ -119,6 +131,7 @@ pub fn emerge<T: Tree + Send, S: Sink + Send, B: Builder + Send>(
         tree,
         out,
         pool,
+        opening,
         machine,
         history,
         acknowledged,
@@ -139,6 +152,9 @@ fn attempt<T: Tree, S: Sink, B: Builder>(
         (T.story result.tree) result.history.items result.status) }
     ensures unchanged { IsTrue T.tells → IsOfWords result.status →
         T.story result.tree ≡ T.story tree }
+    ensures opening { IsTrue T.tells → GivesBack (AreInstalledAfter (T.story tree).now.holds)
+        result.status result.opening.items }
+    ensures unread { IsUnread result.status → result.opening.items ≡ [] }
     ensures machine { MatchOption result.machine (result.history.items ≡ [])
         (λ k. result.history.items ≡ map number k.order) }
     ensures ok { (n : ℕ) → result.status ≡ Status.Ok n →
@@ -165,12 +181,15 @@ fn attempt<T: Tree, S: Sink, B: Builder>(
     ensures ids { SameIds B.number pool.old pool.new }
     ensures lent { pool.new.lent ≡ pool.old.lent }
 {
-    match choose(alloc, words, &mut tree, pool) {
-        Ok(chosen) => merge_chosen(alloc, tree, out, chosen),
+    let found = choose(alloc, words, &mut tree, pool);
+    let Found { opening, answer } = found;
+    match answer {
+        Ok(chosen) => merge_chosen(alloc, tree, out, opening, chosen),
         Err(status) => Reached {
             status,
             tree,
             out,
+            opening,
             machine: None,
             history: Vec::new(alloc),
             acknowledged: Vec::new(alloc),

@@ -1,7 +1,9 @@
+use database_read::DatabaseFault;
 use dep_atom::{Atom, PackageId};
 use emerge_words::WordFault;
 use file_tree::Quantity;
 use owner_book::{Collision, ImageBad};
+use pkg_state::Broken;
 use recovery::RecoverFault;
 
 /// A part of the product that is not there yet for what the run met.
@@ -11,9 +13,7 @@ pub enum Part {
     Command,
     /// A cache entry of another form.
     Repository,
-    /// Something in the database of installed packages.
-    Database,
-    /// A package that takes the place of an installed one.
+    /// A package that may not come beside those that are installed.
     Result,
 }
 
@@ -35,8 +35,12 @@ pub enum Status {
     Usage {
         fault: WordFault,
     },
+    /// The first fault of the database of installed packages.
+    BadDatabase(DatabaseFault),
     /// The first open group of the journal that isn't in form, by its record or a stage of it.
     BadJournal(RecoverFault),
+    /// What is first wrong with the installed packages, in line order.
+    Inconsistent(Broken),
     /// The atom matches no candidate of its name: these are all of them, the greatest version first.
     NoCandidate {
         atom: Atom,
@@ -77,7 +81,9 @@ impl Status {
         match self {
             Status::Ok { .. } => 0,
             Status::Usage { .. } => 2,
+            Status::BadDatabase(_) => 4,
             Status::BadJournal(_) => 5,
+            Status::Inconsistent(_) => 6,
             Status::NoCandidate { .. } => 7,
             Status::Collision(_) => 13,
             Status::BadImage(_) => 14,

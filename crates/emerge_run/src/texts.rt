@@ -4,13 +4,16 @@ ghost use Rattle.std.specs.List.{flat_map};
 ghost use Rattle.dep_atom.specs.Ids.{id_text};
 ghost use Rattle.dep_atom.specs.Text.{atom_text};
 ghost use Rattle.emerge_run.specs.Texts.{bad_text, broken_text, collision_text, done_line};
-ghost use Rattle.emerge_run.specs.Texts.{last_line, reason_text, reason_word};
+ghost use Rattle.emerge_run.specs.Texts.{inconsistent_text, last_line, leaf_text, pair_text};
+ghost use Rattle.emerge_run.specs.Texts.{place_of_fault, reason_text, reason_word};
 
 use crate::status::{Part, Reason, Status};
+use database_read::DatabaseFault;
 use dep_atom::{Atom, PackageId};
 use emerge_words::WordFault;
 use file_tree::Quantity;
 use owner_book::{Collision, ImageBad};
+use pkg_state::Broken;
 use recovery::RecoverFault;
 use std::alloc::{AllocError, Global};
 
@@ -29,7 +32,9 @@ pub fn fixed_line(status: &Status) -> Option<&'static str>
 {
     match status {
         Status::Ok { .. }
+        | Status::BadDatabase(_)
         | Status::BadJournal(_)
+        | Status::Inconsistent(_)
         | Status::NoCandidate { .. }
         | Status::Collision(_)
         | Status::BadImage(_)
@@ -42,7 +47,6 @@ pub fn fixed_line(status: &Status) -> Option<&'static str>
         Status::NotBuilt { what } => Some(match what {
             Part::Command => "emerge: NotBuilt: Command\n",
             Part::Repository => "emerge: NotBuilt: Repository\n",
-            Part::Database => "emerge: NotBuilt: Database\n",
             Part::Result => "emerge: NotBuilt: Result\n",
         }),
     }
@@ -88,7 +92,9 @@ pub fn line_of_status(alloc: Global, status: &Status) -> Result<String, AllocErr
 {
     match status {
         Status::Ok { groups } => format!(in alloc; "emerge: ok {groups}\n"),
+        Status::BadDatabase(fault) => database_line(alloc, fault),
         Status::BadJournal(fault) => broken_line(alloc, *fault),
+        Status::Inconsistent(broken) => inconsistent_line(alloc, broken),
         Status::NoCandidate { atom, reasons } => unmatched_line(alloc, atom, reasons),
         Status::Collision(collision) => collision_line(alloc, collision),
         Status::BadImage(bad) => bad_line(alloc, bad),
@@ -98,6 +104,30 @@ pub fn line_of_status(alloc: Global, status: &Status) -> Result<String, AllocErr
             Some(line) => String::from_str(alloc, line),
             None => Err(AllocError),
         },
+    }
+}
+
+/// The path at which the database is at fault.
+fn database_line(alloc: Global, fault: &DatabaseFault) -> Result<String, AllocError>
+    ensures { IfOk result (λ t. string_bytes t ≡
+        codes "emerge: BadDatabase: " ++ (place_of_fault fault.now ++ 10 ∷ [])) }
+{
+    let place = place_of_fault(fault);
+    format!(in alloc; "emerge: BadDatabase: {place}\n")
+}
+
+fn place_of_fault(fault: &DatabaseFault) -> &str
+    ensures { result.now ≡ place_of_fault fault.now }
+{
+    match fault {
+        DatabaseFault::Name { path }
+        | DatabaseFault::Missing { path }
+        | DatabaseFault::Eapi { path }
+        | DatabaseFault::Text { path, .. }
+        | DatabaseFault::Dep { path, .. }
+        | DatabaseFault::OwnedTwice { path }
+        | DatabaseFault::Nested { path, .. } => path.text(),
+        DatabaseFault::Failed | DatabaseFault::Memory => "",
     }
 }
 
@@ -120,6 +150,67 @@ fn broken_part(alloc: Global, fault: RecoverFault) -> Result<String, AllocError>
             Ok(String::new(alloc))
         }
     }
+}
+
+fn inconsistent_line(alloc: Global, broken: &Broken) -> Result<String, AllocError>
+    ensures { IfOk result (λ t. string_bytes t ≡
+        codes "emerge: Inconsistent: " ++ (inconsistent_text broken.now ++ 10 ∷ [])) }
+{
+    let text = inconsistent_part(alloc, broken)?;
+    format!(in alloc; "emerge: Inconsistent: {text}\n")
+}
+
+/// What is wrong with the packages, with those that it names.
+fn inconsistent_part(alloc: Global, broken: &Broken) -> Result<String, AllocError>
+    ensures { IfOk result (λ t. string_bytes t ≡ inconsistent_text broken.now) }
+{
+    match broken {
+        Broken::Runtime { package, leaf } => lacking_part(alloc, package, leaf),
+        Broken::Blocked { package, by } => {
+            let text = pair_text(alloc, package, by)?;
+            format!(in alloc; "Blocked {text}")
+        }
+        Broken::RequiredUse { package } => {
+            let text = package.print(alloc)?;
+            format!(in alloc; "RequiredUse {text}")
+        }
+        Broken::SlotTwice { package, other } => {
+            let text = pair_text(alloc, package, other)?;
+            format!(in alloc; "SlotTwice {text}")
+        }
+        Broken::Memory => Ok(String::new(alloc)),
+    }
+}
+
+fn lacking_part(
+    alloc: Global,
+    package: &PackageId,
+    leaf: &Option<Atom>,
+) -> Result<String, AllocError>
+    ensures { IfOk result (λ t. string_bytes t ≡
+        codes "Runtime " ++ (id_text «package».now ++ (32 ∷ leaf_text leaf.now))) }
+{
+    let text = package.print(alloc)?;
+    let leaf = leaf_text(alloc, leaf)?;
+    format!(in alloc; "Runtime {text} {leaf}")
+}
+
+/// The leaf that isn't met, or a hyphen.
+fn leaf_text(alloc: Global, leaf: &Option<Atom>) -> Result<String, AllocError>
+    ensures { IfOk result (λ t. string_bytes t ≡ leaf_text leaf.now) }
+{
+    match leaf {
+        Some(atom) => atom.print(alloc),
+        None => String::from_str(alloc, "-"),
+    }
+}
+
+fn pair_text(alloc: Global, one: &PackageId, other: &PackageId) -> Result<String, AllocError>
+    ensures { IfOk result (λ t. string_bytes t ≡ pair_text one.now other.now) }
+{
+    let one = one.print(alloc)?;
+    let other = other.print(alloc)?;
+    format!(in alloc; "{one} {other}")
 }
 
 fn collision_line(alloc: Global, collision: &Collision) -> Result<String, AllocError>

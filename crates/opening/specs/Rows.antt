@@ -9,7 +9,8 @@ use Rattle.database_law.specs.Step.{Owns}
 use Rattle.run_law.specs.Openings.{key_at}
 
 -- a package's key is its place, and just these are the paths that it owns
-pub record IsRow (m : Map) (place : ℕ) (p : Installed) (key : OwnerKey) (paths : List (List ℕ)) : Type 0 where
+pub record IsRow (m : Map) (place : ℕ) (p : Installed) (key : OwnerKey)
+    (paths : List (List ℕ)) : Type 0 where
   pub keyed : key ≡ key_at place
   pub owned : (q : List ℕ) → Has paths q ↔ Owns m p q
 

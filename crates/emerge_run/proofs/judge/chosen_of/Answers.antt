@@ -1,25 +1,23 @@
-use Rattle.std.proofs.Common.{◌≡◌, ◌∙◌, false, List, [], map, ap, subst, sym}
+use Rattle.std.proofs.Common.{◌≡◌, ◌∙◌, false, List, [], map, ap, subst}
 use Rattle.std.specs.List.{AllByRecursion}
 use Rattle.dep_atom.specs.Match.{value_matches}
 use Rattle.dep_atom.specs.Values.{atom_value}
 use Rattle.dep_atom.specs.declared.package.Facts.{Facts}
-use Rattle.database_law.specs.Packages.{Installed}
-use Rattle.opening.specs.Openings.{is_taken}
 use Rattle.emerge_run.specs.Answers.{not_matched}
-use Rattle.emerge_run.proofs.judge.standing_of.Goals as goal
+use Rattle.emerge_run.proofs.judge.chosen_of.Goals as goal
 
-pub returns-else-branch-clause-stands : goal.returns-else-branch-clause-stands
-returns-else-branch-clause-stands c m are is_open = record {
+pub returns-then-branch-clause-stands : goal.returns-then-branch-clause-stands
+returns-then-branch-clause-stands c m are is_open = record {
   open_to = is_open;
   chosen = c.in-Ok.ensures.chosen m are;
-  free = ap (λ (ps : List Installed). is_taken c.in-Ok.chosen ps) (sym c.deref.ensures.value) ∙ (sym c.in_ok-is_taken-in-Ok.ensures ∙ c.if-branch.false);
+  joins = c.in_ok-may_join-in-Ok.ensures.0 c.if-branch.true;
 }
 
 pub returns-in_ok-reasons_of-in-Err-clause-stands : goal.returns-in_ok-reasons_of-in-Err-clause-stands
 returns-in_ok-reasons_of-in-Err-clause-stands c m are is_open =
     let back = c.in-Err.ensures.back in
     record {
-      packages = c.args.packages.items;
+      packages = c.args.packages.now;
       open_to = is_open;
       offers = c.args.offers.items;
       are = are;

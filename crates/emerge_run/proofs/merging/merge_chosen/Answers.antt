@@ -1,7 +1,7 @@
 use Rattle.std.proofs.Common.{◌∙◌, Bool, subst, sym}
 use Rattle.std.specs.Prelude.{IfErr, length}
 use Rattle.merge_record.specs.declared.record.OwnerKey.{OwnerKey}
-use Rattle.opening.specs.Owners.{key_at}
+use Rattle.run_law.specs.Openings.{key_at}
 use Rattle.package_run.specs.Packages.{StopsMerge, WentFor}
 use Rattle.emerge_run.specs.Outcomes.{IsOfMerge, IsRefusal}
 use Rattle.emerge_run.proofs.Lines.{wrote_lines}
@@ -19,11 +19,11 @@ returns-clause-merged g c t =
     let old = g.T.Tree.story c.args.tree in
     let new = g.T.Tree.story r.tree in
     let m = old.now.holds in
-    let ps = c.args.chosen.opening.items in
+    let ps = c.args.opening.items in
     let key = key_at (length ps) in
     let went = subst (λ (k : OwnerKey). WentFor a.book f k image old new r.history.items r.end) added.owner_is (e.went t) in
     let cause = subst (λ (k : OwnerKey). IfErr r.end (StopsMerge g.T.Tree.tells m a.book f k image)) added.owner_is e.cause in
-    merged_to ps f image a.book added.owners old new r.history.items r.end c.len.result c.status_of_end-status.result c.status_of_end-status.ensures (c.len.ensures ∙ r.history.ok.0)
+    merged_to ps f image a.book old new (added.owners t) r.history.items r.end c.len.result c.status_of_end-status.result c.status_of_end-status.ensures (c.len.ensures ∙ r.history.ok.0)
     went (ok_first _ _ r.end e.told) e.stops (subst (λ (b : Bool). IfErr r.end (StopsMerge b m a.book f key image)) t cause)
 
 pub returns-clause-of : goal.returns-clause-of

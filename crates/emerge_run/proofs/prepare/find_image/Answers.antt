@@ -1,4 +1,4 @@
-use Rattle.std.proofs.Common.{Err, Global, List, Option, Vec, ap, subst}
+use Rattle.std.proofs.Common.{Err, Global, Option, Vec, ap, subst}
 use Rattle.std.proofs.lemmas.Result.{err_from_is_err_and}
 use Rattle.dep_atom.specs.declared.package.PackageId.{PackageId}
 use Rattle.file_tree.specs.declared.objects.Entry.{Entry}

@@ -1,7 +1,9 @@
 use Rattle.std.specs.Prelude.{map, string_bytes}
+use Rattle.emerge_run.specs.Openings.{AreInstalledAfter}
 use Rattle.emerge_run.specs.Outcomes.{IsAnswer, IsNamed}
 use Rattle.emerge_run.proofs.Asked.{some_builder}
 use Rattle.emerge_run.proofs.Endings.{built_before, came_asked, memory_asked, outcome_finished, usage_kept}
+use Rattle.emerge_run.proofs.Givens.{gives_finished, unread_finished}
 use Rattle.emerge_run.proofs.Lines.{wrote_all}
 use Rattle.emerge_run.proofs.run.emerge.Goals as goal
 
@@ -28,3 +30,10 @@ returns-clause-build g c id is = c.attempt-status.ensures.build id (built_before
 
 pub returns-clause-usage : goal.returns-clause-usage
 returns-clause-usage g c f is = c.attempt-status.ensures.usage f (usage_kept c.attempt-status.result.status c.finish-status.result f c.finish-status.ensures.status is)
+
+pub returns-clause-opening : goal.returns-clause-opening
+returns-clause-opening g c t =
+    gives_finished (AreInstalledAfter (g.T.Tree.story c.args.tree).now.holds) c.attempt-status.result.status c.finish-status.result _ c.attempt-status.result.opening.items c.finish-status.ensures.status (c.attempt-status.ensures.opening t)
+
+pub returns-clause-unread : goal.returns-clause-unread
+returns-clause-unread g c of = unread_finished c.attempt-status.result.status c.finish-status.result _ _ c.finish-status.ensures.status c.attempt-status.ensures.unread of
