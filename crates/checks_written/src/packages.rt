@@ -1,4 +1,4 @@
-use crate::texts::written;
+use crate::texts::{flags, written};
 use std::test::Fail;
 
 /// What is said of two packages in odd ways, and the files that are written of each.
@@ -55,5 +55,18 @@ fn what_is_written_is_written_alike_again(rt: HostRuntime) -> Result<(), Fail> {
     for (_, files) in PACKAGES {
         assert_eq!(rt; written(alloc, files)?.as_str(), files);
     }
+    Ok(())
+}
+
+// The flag `t` is enabled, but none of the package's own.
+#[test]
+fn flags_of_its_own_alone(rt: HostRuntime) -> Result<(), Fail> {
+    let alloc = rt.alloc();
+    let lines = "c/p-1/CONTENTS=
+c/p-1/EAPI=8
+c/p-1/SLOT=0
+c/p-1/IUSE=v +u w
+c/p-1/USE=w u t";
+    assert_eq!(rt; flags(alloc, lines)?.as_str(), "u w ");
     Ok(())
 }

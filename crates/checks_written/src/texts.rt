@@ -4,7 +4,7 @@
 use database_read::read_database;
 use file_tree::{Entry, Kind, Object, Path};
 use record_read::Installed;
-use record_write::folder_files;
+use record_write::{folder_files, recorded_flags};
 use std::alloc::{AllocError, Global};
 use std::test::Fail;
 use tree_mem::MemTree;
@@ -24,6 +24,26 @@ fn files_text(alloc: Global, package: &Installed) -> Result<String, AllocError> 
     let mut text = String::new(alloc);
     for file in &files {
         push_file(file, &mut text)?;
+    }
+    Ok(text)
+}
+
+/// The flags that a record has of the first package that the files of these lines say.
+pub(crate) fn flags(alloc: Global, lines: &str) -> Result<String, Fail> {
+    let mut tree = tree_of(alloc, lines)?;
+    let packages = read_database(alloc, &mut tree)?;
+    match packages.first() {
+        Some(package) => Ok(flags_text(alloc, package)?),
+        None => Ok(String::new(alloc)),
+    }
+}
+
+fn flags_text(alloc: Global, package: &Installed) -> Result<String, AllocError> {
+    let flags = recorded_flags(alloc, &package.pkg.facts)?;
+    let mut text = String::new(alloc);
+    for flag in flags.list() {
+        text.push_str(flag.text())?;
+        text.push_str(" ")?;
     }
     Ok(text)
 }
