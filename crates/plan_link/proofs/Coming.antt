@@ -1,5 +1,5 @@
 -- A package that comes as the offered one enters, field by field.
-use Rattle.std.proofs.Common.{◌≡◌, ◌∙◌, ◌||◌, ◌<◌, ◌≤◌, ◌+◌, ℕ, Bool, true, false, List, [], ◌∷◌, Option, None, Some, drop, get_or, length, refl, sym, ap, inl, inr}
+use Rattle.std.proofs.Common.{◌≡◌, ◌∙◌, ◌||◌, ◌<◌, ◌≤◌, ◌+◌, ℕ, Bool, true, false, List, [], Option, None, Some, drop, get_or, length, refl, sym, ap, inl, inr}
 use Rattle.std.specs.Prelude.{bytes_eq}
 use Rattle.pms_names.specs.Flags.{IsRising, has}
 use Rattle.dep_atom.specs.declared.package.Facts.{Facts}
@@ -10,7 +10,7 @@ use Rattle.plan_text.specs.Plans.{AdditionValue}
 use Rattle.plan_link.specs.Entering.{all_entered}
 use Rattle.plan_check.proofs.Judged.{drop_end}
 use Rattle.plan_check.proofs.Places.{at_drop}
-use Rattle.plan_link.specs.Offers.{AreOn, ComesAs, IsFirst, Names, entering, with_flags}
+use Rattle.plan_link.specs.Offers.{AreOn, ComesAs, IsFirst, Names, with_flags}
 
 pub comes : (a : AdditionValue) (p : Package) (on : List (List ℕ)) (f : Facts) (r pd d b i : Dependencies) (q : Expressions) → AreOn a.enabled p.facts.enabled on
     → f ≡ with_flags on p.facts → r ≡ all_entered (has on) a.binds p.rdepend → pd ≡ all_entered (has on) [] p.pdepend → d ≡ all_entered (has on) [] p.depend → b ≡ all_entered (has on) [] p.bdepend → i ≡ all_entered (has on) [] p.idepend → q ≡ p.required

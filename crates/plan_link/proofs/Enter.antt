@@ -2,7 +2,7 @@
 use Rattle.std.proofs.Common.{◌≡◌, ◌∙◌, ◌<◌, ◌≤◌, ◌+◌, ℕ, Bool, true, false, List, [], ◌∷◌, ◌++◌, length, get_or, drop, map, refl, sym, ap}
 use Rattle.dep_atom.specs.Values.{AtomValue}
 use Rattle.dep_atom.specs.declared.slot.Bind.{Bind}
-use Rattle.dep_group.specs.Trees.{Tree, Trees, no_trees, tree, trees_of}
+use Rattle.dep_group.specs.Trees.{Tree, no_trees, tree, trees_of}
 use Rattle.dep_group.specs.declared.token.Opener.{Opener}
 use Rattle.dep_tree.specs.Texts.{Dependencies}
 use Rattle.dep_tree.specs.View.{trees_view, view}

@@ -1,14 +1,14 @@
 -- What the rules of linking say, one addition after another.
-use Rattle.std.proofs.Common.{◌≡◌, ◌⊎◌, ◌+◌, ◌∙◌, ℕ, Bool, true, false, List, [], ◌∷◌, Option, None, Some, map, refl, sym, ap, subst, inl, inr}
-use Rattle.std.specs.Prelude.{◌≢◌, Result, Ok, Err, IfErr, IfSome, MatchResult}
+use Rattle.std.proofs.Common.{◌≡◌, ◌∙◌, ℕ, Bool, true, false, List, [], ◌∷◌, Option, None, Some, refl, sym, subst, inl, inr}
+use Rattle.std.specs.Prelude.{◌≢◌, Result, Ok, Err, IfErr, IfSome}
 use Rattle.basics.specs.Members.{Has}
 use Rattle.pms_names.specs.Flags.{has}
 use Rattle.pkg_state.specs.Package.{Package}
 use Rattle.plan_text.specs.Plans.{AdditionValue, GroupValue}
-use Rattle.plan_check.specs.Verdicts.{both, each, each_from, refuse}
+use Rattle.plan_check.specs.Verdicts.{each}
 use Rattle.plan_check.proofs.Trying.{IsClear, each_clear, each_passed, from_clear}
 use Rattle.plan_link.specs.Faults.{Says, addition_rule, flag_rule, found_rule, group_rule, link_rule}
-use Rattle.plan_link.specs.Offers.{IsFirst, Names}
+use Rattle.plan_link.specs.Offers.{IsFirst}
 use Rattle.plan_link.specs.declared.fault.LinkFault.{LinkFault}
 use Rattle.plan_link.specs.declared.fault.LinkFault.TheVariants as faults
 

@@ -1,12 +1,11 @@
 -- Dependencies as they are when their package enters: each leaf that asks for a bind takes the next
 -- one, in written order, and a slot operator that is bound to no subslot is dropped.
 use Rattle.std.specs.Prelude.{◌&&◌, ℕ, Bool, true, false, not, List, [], ◌∷◌, Option, None, Some, if◌then◌else◌}
-use Rattle.pms_names.specs.Flags.{has}
 use Rattle.dep_atom.specs.Values.{AtomValue}
 use Rattle.dep_atom.specs.declared.slot.Bind.{Bind}
 use Rattle.dep_atom.specs.declared.slot.SlotPart.{SlotPart}
 use Rattle.dep_atom.specs.declared.slot.SlotPart.TheVariants.{Equals, Free, Given, Star}
-use Rattle.dep_group.specs.Trees.{Tree, Trees, group, is_met, leaf, no_trees, tree}
+use Rattle.dep_group.specs.Trees.{Tree, group, is_met, leaf, no_trees, tree}
 use Rattle.dep_group.specs.declared.token.Opener.{Opener}
 use Rattle.dep_group.specs.declared.token.Opener.TheVariants.{AnyOf, AtMostOne, ExactlyOne, When}
 use Rattle.dep_tree.specs.Grammar.{is_block}

@@ -28,7 +28,8 @@ pub record StandsFor (text : List ℕ) (offered : List Package) (plan : List law
 
 -- nothing is wrong with the text of these groups: each addition is offered, and whatever plan it
 -- stands for is accepted
-pub record IsRight (text : List ℕ) (offered start : List Package) (groups : List GroupValue) : Type 0 where
+pub record IsRight (text : List ℕ) (offered start : List Package)
+    (groups : List GroupValue) : Type 0 where
   pub spells : Spells text groups
   pub offers : link_rule offered groups None
   pub accepted : (plan : List law.Group) → IsLinked offered groups plan → IsAccepted plan start

@@ -6,21 +6,24 @@
 //! names no subslot is dropped, in all classes. No bind reaches into an any-of group or into one
 //! whose condition isn't met, a block asks for none, and a slot that is written stays.
 //!
-//! **A contract sees** a text as the list of its groups, as `plan_text` has it, and a plan as that of
-//! `plan_check`.
+//! **A contract sees** a text as the list of its groups, as `plan_text` has it, and a plan as
+//! `plan_check` has it.
 //!
 //! **Proved**: of a text in form [`link`] gives a plan that is linked to it, group by group and
 //! addition by addition (`IsLinked` of `specs/Linked.antt`). But for want of memory it is refused
 //! exactly where an addition names no offered package, or where it has a flag that its package
 //! doesn't know, for the first such addition and flag (`link_rule` of `specs/Faults.antt`).
+//! [`judge_plan`] accepts a text exactly where it is that of a plan in form, each addition is
+//! offered, and the plan that it stands for is accepted over the packages that are there, hence
+//! sound over every order of its groups; any other text is refused for the first fault of these
+//! three (`specs/Judged.antt`).
 //!
 //! **Only tested**: nothing yet.
 //!
 //! Each addition takes time that is linear in the number of packages that are offered.
 //!
 //! ```
-//! let text = plan_text::Plan::parse(alloc, "plan 1\ngroup 1\nadd c/p-1:0/0\n")?;
-//! let plan = link(alloc, &text, &offered)?;
+//! let plan = judge_plan(alloc, "plan 1\ngroup 1\nadd c/p-1:0/0\n", &offered, &installed)?;
 //! ```
 #![tactic(auto)]
 

@@ -29,7 +29,7 @@ fn link_groups(
     Ok(linked)
 }
 
-/// The plan that the text stands for, over the packages that are offered. Of these the flags that are
+/// The plan that the text stands for, over the packages that are offered. The flags that these have
 /// on are the implicit ones.
 pub fn link(alloc: Global, text: &Plan, offered: &[Pkg]) -> Result<check::Plan, LinkFault>
     requires { IsPlan (plan_value text.now) }

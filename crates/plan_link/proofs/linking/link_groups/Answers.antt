@@ -1,4 +1,4 @@
-use Rattle.std.proofs.Common.{◌+◌, List, Some, arith, map, subst, sym, take}
+use Rattle.std.proofs.Common.{◌+◌, List, arith, map, subst, sym, take}
 use Rattle.std.specs.List.{AllZip}
 use Rattle.std.proofs.lemmas.Result.{err_from_is_err_and}
 use Rattle.plan_law.specs.Plans.{Group}
