@@ -22,8 +22,8 @@ fn plain(alloc: Global, text: &str) -> Result<Object, AllocError> {
     })
 }
 
-/// What a group places: the first one `a`, the second one `b` over what package 7 owns, and the third
-/// one `d`.
+/// What a group places: the first one `a`, the second one `b` over what package 7 owns, and the
+/// third one `d`.
 pub(crate) fn entry_of(alloc: Global, group: u32) -> Result<Entry, PathFault> {
     let text = match group {
         0 => "a",

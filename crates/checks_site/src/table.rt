@@ -11,8 +11,8 @@ const TO_THE_CLAIMS: u32 = 0xAAA;
 /// Orders below this one have ten events at most.
 const ORDERS: u32 = 2048;
 
-/// Whether a run in this order comes to its end, and leaves what it has to where the device stops at
-/// its last call.
+/// Whether a run in this order comes to its end, and leaves what it has to where the device stops
+/// at its last call.
 fn holds(alloc: Global, order: u32) -> Result<bool, Fail> {
     let whole = run(alloc, 1, order, u64::MAX)?;
     let stopped = run(alloc, 1, order, whole.tree.calls())?;

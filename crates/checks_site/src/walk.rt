@@ -25,8 +25,9 @@ pub(crate) struct Left {
     pub came: Came,
 }
 
-/// Makes the events of group 0 and of another one in this order, until one doesn't come. The order's
-/// binary digits are read from the last one on; the first digit is the end, 0 is an event of group 0.
+/// Makes the events of group 0 and of another one in this order, until one doesn't come. The
+/// order's binary digits are read from the last one on; the first digit is the end, and 0 is an
+/// event of group 0.
 fn walk(alloc: Global, site: &mut Site<MemTree, MemSink>, other: u32, order: u32) -> Came
     requires three { AreThree site.old.keeping }
     requires small { other < 3 }

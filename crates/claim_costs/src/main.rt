@@ -2,8 +2,8 @@
 //!
 //! Its arguments are numbers of paths. For each it prints a row of a table: the milliseconds of a
 //! claim of so many paths beside as many owned ones, of a whole group that places so many empty
-//! files, and of a recovery of that group, each with the calls that were made of the tree. That tree
-//! keeps nothing, so the time is that of the journal, the machine and the book alone.
+//! files, and of a recovery of that group, each with the calls that were made of the tree. That
+//! tree keeps nothing, so the time is that of the journal, the machine and the book alone.
 #![tactic(auto)]
 
 mod parts;

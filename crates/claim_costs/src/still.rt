@@ -3,8 +3,8 @@ ghost use Rattle.std.specs.Prelude.{[], None, false};
 use file_tree::{Failed, Kind, Look, Object, Path, Tree, TreeFault};
 use std::alloc::{AllocError, Global};
 
-/// A tree that takes each call and keeps nothing, so that only its callers cost time. It reads as the
-/// journal of one open group with this record, each stage of which is an empty file.
+/// A tree that takes each call and keeps nothing, so that only its callers cost time. It reads as
+/// the journal of one open group with this record, each stage of which is an empty file.
 #[derive(Drop)]
 pub struct StillTree {
     pub alloc: Global,
