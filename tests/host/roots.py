@@ -95,6 +95,20 @@ def contents(image):
     return "".join(lines).encode()
 
 
+def install_many(root, packages, files):
+    """Records of so many packages, each of so many files; the files themselves aren't there, since a
+    run looks at the records alone. Each package needs the one before it."""
+    digest = md5(b"")
+    for at in range(packages):
+        record = f"{root}/var/db/pkg/dev-many/part{at}-1"
+        lines = [f"obj /usr/many/{at}/file-{it} {digest} 0\n" for it in range(files)]
+        write(f"{record}/CONTENTS", "".join(lines).encode())
+        write(f"{record}/EAPI", b"8\n")
+        write(f"{record}/SLOT", b"0\n")
+        if at:
+            write(f"{record}/RDEPEND", f"dev-many/part{at - 1}\n".encode())
+
+
 class Host:
     """A folder with a root that has a repository, and the image of its package: of each path a kind
     and the bytes."""
