@@ -15,7 +15,8 @@ use Rattle.merge_record.specs.Recovered.{IsRecovered}
 use Rattle.emerge_words.specs.declared.request.WordFault.{WordFault}
 use Rattle.emerge_run.specs.Answers.{AsksFor, IsReady}
 use Rattle.emerge_run.specs.Images.{IsTold}
-use Rattle.emerge_run.specs.Outcomes.{BuildEnds, HasChosen, IsEarly, IsKept, IsNamed, OfSomeBuilder, Outcome}
+use Rattle.run_law.specs.Ends.{IsKept}
+use Rattle.emerge_run.specs.Outcomes.{BuildEnds, HasChosen, IsEarly, IsNamed, OfSomeBuilder, Outcome}
 use Rattle.emerge_run.specs.Package.{order_of}
 use Rattle.emerge_run.specs.Refusals.{status_of, status_of_recovery}
 use Rattle.emerge_run.specs.Words.{EndsAtWords, IsOfWords, IsRequest}

@@ -1,6 +1,8 @@
 -- How a run's outcome comes of its stages.
-use Rattle.std.proofs.Common.{◌≡◌, ◌∙◌, ◌⊎◌, ◌<◌, ℕ, Bool, true, false, List, [], length, None, inl, inr, refl, ap, sym, subst}
+use Rattle.std.proofs.Common.{◌≡◌, ◌∙◌, ◌⊎◌, ◌<◌, ℕ, Bool, true, false, List, [], length, None, Some, inl, inr, refl, ap, sym, subst}
 use Rattle.std.specs.Prelude.{Contains, IsTrue, if◌then◌else◌}
+use Rattle.std.specs.List.{AllByRecursion}
+use Rattle.merge_record.specs.Spelling.{IsPathText}
 use Rattle.file_tree.specs.Disk.{Map, Story}
 use Rattle.file_tree.specs.Moments.{Since}
 use Rattle.file_tree.specs.Paths.{is_below}
@@ -24,12 +26,13 @@ use Rattle.group_run.specs.Applied.{Recovers}
 use Rattle.emerge_run.specs.Answers.{Asks, AsksFor, AsksMerge, IsReady}
 use Rattle.emerge_run.specs.Images as images
 use Rattle.image_fit.specs.declared.limits.TheConstants.{MOST_ENTRIES}
-use Rattle.emerge_run.specs.Outcomes.{BuildEnds, HasChosen, IsKept, IsMerge, IsNamed, IsOfTree, IsReached, MergedTo, OfSomeBuilder, Outcome}
-use Rattle.emerge_run.specs.Package.{MayCome, order_of}
+use Rattle.run_law.specs.Ends.{IsGroupOf, IsKept, IsReached, Merge}
+use Rattle.emerge_run.specs.Outcomes.{BuildEnds, HasChosen, IsChoice, IsNamed, IsOfTree, IsWanted, MergedTo, OfSomeBuilder, Outcome}
+use Rattle.run_law.specs.Runs.{MayCome}
+use Rattle.emerge_run.specs.Package.{order_of}
 use Rattle.emerge_run.specs.Refusals.{TreeRefuses, status_of, status_of_recovery}
 use Rattle.emerge_words.specs.declared.request.WordFault.{WordFault}
 use Rattle.emerge_run.specs.Words.{AskForPackage, EndsAtWords, IsOfWords, IsRequest}
-use Rattle.emerge_run.proofs.Merged.{has_weaker, leaves_weaker, recovers_weaker}
 use Rattle.emerge_run.specs.declared.refusal.Refusal.{Refusal}
 use Rattle.emerge_run.specs.declared.refusal.Refusal.TheVariants as refusals
 use Rattle.emerge_run.specs.declared.status.Part.TheVariants.{Command, Repository, Result}
@@ -136,7 +139,7 @@ kept_same old new same = since_same (IsKept old.now) old old new (since_start (I
 pub outcome_before : (words : List (List ℕ)) (image : Order → List Entry) (old new : Story) (s : Status) → Asks words old.now.holds image s → (IsOfTree s → ⊥) → Since (IsKept old.now) old new → Outcome words image old new [] s
 outcome_before words image old new s asks other since = record {
   answer = asks;
-  moments = since_weaker (IsKept old.now) (IsReached words image [] old.now) (λ c h. inl (refl, h)) old new since;
+  moments = since_weaker (IsKept old.now) (IsReached (IsChoice words image) [] old.now) (λ c h. inl (refl, h)) old new since;
   crash = λ c is. inl (refl, since.now c is);
   left = λ healthy. inl (refl, since.now);
   tree = λ of. absurd (other of);
@@ -177,10 +180,10 @@ pub outcome_over : (words : List (List ℕ)) (a : AtomValue) (image : Order → 
     → IsRecovered old.now.holds mid.now.holds → IsAtRest mid.now.holds mid.now → new ≡ mid → AsksFor a mid.now.holds image s → Outcome words image old new [] s
 outcome_over words a image old mid new s asked since is rest same asks = subst (λ (x : Story). Outcome words image old x [] s) (sym same) (record {
   answer = asks_after words a old.now.holds mid.now.holds image s asked is asks;
-  moments = since_weaker (IsKept old.now) (IsReached words image [] old.now) (λ c h. inl (refl, h)) old mid since;
+  moments = since_weaker (IsKept old.now) (IsReached (IsChoice words image) [] old.now) (λ c h. inl (refl, h)) old mid since;
   crash = λ c k. inl (refl, since.now c k);
   left = λ healthy. inl (refl, since.now);
-  tree = λ of. (mid.now.holds, is, record { groups = []; of = λ x there. absurd there; are = refl; reads = rest_reads mid.now.holds rest.empty; untouched = rest.untouched });
+  tree = λ of. (mid.now.holds, is, (None, record { groups = []; of = λ x there. absurd there; are = refl; reads = rest_reads mid.now.holds rest.empty; untouched = rest.untouched }));
 })
 
 -- the answer of a merge is one of the run
@@ -206,37 +209,35 @@ merge_asks a ps f m image (status.BuildFailed id) ready asks = absurd asks
 
 -- a run whose package was merged
 module _ (words : List (List ℕ)) (image : Order → List Entry) (old mid new : Story) (ps : List Installed) (f : Facts) (entries : List Entry) (history : List ℕ) (s : Status)
-    (chosen : HasChosen words image old mid ps f entries) (merged : MergedTo ps f entries mid new history s) where
+    (chosen : HasChosen words image old mid ps f entries) (paths : AllByRecursion (λ e. IsPathText e.path) entries) (merged : MergedTo ps f entries mid new history s) where
   abbrev m : Map
   m = mid.now.holds
 
-  is_merge : (x : Group) → MayCome ps f entries m x → IsMerge words image m x
-  is_merge x may = record { atom = chosen.atom; asked = chosen.asked; packages = ps; facts = f; ready = chosen.ready; may_come = subst (λ (es : List Entry). MayCome ps f es m x) (sym chosen.told) may }
+  choice : IsChoice words image m ps f entries
+  choice = record { wanted = record { atom = chosen.atom; asked = chosen.asked; ready = chosen.ready }; told = chosen.told; paths = paths }
 
-  reached : (among : List ℕ) (c : Map) → Recovers (MayCome ps f entries m) m among c → IsReached words image among old.now c
-  reached among c h = inr (m, chosen.recovered, recovers_weaker (MayCome ps f entries m) (IsMerge words image m) is_merge m among c h)
+  abbrev merge : Merge (IsChoice words image) m
+  merge = record { packages = ps; facts = f; image = entries; chosen = choice }
+
+  reached : (among : List ℕ) (c : Map) → Recovers (MayCome ps f entries m) m among c → IsReached (IsChoice words image) among old.now c
+  reached among c h = inr (m, chosen.recovered, (Some merge, h))
 
   outcome_merged : Outcome words image old new history s
   outcome_merged = record {
     answer = asks_after words chosen.atom old.now.holds m image s chosen.asked chosen.recovered
         (merge_asks chosen.atom ps f m image s chosen.ready (subst (λ (es : List Entry). AsksMerge ps f es m s) (sym chosen.told) merged.answer));
-    moments = since_then (IsReached words image [] old.now) old mid new (since_weaker (IsKept old.now) (IsReached words image [] old.now) (λ c h. inl (refl, h)) old mid chosen.moments)
-        (since_weaker (Recovers (MayCome ps f entries m) m []) (IsReached words image [] old.now) (λ c h. reached [] c h) mid new merged.moments);
+    moments = since_then (IsReached (IsChoice words image) [] old.now) old mid new (since_weaker (IsKept old.now) (IsReached (IsChoice words image) [] old.now) (λ c h. inl (refl, h)) old mid chosen.moments)
+        (since_weaker (Recovers (MayCome ps f entries m) m []) (IsReached (IsChoice words image) [] old.now) (λ c h. reached [] c h) mid new merged.moments);
     crash = λ c k. reached history c (merged.crash c k);
-    left = λ healthy. inr (m, chosen.recovered, leaves_weaker (MayCome ps f entries m) (IsMerge words image m) is_merge m history new.now (merged.left healthy));
-    tree = λ of. (
-      m,
-      chosen.recovered,
-      has_weaker (MayCome ps f entries m) (IsMerge words image m) is_merge m history new.now
-          (merged.tree (λ e. subst IsOfTree e of) (λ e. subst IsOfTree e of)),
-    );
+    left = λ healthy. inr (m, chosen.recovered, (Some merge, merged.left healthy));
+    tree = λ of. (m, chosen.recovered, (Some merge, merged.tree (λ e. subst IsOfTree e of) (λ e. subst IsOfTree e of)));
   }
 
 pub outcome_chosen : {B : Type 0} (tells : Bool) (told : B → Order → List Entry) (resting : List B) (words : List (List ℕ)) (old mid new : Story) (ps : List Installed) (f : Facts) (entries : List Entry) (history : List ℕ) (s : Status)
-    → OfSomeBuilder tells told resting (λ image. HasChosen words image old mid ps f entries) → MergedTo ps f entries mid new history s
+    → OfSomeBuilder tells told resting (λ image. HasChosen words image old mid ps f entries) → AllByRecursion (λ e. IsPathText e.path) entries → MergedTo ps f entries mid new history s
     → OfSomeBuilder tells told resting (λ image. Outcome words image old new history s)
-outcome_chosen tells told resting words old mid new ps f entries history s (b, has, (image, its, chosen)) merged =
-    (b, has, (image, its, outcome_merged words image old mid new ps f entries history s chosen merged))
+outcome_chosen tells told resting words old mid new ps f entries history s (b, has, (image, its, chosen)) paths merged =
+    (b, has, (image, its, outcome_merged words image old mid new ps f entries history s chosen paths merged))
 
 -- a run that came to one status ends with another one, which asks for nothing
 outcome_as : (words : List (List ℕ)) (image : Order → List Entry) (old new : Story) (history : List ℕ) (s s' : Status) → (s ≡ status.DeviceFault → s' ≡ status.DeviceFault)

@@ -20,7 +20,8 @@ use Rattle.group_run.specs.declared.stop.Stop.TheVariants as stops
 use Rattle.package_run.specs.Packages.{GROUP, MayStop, StopsMerge, WentFor}
 use Rattle.emerge_run.specs.Answers.{AsksMerge}
 use Rattle.emerge_run.specs.Outcomes.{IsOfMerge, IsRefusal, MergedTo}
-use Rattle.emerge_run.specs.Package.{MayCome, StopsAt}
+use Rattle.run_law.specs.Runs.{MayCome}
+use Rattle.emerge_run.specs.Package.{StopsAt}
 use Rattle.emerge_run.specs.Refusals.{status_of_claim, status_of_end, status_of_stop}
 use Rattle.emerge_run.specs.declared.status.Status.{Status}
 use Rattle.emerge_run.specs.declared.status.Status.TheVariants as status

@@ -26,7 +26,8 @@ use Rattle.run_law.specs.Openings.{HasOpening, MayJoin}
 use Rattle.opening.specs.Faults.{IsBadDatabase, IsInconsistent}
 use Rattle.opening.specs.Matched.{is_matched}
 use Rattle.visible_set.specs.Candidates.{AreOffers, HasOddEntry, IsChosen}
-use Rattle.emerge_run.specs.Package.{MayCome, StopsAt, order_of}
+use Rattle.run_law.specs.Runs.{MayCome}
+use Rattle.emerge_run.specs.Package.{StopsAt, order_of}
 use Rattle.emerge_run.specs.Words.{AskForOther, AskForPackage, IsRequest, IsUsage}
 use Rattle.emerge_run.specs.declared.judge.Standing.{Standing}
 use Rattle.emerge_run.specs.declared.judge.Standing.TheVariants.{Barred, Chosen, Met, Unmatched}
@@ -38,10 +39,11 @@ use Rattle.emerge_run.specs.declared.status.Status.{Status}
 use Rattle.emerge_run.specs.declared.status.Status.TheVariants as status
 
 -- each candidate of the atom's name has its entry in the one form that is read, and these are the
--- installed packages, which go together
+-- installed packages, which go together, and no other list tells them
 pub record IsRead (m : Map) (a : AtomValue) (ps : List Installed) : Type 0 where
   pub entries : HasOddEntry m a.name → ⊥
   pub opening : HasOpening m ps
+  pub only : (qs : List Installed) → HasOpening m qs → ps ≡ qs
 
 -- the atom matches one of the installed packages
 abbrev pub IsMet : Map → AtomValue → Type 0

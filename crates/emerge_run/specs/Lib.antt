@@ -1,4 +1,5 @@
 pub mod Answers
+pub mod Headline
 pub mod Images
 pub mod Openings
 pub mod Outcomes

@@ -1,6 +1,7 @@
 -- What a run leaves: its tree, its groups, and what it wrote.
 use Rattle.std.specs.Prelude.{◌≡◌, ◌≢◌, ◌⊎◌, true, ℕ, Bool, List, [], Contains, IsTrue}
-use Rattle.file_tree.specs.Disk.{Disk, IsImage, Map, Story}
+use Rattle.std.specs.List.{AllByRecursion}
+use Rattle.file_tree.specs.Disk.{Map, Story}
 use Rattle.file_tree.specs.Moments.{Leaves, Since}
 use Rattle.file_tree.specs.declared.limits.Quantity.TheVariants.{Groups, Paths, RecordBytes}
 use Rattle.file_tree.specs.declared.objects.Entry.{Entry}
@@ -10,14 +11,15 @@ use Rattle.dep_atom.specs.Values.{AtomValue}
 use Rattle.dep_atom.specs.declared.package.Facts.{Facts}
 use Rattle.dep_atom.specs.declared.package.PackageId.{PackageId}
 use Rattle.database_law.specs.Packages.{Installed}
-use Rattle.journal.specs.Group.{Group}
 use Rattle.merge_core.specs.Trail.{IsAtRest}
 use Rattle.merge_record.specs.Recovered.{IsRecovered}
-use Rattle.recovery.specs.Promise.{RecoversAlike}
+use Rattle.merge_record.specs.Spelling.{IsPathText}
 use Rattle.group_run.specs.Applied.{HasHistory, LeavesHistory, Recovers}
 use Rattle.emerge_run.specs.Answers.{Asks, AsksMerge, IsReady}
 use Rattle.emerge_run.specs.Images.{HasMany}
-use Rattle.emerge_run.specs.Package.{MayCome, order_of}
+use Rattle.run_law.specs.Ends.{HasGroups, IsKept, IsReached, LeavesGroups}
+use Rattle.run_law.specs.Runs.{MayCome}
+use Rattle.emerge_run.specs.Package.{order_of}
 use Rattle.emerge_run.specs.Words.{IsRequest}
 use Rattle.emerge_run.specs.declared.status.Part.TheVariants.{Command, Result}
 use Rattle.emerge_run.specs.declared.status.Status.{Status}
@@ -37,41 +39,19 @@ pub record MergedTo (ps : List Installed) (f : Facts) (image : List Entry) (old 
   pub tree : s ≢ status.DeviceFault → s ≢ status.Memory →
       HasHistory (MayCome ps f image old.now.holds) old.now.holds history new.now
 
--- the group merges the package that the words choose in this map
-pub record IsMerge (words : List (List ℕ)) (image : Order → List Entry) (m : Map)
-    (x : Group) : Type 0 where
+-- the words choose this package in a map, beside these, which are installed there
+pub record IsWanted (words : List (List ℕ)) (m : Map) (ps : List Installed) (f : Facts) :
+    Type 0 where
   pub atom : AtomValue
   pub asked : IsRequest words atom
-  pub packages : List Installed
-  pub facts : Facts
-  pub ready : IsReady m atom packages facts
-  pub may_come : MayCome packages facts (image (order_of facts)) m x
+  pub ready : IsReady m atom ps f
 
--- a crash image is one of the disk, or it and the disk recover to the same map
-abbrev pub IsKept : Disk → Map → Type 0
-IsKept d c = IsImage d c ⊎ RecoversAlike d.holds c
-
--- a crash image recovers to what the disk recovers to, with some groups of the run applied, those
--- with these numbers among them
-abbrev pub RecoversWith : List (List ℕ) → (Order → List Entry) → List ℕ → Disk → Map → Type 0
-RecoversWith words image among d c =
-    (m : Map) × IsRecovered d.holds m × Recovers (IsMerge words image m) m among c
-
--- the same, or no group is among them, and the disk is as it was to a recovery
-abbrev pub IsReached : List (List ℕ) → (Order → List Entry) → List ℕ → Disk → Map → Type 0
-IsReached words image among d c =
-    ((among ≡ []) × IsKept d c) ⊎ RecoversWith words image among d c
-
--- a crash leaves what recovers to what the old disk recovers to, with just the groups of the history
-abbrev pub LeavesGroups : List (List ℕ) → (Order → List Entry) → List ℕ → Disk → Disk → Type 0
-LeavesGroups words image history old new = ((history ≡ []) × Leaves (IsKept old) new)
-    ⊎ ((m : Map) × IsRecovered old.holds m × LeavesHistory (IsMerge words image m) m history new)
-
--- the disk reads as what the old one recovers to, with just the groups of the history, and a crash
--- leaves just that
-abbrev pub HasGroups : List (List ℕ) → (Order → List Entry) → List ℕ → Disk → Disk → Type 0
-HasGroups words image history old new =
-    (m : Map) × IsRecovered old.holds m × HasHistory (IsMerge words image m) m history new
+-- the same, and this is the image that is told for it, whose paths are texts of paths
+pub record IsChoice (words : List (List ℕ)) (image : Order → List Entry) (m : Map)
+    (ps : List Installed) (f : Facts) (entries : List Entry) : Type 0 where
+  pub wanted : IsWanted words m ps f
+  pub told : image (order_of f) ≡ entries
+  pub paths : AllByRecursion (λ e. IsPathText e.path) entries
 
 -- an answer that a run gives once its tree is recovered, and that says how it went there
 abbrev pub IsOfTree : Status → Type 0
@@ -99,10 +79,11 @@ IsOfTree status.Memory = ⊥
 pub record Outcome (words : List (List ℕ)) (image : Order → List Entry) (old new : Story)
     (history : List ℕ) (s : Status) : Type 0 where
   pub answer : Asks words old.now.holds image s
-  pub moments : Since (IsReached words image [] old.now) old new
-  pub crash : Leaves (IsReached words image history old.now) new.now
-  pub left : s ≢ status.DeviceFault → LeavesGroups words image history old.now new.now
-  pub tree : IsOfTree s → HasGroups words image history old.now new.now
+  pub moments : Since (IsReached (IsChoice words image) [] old.now) old new
+  pub crash : Leaves (IsReached (IsChoice words image) history old.now) new.now
+  pub left : s ≢ status.DeviceFault →
+      LeavesGroups (IsChoice words image) history old.now new.now
+  pub tree : IsOfTree s → HasGroups (IsChoice words image) history old.now new.now
 
 -- a run has chosen a package with this image, to come beside these: its tree is at rest, as recovery
 -- made it

@@ -9,7 +9,7 @@ ghost use Rattle.emerge_run.specs.Images.{IsTold};
 ghost use Rattle.emerge_run.specs.Outcomes.{BuildEnds};
 ghost use Rattle.emerge_run.specs.Package.{IsAddition, order_of};
 
-use crate::images::built_image;
+use crate::images::{built_image, promise_paths};
 use crate::status::Status;
 use crate::texts::line_of_group;
 use build_pool::{BuildPool, BuildStop, Builder, Order};
@@ -63,6 +63,7 @@ pub fn addition_of(
         book.claims ≡ [] → (IsTrue tells → AreOwners m ps book) →
         IfOk result (IsAddition tells m ps facts.now) }
 {
+    promise_paths(&image);
     let number = u32::try_from(count).map_err(|_| AllocError)?;
     let text = line_of_group(alloc, &facts.id, 1)?;
     let line = text.as_bytes().to_vec(alloc)?;

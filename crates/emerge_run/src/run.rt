@@ -1,9 +1,12 @@
 ghost use Rattle.std.specs.Prelude.{◌≡◌, ◌≤◌, ◌<◌, ◌⊎◌, [], ℕ, IsTrue, MatchOption, length, map};
-ghost use Rattle.std.specs.Prelude.{string_bytes};
-ghost use Rattle.file_tree.specs.Disk.{Rose};
+ghost use Rattle.std.specs.Prelude.{List, string_bytes};
+ghost use Rattle.file_tree.specs.Disk.{Map, Rose};
 ghost use Rattle.build_pool.specs.Pool.{PoolRose, SameIds};
 ghost use Rattle.dep_atom.specs.declared.package.PackageId.{PackageId};
 ghost use Rattle.emerge_run.specs.Openings.{AreInstalledAfter, GivesBack, IsUnread};
+ghost use Rattle.database_law.specs.Packages.{Installed};
+ghost use Rattle.run_law.specs.Ends.{BeginsWith};
+ghost use Rattle.emerge_run.specs.Headline.{Headline};
 ghost use Rattle.emerge_run.specs.Outcomes.{IsAnswer, IsNamed, IsRefusal, OfSomeBuilder, Outcome};
 ghost use Rattle.group_run.specs.Applied.{number};
 ghost use Rattle.group_run.specs.Lines.{Wrote};
@@ -81,6 +84,12 @@ pub fn emerge<T: Tree + Send, S: Sink + Send, B: Builder + Send>(
         result.status result.opening.items }
     ensures unread { IsUnread result.status → result.opening.items ≡ [] }
 
+    // From a disk whose packages go together, and which keeps what they recorded, a crash at any
+    // moment recovers to such a tree: with the same packages, or with these and the chosen one.
+    ensures headline { IsTrue T.tells → (m : Map) (ps : List Installed) →
+        BeginsWith (T.story tree).now m ps → Headline (map string_bytes words.now) m ps
+        (T.story tree) (T.story result.tree) result.history.items result.status }
+
     // The history is the order of the machine, and its beginning is acknowledged.
     ensures machine { MatchOption result.machine (result.history.items ≡ [])
         (λ k. result.history.items ≡ map number k.order) }
@@ -116,6 +125,7 @@ pub fn emerge<T: Tree + Send, S: Sink + Send, B: Builder + Send>(
     ensures ids { SameIds B.number pool result.pool }
     ensures lent { result.pool.lent ≡ pool.lent }
 {
+    run_law::runs_leave_sound_trees();
     let Reached {
         status,
         tree,

@@ -1,4 +1,4 @@
-use Rattle.std.proofs.Common.{◌≡◌, List, ap, subst}
+use Rattle.std.proofs.Common.{◌≡◌, List, ap, subst, sym}
 use Rattle.std.proofs.lemmas.Result.{err_from_is_err_and}
 use Rattle.file_tree.specs.Disk.{Map, Story}
 use Rattle.database_law.specs.Packages.{Installed}
@@ -28,6 +28,7 @@ returns-clause-read g c t =
     record {
       entries = c.in_ok-offers.ensures.all_read t;
       opening = subst (λ (y : Map). HasOpening y ps) back (c.in_ok-opening.ensures.found t);
+      only = λ qs has. c.in_ok-opening.ensures.only t qs (subst (λ (y : Map). HasOpening y qs) (sym back) has);
     }
 
 pub returns-clause-owners : goal.returns-clause-owners

@@ -12,7 +12,7 @@ returns-in-Ok-clause-outcome g c t =
     let found = c.choose-found.result in
     let r = c.merge_chosen.result in
     outcome_chosen g.B.Builder.tells g.B.Builder.told c.args.pool.now.resting (map string_bytes c.args.words.now) (g.T.Tree.story c.args.tree) (g.T.Tree.story c.choose-found.new.tree) (g.T.Tree.story r.tree)
-    found.opening.items chosen.facts chosen.addition.image.items r.history.items r.status (rw c.in-Ok.is at (c.choose-found.ensures.chosen t)) (c.merge_chosen.ensures.merged t)
+    found.opening.items chosen.facts chosen.addition.image.items r.history.items r.status (rw c.in-Ok.is at (c.choose-found.ensures.chosen t)) (rw c.in-Ok.is at c.choose-found.ensures.added).paths (c.merge_chosen.ensures.merged t)
 
 pub returns-in-Ok-clause-opening : goal.returns-in-Ok-clause-opening
 returns-in-Ok-clause-opening g c t =

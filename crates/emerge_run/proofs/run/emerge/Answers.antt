@@ -4,6 +4,7 @@ use Rattle.emerge_run.specs.Outcomes.{IsAnswer, IsNamed}
 use Rattle.emerge_run.proofs.Asked.{some_builder}
 use Rattle.emerge_run.proofs.Endings.{built_before, came_asked, memory_asked, outcome_finished, usage_kept}
 use Rattle.emerge_run.proofs.Givens.{gives_finished, unread_finished}
+use Rattle.emerge_run.proofs.Headline.{headline_of}
 use Rattle.emerge_run.proofs.Lines.{wrote_all}
 use Rattle.emerge_run.proofs.run.emerge.Goals as goal
 
@@ -37,3 +38,8 @@ returns-clause-opening g c t =
 
 pub returns-clause-unread : goal.returns-clause-unread
 returns-clause-unread g c of = unread_finished c.attempt-status.result.status c.finish-status.result _ _ c.finish-status.ensures.status c.attempt-status.ensures.unread of
+
+pub returns-clause-headline : goal.returns-clause-headline
+returns-clause-headline g c t =
+    headline_of c.runs_leave_sound_trees.ensures.groups c.runs_leave_sound_trees.ensures.crashes g.B.Builder.tells g.B.Builder.told c.args.pool.resting (map string_bytes c.args.words.now)
+    (g.T.Tree.story c.args.tree) (g.T.Tree.story c.attempt-status.result.tree) c.attempt-status.result.history.items c.finish-status.result (returns-clause-outcome g c t)
