@@ -54,7 +54,10 @@ impl StillTree {
 impl Tree for StillTree {
     ghost tells = { false };
 
-    ghost story = { λ _. record { past = []; now = record { holds = λ _. None; touched = λ _. false } } };
+    ghost story = { λ _. record {
+      past = [];
+      now = record { holds = λ _. None; touched = λ _. false };
+    } };
 
     ghost faults = { λ _. 0 };
 
