@@ -5,8 +5,9 @@
 //! number and how often it had failed.
 //!
 //! **Proved**: the builders at rest and lent are, each once, those handed in; the count of faults
-//! is the sum over all of them; a builder that is lent was at rest. What a builder answers is a
-//! promise that whoever implements [`Builder`] proves.
+//! is the sum over all of them; a builder that is lent was at rest; builders that are made for a run
+//! are known by different numbers. What a builder answers is a promise that whoever implements
+//! [`Builder`] proves.
 //!
 //! **Only tested**: with ample memory a pool is made.
 //!
@@ -18,9 +19,11 @@
 #![tactic(auto)]
 
 mod builders;
+mod numbered;
 mod orders;
 mod pools;
 
 pub use builders::{BuildStop, Builder};
+pub use numbered::numbered_builders;
 pub use orders::Order;
 pub use pools::{Away, BuildPool};

@@ -10,13 +10,9 @@
 ghost use Rattle.std.specs.Prelude.{◌<◌, length};
 ghost use Rattle.build_pool.specs.Pool.{AreOnce};
 
-mod builders;
-mod host;
-
-use crate::builders::numbered_builders;
-use crate::host::{Host, host_of};
-use build_pool::{BuildPool, Builder};
+use build_pool::{BuildPool, Builder, numbered_builders};
 use emerge_run::{Ended, Status, emerge};
+use emerge_words::{Host, host_of};
 use host_side::{CommandBuilder, FolderBuilder, HostSink, HostTree, OpenFault};
 use samples::{ImageBuilder, sample_image};
 use std::alloc::{AllocError, Global};

@@ -1,4 +1,5 @@
 pub mod Commands
+pub mod Host
 pub mod Faults
 pub mod Grammar
 pub mod Lines

@@ -8,7 +8,8 @@
 //! (`IsRefusal`): Usage only where `clap` refuses the words or no command has them, and else the
 //! first option whose text is no number in its range, or else the first word that is no atom
 //! without a block. No words are both a request and refused, and words are refused for one
-//! cause (`one_answer`).
+//! cause (`one_answer`). What the words say of the host, its folders and its jobs, is that of the
+//! request ([`host_of`]).
 //!
 //! **Only tested**: with ample memory no words are refused for want of it.
 //!
@@ -22,6 +23,7 @@
 
 mod atoms;
 mod clap_app;
+mod host;
 mod kind;
 mod laws;
 mod line;
@@ -29,6 +31,7 @@ mod numbers;
 mod reading;
 mod request;
 
+pub use host::{Host, host_of};
 pub use laws::one_answer;
 pub use numbers::{MOST_BACKTRACK, MOST_FLAG_CHANGES, MOST_JOBS, MOST_LOAD};
 pub use reading::read;

@@ -2,7 +2,7 @@
 use Rattle.std.specs.Prelude.{◌≡◌, ℕ, List}
 use Rattle.emerge_words.specs.Requests.{IsRequest}
 use Rattle.emerge_words.specs.declared.request.Request.{Request}
-use Rattle.emerge.specs.declared.host.Host.{Host}
+use Rattle.emerge_words.specs.declared.host.Host.{Host}
 
 -- the host is just what the request says of it, with a builder for each job
 pub record IsSaid (r : Request) (h : Host) : Type 0 where

@@ -1,8 +1,9 @@
 ghost use Rattle.std.specs.Prelude.{◌<◌, IfErr, IfOk, map, string_bytes};
-ghost use Rattle.emerge.specs.Host.{IsHost};
+ghost use Rattle.emerge_words.specs.Host.{IsHost};
 ghost use Rattle.emerge_words.specs.Requests.{IsRefusal};
 
-use emerge_words::{Request, WordFault, read};
+use crate::reading::read;
+use crate::request::{Request, WordFault};
 use std::alloc::Global;
 
 /// What the words say of the host.

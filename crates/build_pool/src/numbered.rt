@@ -1,7 +1,7 @@
 ghost use Rattle.std.specs.Prelude.{◌≡◌, ℕ, IfOk, length};
-ghost use Rattle.emerge.specs.Builders.{AreNumbered};
+ghost use Rattle.build_pool.specs.Numbered.{AreNumbered};
 
-use build_pool::Builder;
+use crate::builders::Builder;
 use std::alloc::{AllocError, Global};
 
 /// So many builders, each made from its number: the first has number 0.

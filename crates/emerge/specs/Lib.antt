@@ -1,2 +1,0 @@
-pub mod Builders
-pub mod Host
