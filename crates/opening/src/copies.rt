@@ -4,7 +4,6 @@ ghost use Rattle.dep_tree.specs.View.{trees};
 ghost use Rattle.package_law.specs.Records.{needing_nothing};
 ghost use Rattle.required_use.specs.View as required;
 
-use crate::expressions::copy_demand;
 use dep_atom::Facts;
 use dep_tree::DepTree;
 use pkg_state::{Eapi, Pkg};
@@ -29,7 +28,7 @@ fn copy_facts(facts: &Facts) -> Result<Facts, AllocError>
 }
 
 /// The same package, in memory of its own.
-pub(crate) fn copy_package(alloc: Global, pkg: &Pkg) -> Result<Pkg, AllocError>
+pub(crate) fn copy_package(pkg: &Pkg) -> Result<Pkg, AllocError>
     ensures { IfOk result (λ copy. copy ≡ pkg.now) }
 {
     let facts = copy_facts(&pkg.facts)?;
@@ -38,7 +37,7 @@ pub(crate) fn copy_package(alloc: Global, pkg: &Pkg) -> Result<Pkg, AllocError>
     let depend = pkg.depend.try_clone()?;
     let bdepend = pkg.bdepend.try_clone()?;
     let idepend = pkg.idepend.try_clone()?;
-    let required_use = copy_demand(alloc, &pkg.required_use)?;
+    let required_use = pkg.required_use.try_clone()?;
     Ok(Pkg {
         facts,
         eapi: pkg.eapi,

@@ -57,7 +57,7 @@ fn with_newcomer(
     let mut all = Vec::new(alloc);
     all.push(needing_nothing(alloc, facts)?)?;
     for package in packages {
-        all.push(copy_package(alloc, &package.pkg)?)?;
+        all.push(copy_package(&package.pkg)?)?;
     }
     Ok(all)
 }

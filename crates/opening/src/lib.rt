@@ -16,7 +16,6 @@
 #![tactic(auto)]
 
 mod copies;
-mod expressions;
 mod fault;
 mod joining;
 mod judging;

@@ -24,7 +24,7 @@ pub(crate) fn in_line_order(alloc: Global, packages: &[Installed]) -> Result<Vec
     let lined = sorted(alloc, packages)?;
     let mut copies = Vec::with_capacity(alloc, lined.len())?;
     for one in &lined {
-        copies.push(copy_package(alloc, one.pkg)?)?;
+        copies.push(copy_package(one.pkg)?)?;
     }
     Ok(copies)
 }

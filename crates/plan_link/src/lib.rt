@@ -35,7 +35,6 @@ mod group;
 mod judging;
 mod linking;
 mod package;
-mod required;
 
 pub use fault::{LinkFault, PlanFault};
 pub use judging::judge_plan;

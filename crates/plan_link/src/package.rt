@@ -4,7 +4,6 @@ ghost use Rattle.plan_link.specs.Offers.{ComesAs, with_flags};
 
 use crate::entering::{closed_tree, entered_tree};
 use crate::flags::flags_on;
-use crate::required::copy_required;
 use dep_atom::Facts;
 use pkg_state::Pkg;
 use plan_text::Addition;
@@ -37,7 +36,7 @@ pub(crate) fn entering(alloc: Global, addition: &Addition, pkg: &Pkg) -> Result<
     let depend = closed_tree(alloc, &pkg.depend, &on)?;
     let bdepend = closed_tree(alloc, &pkg.bdepend, &on)?;
     let idepend = closed_tree(alloc, &pkg.idepend, &on)?;
-    let required_use = copy_required(alloc, &pkg.required_use)?;
+    let required_use = pkg.required_use.try_clone()?;
     let facts = facts_with(&pkg.facts, on)?;
     Ok(Pkg {
         facts,

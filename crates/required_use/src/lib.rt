@@ -15,6 +15,7 @@
 //! ```
 #![tactic(auto)]
 
+mod copy;
 mod fault;
 mod parse;
 mod print;

@@ -12,7 +12,7 @@ ghost use Rattle.required_use.specs.View.{trees, trees_view, view};
 ghost use Rattle.required_use.specs.declared.fault.RequiredFault.{RequiredFault};
 
 use crate::fault::RequiredFault;
-use crate::{parse, print};
+use crate::{copy, parse, print};
 use pms_names::{Flag, Flags};
 use std::alloc::{AllocError, Global};
 
@@ -83,6 +83,13 @@ impl RequiredUse {
             (all_hold kind (is_on enabled.now) (has enabled.now) (trees self.now)) }
     {
         first_false(&self.nodes, enabled)
+    }
+
+    pub fn try_clone(&self) -> Result<RequiredUse, AllocError>
+        ensures { IfOk result (λ r. trees r ≡ trees self.now) }
+    {
+        let nodes = copy::copy_all(*self.nodes.allocator(), &self.nodes)?;
+        Ok(RequiredUse { nodes })
     }
 }
 

@@ -1,19 +1,12 @@
 ghost use Rattle.std.specs.Prelude.{◌≡◌, IfOk};
-ghost use Rattle.required_use.specs.View.{trees, trees_view, view};
+ghost use Rattle.required_use.specs.View.{trees_view, view};
 
-use required_use::{Required, RequiredUse};
+use crate::required::Required;
 use std::alloc::{AllocError, Global};
 
-/// The same demand on flags, in memory of its own.
-pub(crate) fn copy_demand(alloc: Global, demand: &RequiredUse) -> Result<RequiredUse, AllocError>
-    ensures { IfOk result (λ copy. trees copy ≡ trees demand.now) }
-{
-    let nodes = copy_all(alloc, &demand.nodes)?;
-    Ok(RequiredUse { nodes })
-}
-
+/// The same expressions, in memory of their own.
 #[cycle(copy)]
-fn copy_all(alloc: Global, nodes: &[Required]) -> Result<Vec<Required>, AllocError>
+pub fn copy_all(alloc: Global, nodes: &[Required]) -> Result<Vec<Required>, AllocError>
     ensures { IfOk result (λ copies. trees_view copies.items ≡ trees_view nodes.now) }
 {
     let mut copies = Vec::with_capacity(alloc, nodes.len())?;

@@ -1,8 +1,8 @@
 use Rattle.std.proofs.Common.{◌≡◌, ◌∙◌, ap, arith, map, take}
 use Rattle.std.proofs.lemmas.Grind.{common_steps}
 use Rattle.required_use.specs.View.{view}
-use Rattle.plan_link.proofs.Copied.{alike}
-use Rattle.plan_link.proofs.required.+copy.Goals as goal
+use Rattle.required_use.proofs.CopyLemmas.{alike}
+use Rattle.required_use.proofs.copy.+copy.Goals as goal
 
 pub copy_all-returns : goal.copy_all-returns
 copy_all-returns t c =

@@ -1,0 +1,14 @@
+-- What copies of expressions say.
+use Rattle.std.specs.Prelude.{map}
+use Rattle.std.proofs.Common.{◌≡◌, ◌∙◌, List, [], ◌∷◌, refl, ap, sym}
+use Rattle.dep_group.specs.Trees.{tree, trees_of}
+use Rattle.required_use.specs.declared.required.Required.{Required}
+use Rattle.required_use.specs.View.{trees_view, view}
+
+viewed : (ns : List Required) → trees_view ns ≡ trees_of (map view ns)
+viewed [] = refl
+viewed (n ∷ ns) = ap (tree (view n)) (viewed ns)
+
+-- expressions that are seen alike one by one are seen alike together
+pub alike : (ms ns : List Required) → map view ms ≡ map view ns → trees_view ms ≡ trees_view ns
+alike ms ns h = viewed ms ∙ ap trees_of h ∙ sym (viewed ns)
