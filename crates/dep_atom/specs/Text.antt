@@ -121,13 +121,3 @@ keeps_equals Free = false
 keeps_equals Star = false
 keeps_equals Equals = true
 keeps_equals (Given slot subslot equals) = equals
-
--- the two atoms say the same, whatever room their lists of items have
-pub record SameAtom (a b : Atom) : Type 0 where
-  pub block : a.block ≡ b.block
-  pub op : a.op ≡ b.op
-  pub name : a.name ≡ b.name
-  pub version : a.version ≡ b.version
-  pub star : a.star ≡ b.star
-  pub slot : a.slot ≡ b.slot
-  pub uses : a.uses.items ≡ b.uses.items

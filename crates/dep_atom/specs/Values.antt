@@ -28,3 +28,7 @@ atom_value a =
       slot = a.slot;
       uses = a.uses.items;
     }
+
+-- the atom with this slot part
+abbrev pub with_slot : SlotPart → AtomValue → AtomValue
+with_slot slot a = record a { slot = slot }

@@ -2,7 +2,8 @@ ghost use Rattle.std.specs.Prelude.{◌≡◌, ◌++◌, Some, IfErr, IfOk, Matc
 ghost use Rattle.std.specs.List.{list_all};
 ghost use Rattle.dep_atom.specs.Match.{accepts_version, version_fits, accepts_use, matches};
 ghost use Rattle.dep_atom.specs.Text.{block_text, op_text, name_text, version_part, star_text};
-ghost use Rattle.dep_atom.specs.Text.{atom_text, keeps_equals, SameAtom};
+ghost use Rattle.dep_atom.specs.Text.{atom_text, keeps_equals};
+ghost use Rattle.dep_atom.specs.Values.{atom_value, with_slot};
 ghost use Rattle.dep_atom.specs.declared.slot.SlotPart.TheVariants.{Given};
 
 use crate::fault::AtomFault;
@@ -59,9 +60,9 @@ pub struct Atom {
 }
 
 impl Atom {
-    ghost use Rattle.dep_atom.specs.Text.{atom_text, value_text, SameAtom, keeps_equals};
+    ghost use Rattle.dep_atom.specs.Text.{atom_text, value_text, keeps_equals};
     ghost use Rattle.dep_atom.specs.Atoms.{IsAtom, IsAtomValue};
-    ghost use Rattle.dep_atom.specs.Values.{AtomValue, atom_value};
+    ghost use Rattle.dep_atom.specs.Values.{AtomValue, atom_value, with_slot};
     ghost use Rattle.dep_atom.specs.Faults.{FirstFault};
     ghost use Rattle.dep_atom.specs.declared.fault.AtomFault.TheVariants.{Memory};
 
@@ -133,9 +134,9 @@ impl Atom {
 
     /// The atom with this slot and subslot written, and with its equals sign kept.
     pub fn bind(&self, to: &Bind) -> Result<Atom, AllocError>
-        ensures { IfOk result (λ atom.
-            SameAtom atom (record self.now
-            { slot = Given to.now.slot (Some to.now.subslot) (keeps_equals self.now.slot) })) }
+        ensures { IfOk result (λ atom. atom_value atom ≡ with_slot
+            (Given to.now.slot (Some to.now.subslot) (keeps_equals self.now.slot))
+            (atom_value self.now)) }
     {
         let slot = to.slot.try_clone()?;
         let subslot = to.subslot.try_clone()?;
@@ -147,14 +148,15 @@ impl Atom {
     }
 
     pub fn try_clone(&self) -> Result<Atom, AllocError>
-        ensures { IfOk result (λ atom. SameAtom atom self.now) }
+        ensures { IfOk result (λ atom. atom_value atom ≡ atom_value self.now) }
     {
         let slot = self.slot.try_clone()?;
         self.with_slot(slot)
     }
 
-    fn with_slot(&self, slot: SlotPart) -> Result<Atom, AllocError>
-        ensures { IfOk result (λ atom. SameAtom atom (record self.now { slot = slot })) }
+    /// The same atom, in memory of its own, with this slot part.
+    pub fn with_slot(&self, slot: SlotPart) -> Result<Atom, AllocError>
+        ensures { IfOk result (λ atom. atom_value atom ≡ with_slot slot (atom_value self.now)) }
     {
         let name = self.name.try_clone()?;
         let version = clone_version(&self.version)?;

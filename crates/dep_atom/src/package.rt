@@ -1,4 +1,5 @@
-ghost use Rattle.std.specs.Prelude.{◌≡◌, ℕ, IfOk, IfErr, MatchResult, MatchOption, string_bytes};
+ghost use Rattle.std.specs.Prelude.{◌≡◌, ◌↔◌, ℕ, IfOk, IfErr, IsTrue, MatchResult, MatchOption};
+ghost use Rattle.std.specs.Prelude.{string_bytes};
 ghost use Rattle.dep_atom.specs.Ids.{FirstIdFault, IsId, PackageFault, PartsAt, name_and_version};
 ghost use Rattle.dep_atom.specs.Ids.{name_fault};
 ghost use Rattle.dep_atom.specs.Naming.{IsReadableText, PackageThen};
@@ -73,6 +74,20 @@ impl PackageId {
         let version = self.version.try_clone()?;
         Ok(PackageId { name, version })
     }
+
+    /// Whether both are one version of one name. A version is its text here: `1.0` isn't `1.00`.
+    pub fn is_same(&self, other: &PackageId) -> bool
+        ensures { IsTrue result ↔ (self.now ≡ other.now) }
+    {
+        self.name == other.name && same_version(&self.version, &other.version)
+    }
+}
+
+// Whether they have one text, which is to be one version.
+fn same_version(a: &Version, b: &Version) -> bool
+    ensures { IsTrue result ↔ (a.now ≡ b.now) }
+{
+    a.text() == b.text()
 }
 
 // Why a text is no package's name and version.

@@ -1,9 +1,7 @@
 ghost use Rattle.std.specs.Prelude.{◌≡◌, IfOk};
-ghost use Rattle.dep_atom.specs.Values.{atom_value};
 ghost use Rattle.dep_tree.specs.View.{trees_view, view};
 
 use crate::tree::Node;
-use dep_atom::Atom;
 use std::alloc::{AllocError, Global};
 
 /// The same dependencies, in memory of their own.
@@ -23,7 +21,7 @@ fn copy(alloc: Global, node: &Node) -> Result<Node, AllocError>
     ensures { IfOk result (λ copy. view copy ≡ view node.now) }
 {
     match node {
-        Node::Leaf(atom) => Ok(Node::Leaf(copy_atom(atom)?)),
+        Node::Leaf(atom) => Ok(Node::Leaf(atom.try_clone()?)),
         Node::All(nodes) => Ok(Node::All(copy_all(alloc, nodes)?)),
         Node::AnyOf(nodes) => Ok(Node::AnyOf(copy_all(alloc, nodes)?)),
         Node::When { flag, on, nodes } => Ok(Node::When {
@@ -32,11 +30,4 @@ fn copy(alloc: Global, node: &Node) -> Result<Node, AllocError>
             nodes: copy_all(alloc, nodes)?,
         }),
     }
-}
-
-fn copy_atom(atom: &Atom) -> Result<Atom, AllocError>
-    ensures { IfOk result (λ copy. atom_value copy ≡ atom_value atom.now) }
-{
-    let copy = atom.try_clone()?;
-    Ok(copy)
 }

@@ -9,7 +9,7 @@ use crate::index::Index;
 use crate::life::Life;
 use crate::plan::Removal;
 use crate::refusal::PlanRefused;
-use crate::standing::{same_id, stands_before};
+use crate::standing::stands_before;
 use pkg_state::LineName;
 use std::alloc::{AllocError, Global};
 
@@ -18,7 +18,7 @@ fn is_the_one(x: &Life<'_>, g: usize, removal: &Removal) -> bool
     ensures { IsTrue result ↔ IsTheOne g removal.now (life_of x.now) }
 {
     let pkg = x.pkg;
-    stands_before(x, g) && same_id(&pkg.facts.id, &removal.id)
+    stands_before(x, g) && pkg.facts.id.is_same(&removal.id)
 }
 
 /// Whether the package that goes stands on its line just before the group.

@@ -1,10 +1,8 @@
-ghost use Rattle.std.specs.Prelude.{◌≡◌, ◌↔◌, IsTrue};
+ghost use Rattle.std.specs.Prelude.{◌↔◌, IsTrue};
 ghost use Rattle.plan_law.specs.Lives.{ComesBefore, StandsBefore};
 ghost use Rattle.plan_check.specs.Lives.{life_of, moment_of};
 
 use crate::life::{Life, Moment};
-use dep_atom::PackageId;
-use pms_version::Version;
 
 fn comes_before(moment: Moment, g: usize) -> bool
     ensures { IsTrue result ↔ ComesBefore (moment_of moment) g }
@@ -21,18 +19,4 @@ pub(crate) fn stands_before(x: &Life<'_>, g: usize) -> bool
     ensures { IsTrue result ↔ StandsBefore g (life_of x.now) }
 {
     comes_before(x.birth, g) && !comes_before(x.death, g)
-}
-
-/// Whether they are one version of one name.
-pub(crate) fn same_id(a: &PackageId, b: &PackageId) -> bool
-    ensures { IsTrue result ↔ (a.now ≡ b.now) }
-{
-    a.name == b.name && same_version(&a.version, &b.version)
-}
-
-/// Whether they have one text, which is to be one version.
-fn same_version(a: &Version, b: &Version) -> bool
-    ensures { IsTrue result ↔ (a.now ≡ b.now) }
-{
-    a.text() == b.text()
 }

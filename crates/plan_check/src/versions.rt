@@ -13,7 +13,6 @@ use crate::index::Index;
 use crate::life::{Life, Moment};
 use crate::reach::Reach;
 use crate::refusal::PlanRefused;
-use crate::standing::same_id;
 use crate::stretch::Stretch;
 use pkg_state::Pkg;
 use std::alloc::{AllocError, Global};
@@ -60,7 +59,7 @@ fn are_one_version(
 {
     let one = x.pkg;
     let other = y.pkg;
-    if !same_id(&one.facts.id, &other.facts.id) || !meets(index.reach, &stretch_of(x), y) {
+    if !one.facts.id.is_same(&other.facts.id) || !meets(index.reach, &stretch_of(x), y) {
         return Ok(false);
     }
     Ok(!on_one_line(alloc, one, other)?)

@@ -1,5 +1,4 @@
 pub mod Enter
-pub mod Copied
 pub mod Coming
 pub mod Pairs
 pub mod Ruling

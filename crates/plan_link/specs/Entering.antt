@@ -1,7 +1,7 @@
 -- Dependencies as they are when their package enters: each leaf that asks for a bind takes the next
 -- one, in written order, and a slot operator that is bound to no subslot is dropped.
 use Rattle.std.specs.Prelude.{◌&&◌, ℕ, Bool, true, false, not, List, [], ◌∷◌, Option, None, Some, if◌then◌else◌}
-use Rattle.dep_atom.specs.Values.{AtomValue}
+use Rattle.dep_atom.specs.Values.{AtomValue, with_slot}
 use Rattle.dep_atom.specs.declared.slot.Bind.{Bind}
 use Rattle.dep_atom.specs.declared.slot.SlotPart.{SlotPart}
 use Rattle.dep_atom.specs.declared.slot.SlotPart.TheVariants.{Equals, Free, Given, Star}
@@ -41,19 +41,6 @@ slot_with (b ∷ binds) a = if asks a then bound_slot a.slot b else without_equa
 abbrev pub left_by : List Bind → AtomValue → List Bind
 left_by [] a = []
 left_by (b ∷ binds) a = if asks a then binds else b ∷ binds
-
--- the leaf with this slot part
-abbrev pub with_slot : SlotPart → AtomValue → AtomValue
-with_slot slot a =
-    record {
-      block = a.block;
-      op = a.op;
-      name = a.name;
-      version = a.version;
-      star = a.star;
-      slot = slot;
-      uses = a.uses;
-    }
 
 abbrev pub entered_leaf : List Bind → AtomValue → AtomValue
 entered_leaf binds a = with_slot (slot_with binds a) a

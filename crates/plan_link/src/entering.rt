@@ -7,7 +7,7 @@ ghost use Rattle.dep_tree.specs.Grammar.{is_block};
 ghost use Rattle.dep_tree.specs.View.{trees, trees_view, view};
 ghost use Rattle.database_law.specs.Fields.{without_equals};
 ghost use Rattle.plan_link.specs.Entering.{all_entered, all_left, asks, bound_slot, entered};
-ghost use Rattle.plan_link.specs.Entering.{entered_leaf, is_open, left, left_by, with_slot};
+ghost use Rattle.plan_link.specs.Entering.{entered_leaf, is_open, left, left_by};
 
 use dep_atom::{Atom, Bind, Block, SlotPart};
 use dep_tree::{DepTree, Node};
@@ -100,29 +100,6 @@ fn bound_slot(slot: &SlotPart, to: &Bind) -> Result<SlotPart, AllocError>
     }
 }
 
-fn with_slot(atom: &Atom, slot: SlotPart) -> Result<Atom, AllocError>
-    ensures { IfOk result (λ copy. atom_value copy ≡ with_slot slot (atom_value atom.now)) }
-{
-    let Atom {
-        block,
-        op,
-        name,
-        version,
-        star,
-        slot: _,
-        uses,
-    } = atom.try_clone()?;
-    Ok(Atom {
-        block,
-        op,
-        name,
-        version,
-        star,
-        slot,
-        uses,
-    })
-}
-
 fn entered_leaf<'b>(atom: &Atom, binds: &'b [Bind]) -> Result<(Node, &'b [Bind]), AllocError>
     ensures leaf { IfOk result (λ r.
         view r.0 ≡ leaf (entered_leaf binds.now (atom_value atom.now))) }
@@ -131,11 +108,11 @@ fn entered_leaf<'b>(atom: &Atom, binds: &'b [Bind]) -> Result<(Node, &'b [Bind])
     if let [bind, rest @ ..] = binds {
         if asks(atom) {
             let slot = bound_slot(&atom.slot, bind)?;
-            return Ok((Node::Leaf(with_slot(atom, slot)?), rest));
+            return Ok((Node::Leaf(atom.with_slot(slot)?), rest));
         }
     }
     let slot = without_equals(&atom.slot)?;
-    Ok((Node::Leaf(with_slot(atom, slot)?), binds))
+    Ok((Node::Leaf(atom.with_slot(slot)?), binds))
 }
 
 /// The binds that come into a group, if it lets them in.
