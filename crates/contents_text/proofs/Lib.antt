@@ -1,3 +1,4 @@
+mod Arrows
 mod Lines
 mod Pieces
 mod Progress

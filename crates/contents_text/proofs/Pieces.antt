@@ -5,10 +5,16 @@ use Rattle.std.proofs.Math.Seq.{take-length}
 use Rattle.std.proofs.lemmas.Bool.{or_from, or_parts}
 use Rattle.std.proofs.lemmas.Bool.Decides.{nat_tests}
 use Rattle.memchr.specs.Find.{NoneAfter, NoneBefore, Nowhere, Passes, is_byte}
-use Rattle.vdb_text.proofs.Lines.{whole_rest}
 use Rattle.contents_text.specs.Contents.{before_lines, lines}
 use Rattle.contents_text.specs.Cuts.{HasNoSpace, IsFirstLine}
 use Rattle.contents_text.proofs.Lines.{IsOneLine, lines_ended}
+
+-- all but the first
+whole_rest : (xs : List ℕ) → take (length xs - 1) (drop 1 xs) ≡ drop 1 xs
+whole_rest [] = refl
+whole_rest (x ∷ xs) =
+    let less : length (x ∷ xs) - 1 ≡ length xs = omega arith in
+    ap (λ (n : ℕ). take n xs) less ∙ take-length xs
 
 not_true : (b : Bool) → (b ≡ true → ⊥) → b ≡ false
 not_true true h = absurd (h refl)

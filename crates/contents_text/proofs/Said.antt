@@ -5,8 +5,8 @@ use Rattle.std.proofs.lemmas.List.{append_cancel_left}
 use Rattle.hex.specs.Hex.{encode_lower}
 use Rattle.file_tree.specs.Paths.{is_path}
 use Rattle.link_target.specs.Targets.{is_target}
-use Rattle.vdb_text.specs.Cuts.{LacksArrow}
-use Rattle.vdb_text.proofs.Arrows.{cut_arrow, path_lacks_arrow}
+use Rattle.contents_text.specs.Cuts.{LacksArrow}
+use Rattle.contents_text.proofs.Arrows.{cut_arrow, path_lacks_arrow}
 use Rattle.contents_text.specs.Contents.{IsDigest, IsLine, Line, dir, is_time, line_text, obj, sym as link_line}
 use Rattle.contents_text.specs.Cuts.{HasNoSpace, IsFileParts, IsLinkParts, NoFileParts, NoLinkParts}
 use Rattle.contents_text.specs.Reading.{IsNoLine, Reads}

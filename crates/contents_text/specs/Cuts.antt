@@ -1,7 +1,6 @@
 -- How the text of CONTENTS is cut: at newlines, and a line at its spaces and its arrow.
 use Rattle.std.specs.Prelude.{◌≡◌, ◌==◌, ◌<◌, ℕ, false, List, ◌∷◌, ◌++◌, codes, length}
 use Rattle.std.specs.List.{list_any}
-use Rattle.vdb_text.specs.Cuts.{LacksArrow}
 use Rattle.contents_text.specs.Contents.{lines}
 
 -- the first line of the text, and what is behind it
@@ -21,6 +20,10 @@ pub record IsFileParts (rest path digits time : List ℕ) : Type 0 where
 -- the rest has no such parts
 abbrev pub NoFileParts : List ℕ → Type 0
 NoFileParts rest = (path digits time : List ℕ) → ¬ IsFileParts rest path digits time
+
+-- an arrow begins at no place of the text
+abbrev pub LacksArrow : List ℕ → Type 0
+LacksArrow text = (a r : List ℕ) → ¬ (text ≡ a ++ 32 ∷ 45 ∷ 62 ∷ r)
 
 -- behind the first slash of a line for a link: the path, the target and the time
 pub record IsLinkParts (rest path target time : List ℕ) : Type 0 where

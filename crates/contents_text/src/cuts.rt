@@ -1,6 +1,5 @@
 ghost use Rattle.std.specs.Prelude.{◌≡◌, ◌++◌, ◌∷◌, [], MatchOption};
-ghost use Rattle.vdb_text.specs.Cuts.{LacksArrow};
-ghost use Rattle.contents_text.specs.Cuts.{HasNoSpace, IsFirstLine};
+ghost use Rattle.contents_text.specs.Cuts.{HasNoSpace, IsFirstLine, LacksArrow};
 
 use memchr::{memchr, memrchr};
 

@@ -1,22 +1,17 @@
--- The package in whose folder a path is.
-use Rattle.std.proofs.Common.{◌≡◌, ◌∙◌, ◌||◌, ◌<◌, ℕ, zero, suc, Bool, true, false, Option, MatchOption, List, [], ◌∷◌, ◌++◌, length, get_or, drop, refl, ap, sym, arith, append_assoc, lit<, inl, inr}
+-- The paths of the files of packages.
+use Rattle.std.proofs.Common.{◌≡◌, ◌∙◌, ℕ, true, List, [], ◌∷◌, ◌++◌, drop, refl, ap, sym, append_assoc}
 use Rattle.std.specs.Prelude.{codes}
-use Rattle.std.specs.List.{list_any}
-use Rattle.std.specs.Str.Pattern.{FindsTextPrefix, StripsPrefix}
 use Rattle.std.proofs.lemmas.List.{append_cancel_left}
-use Rattle.std.proofs.lemmas.Str.Pattern.{IsSplitOnceResult, split_after}
-use denote.Ref.{Bor}
 use Rattle.version_text.specs.Grammar.{IsVersion, Parts, spelling}
 use Rattle.pms_names.specs.declared.kind.Kind.TheVariants.{Category, Package}
-use Rattle.dep_atom.specs.Cuts.{is_either, Lacks}
+use Rattle.dep_atom.specs.Cuts.{Lacks}
 use Rattle.dep_atom.specs.Ids.{IsId, id_text, name_and_version}
+use Rattle.file_tree.specs.Paths.{is_below}
 use Rattle.dep_atom.specs.declared.package.PackageId.{PackageId}
 use Rattle.dep_atom.proofs.Cuts.{cut_once}
 use Rattle.dep_atom.proofs.Joined.{ComesApart, id_same}
 use Rattle.dep_atom.proofs.Plain.{lacks-append, lacks_plain, plain_name, plain_version}
-use Rattle.vdb_text.specs.Database.{IsOfRecord}
-use Rattle.vdb_text.specs.Files.{record_path}
-use Rattle.vdb_text.specs.Record.{IsInFolder}
+use Rattle.vdb_text.specs.Files.{database_path, record_path}
 
 category_lacks : (id : PackageId) → IsId id → Lacks 47 47 id.name.category
 category_lacks id is = lacks_plain 47 47 id.name.category refl refl (plain_name Category id.name.category is.category)
@@ -25,45 +20,10 @@ pf_lacks : (id : PackageId) → IsId id → Lacks 47 47 (name_and_version id)
 pf_lacks id is =
     lacks-append 47 47 id.name.«package» (45 ∷ spelling id.version) (lacks_plain 47 47 id.name.«package» refl refl (plain_name Package id.name.«package» is.«package»)) (lacks_plain 47 47 (spelling id.version) refl refl (plain_version id.version is.version.version))
 
-neither : (p q : Bool) → (p || q) ≡ false → (p ≡ false) × (q ≡ false)
-neither false q e = (refl, e)
-neither true q e = absurd (let f : true ≡ false = e in cc)
-
-lacks_at : (xs : List ℕ) → Lacks 47 47 xs → (i : ℕ) → i < length xs → get_or xs i 0 ≡ 47 → ⊥
-lacks_at [] h i lt e = absurd (omega (arith, lt))
-lacks_at (b ∷ xs) h zero lt e =
-    let none = (neither (is_either 47 47 b) (list_any (is_either 47 47) xs) h).0 in
-    cc
-lacks_at (b ∷ xs) h (suc i) lt e = lacks_at xs (neither (is_either 47 47 b) (list_any (is_either 47 47) xs) h).1 i (omega (arith, lt)) e
-
 -- a path of a package's folder, by its parts
 folder_parts : (id : PackageId) (name : List ℕ) → record_path id name ≡ codes "var/db/pkg/" ++ (id.name.category ++ (47 ∷ (name_and_version id ++ (47 ∷ name))))
 unfolding record_path
 folder_parts id name = ap (λ (t : List ℕ). codes "var/db/pkg/" ++ t) (append_assoc id.name.category (47 ∷ name_and_version id) (47 ∷ name))
-
-pub begins_by : (p path x : List ℕ) → StripsPrefix (FindsTextPrefix p) path x → path ≡ p ++ x
-begins_by p path x h = h.1.1 ∙ ap (λ (t : List ℕ). p ++ t) (sym h.2)
-
-pub begins_with_folder : (path : List ℕ) (id : PackageId) → IsInFolder id path → (rest : List ℕ) × (path ≡ codes "var/db/pkg/" ++ rest)
-begins_with_folder path id has = (id.name.category ++ (47 ∷ (name_and_version id ++ (47 ∷ has.name))), has.there ∙ folder_parts id has.name)
-
--- the category ends at the first slash behind the database's folder
-pub at_category : (path rest : List ℕ) (r : Option (Bor (List ℕ) × Bor (List ℕ))) (id : PackageId) (has : IsInFolder id path) → path ≡ codes "var/db/pkg/" ++ rest → IsSplitOnceResult 47 rest r
-    → MatchOption r ⊥ (λ x. (x.0.now ≡ id.name.category) × (x.1.now ≡ name_and_version id ++ (47 ∷ has.name)))
-at_category path rest r id has begins clause =
-    let behind : List ℕ = name_and_version id ++ (47 ∷ has.name) in
-    let e : rest ≡ id.name.category ++ (47 ∷ behind) = append_cancel_left (codes "var/db/pkg/") rest (id.name.category ++ (47 ∷ behind)) (sym begins ∙ has.there ∙ folder_parts id has.name) in
-    split_after 47 rest id.name.category behind r clause (lit< tt) e (lacks_at id.name.category (category_lacks id has.is))
-
--- the name with the version ends at the next
-pub at_name : (behind name : List ℕ) (r : Option (Bor (List ℕ) × Bor (List ℕ))) (id : PackageId) → IsId id → behind ≡ name_and_version id ++ (47 ∷ name) → IsSplitOnceResult 47 behind r
-    → MatchOption r ⊥ (λ x. (x.0.now ≡ name_and_version id) × (x.1.now ≡ name))
-at_name behind name r id is e clause = split_after 47 behind (name_and_version id) name r clause (lit< tt) e (lacks_at (name_and_version id) (pf_lacks id is))
-
-pub in_folder : (id : PackageId) (q : List ℕ) → IsId id → IsOfRecord id q → IsInFolder id q
-in_folder id q is (inl e) = record { is = is; name = codes "CONTENTS"; there = e }
-in_folder id q is (inr (inl e)) = record { is = is; name = codes "EAPI"; there = e }
-in_folder id q is (inr (inr e)) = record { is = is; name = codes "SLOT"; there = e }
 
 -- a version is spelled in one way
 abbrev pub OneSpelling : Type 0
@@ -90,3 +50,7 @@ unfolding record_path
 record_names_differ id a b e =
     let rest = append_cancel_left (id_text id) (47 ∷ a) (47 ∷ b) (append_cancel_left (codes "var/db/pkg/") (id_text id ++ (47 ∷ a)) (id_text id ++ (47 ∷ b)) e) in
     append_cancel_left (47 ∷ []) a b rest
+
+pub record_is_below : (id : PackageId) (name : List ℕ) → is_below database_path (record_path id name) ≡ true
+unfolding database_path record_path
+record_is_below id name = refl

@@ -1,17 +1,14 @@
 -- The text of CONTENTS: a line for each file and each link of a package.
-use Rattle.std.specs.Prelude.{◌≡◌, ◌&&◌, ◌||◌, ℕ, Bool, true, List, [], ◌∷◌, ◌++◌, codes, length, nat_le}
+use Rattle.std.specs.Prelude.{◌≡◌, ℕ, List, [], ◌∷◌, ◌++◌, codes}
 use Rattle.std.specs.Cmp.Lexicographic.{slice_cmp}
-use Rattle.std.specs.List.{AllByRecursion, flat_map, list_all}
+use Rattle.std.specs.List.{flat_map}
 use Rattle.std.specs.List.Sorted.{IsPermutation, IsSortedByKey}
 use Rattle.std.specs.Ordering.{nat_cmp}
 use Rattle.hex.specs.Hex.{encode_lower}
 use Rattle.md5.specs.Md5.{md5}
-use Rattle.basics.specs.Bytes.{is_digit}
 use Rattle.file_tree.specs.declared.objects.Entry.{Entry}
 use Rattle.file_tree.specs.declared.objects.Kind.{Kind}
 use Rattle.file_tree.specs.declared.objects.Kind.TheVariants.{Exec, Link, Plain}
-use Rattle.link_target.specs.Targets.{is_target}
-use Rattle.merge_record.specs.Spelling.{IsPathText}
 
 -- a line: for a file, with the hex digits of a digest, or for a link, with its target
 pub data Line : Type 0 where
@@ -31,22 +28,6 @@ sym_line path target =
 abbrev pub line_text : Line → List ℕ
 line_text (file path digest) = obj_line path digest
 line_text (link path target) = sym_line path target
-
--- a hex digit in lower case
-abbrev pub is_hex : ℕ → Bool
-is_hex b = is_digit b || (nat_le 97 b && nat_le b 102)
-
--- a line in form: a path, and 32 hex digits or the text that a link may lead to
-abbrev pub IsLine : Line → Type 0
-IsLine (file path digest) =
-    IsPathText path × (length digest ≡ 32) × (list_all is_hex digest ≡ true)
-IsLine (link path target) = IsPathText path × (is_target target ≡ true)
-
--- the spelling of any number of such lines
-pub record IsContents (text : List ℕ) : Type 0 where
-  pub lines : List Line
-  pub form : AllByRecursion IsLine lines
-  pub spelled : text ≡ flat_map line_text lines
 
 -- the line of an object of this kind, with the MD5 of a file's bytes
 abbrev pub line_by : Kind → List ℕ → List ℕ → Line

@@ -11,7 +11,7 @@ use slot_value::print_slots;
 use std::alloc::{AllocError, Global};
 
 /// The text of EAPI.
-pub(crate) const EAPI_TEXT: &str = "8\n";
+const EAPI_TEXT: &str = "8\n";
 
 /// The folder of the installed packages.
 #[tactic(auto, unfolding(crate::specs::Files::database_path))]
@@ -30,7 +30,7 @@ fn path_of(alloc: Global, text: &str) -> Result<Path, AllocError>
 
 /// The path of a file of the package's record.
 #[tactic(auto, unfolding(crate::specs::Files::record_path))]
-pub(crate) fn path_of_record(alloc: Global, id: &PackageId, name: &str) -> Result<Path, AllocError>
+fn path_of_record(alloc: Global, id: &PackageId, name: &str) -> Result<Path, AllocError>
     ensures { IfOk result (λ p. p ≡ record_path id.now name.now) }
 {
     let id = id.print(alloc)?;

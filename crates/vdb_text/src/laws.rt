@@ -1,19 +1,7 @@
 ghost use Rattle.std.specs.Prelude.{◌≡◌, ℕ, List, true};
-ghost use Rattle.file_tree.specs.Disk.{Map};
 ghost use Rattle.file_tree.specs.Paths.{is_below};
-ghost use Rattle.dep_atom.specs.declared.package.Facts.{Facts};
 ghost use Rattle.dep_atom.specs.declared.package.PackageId.{PackageId};
-ghost use Rattle.vdb_text.specs.Database.{IsInstalled};
 ghost use Rattle.vdb_text.specs.Files.{database_path, record_path};
-
-/// A law: a database is that of one package at most.
-pub fn one_installed()
-    ensures { (m : Map) (f g : Facts) → IsInstalled m f → IsInstalled m g → f ≡ g }
-{
-    version_text::one_name_and_version();
-    version_text::one_spelling();
-    slot_value::one_slot_value();
-}
 
 /// A law: the files of a package's record are below the database's folder, each at its own path.
 pub fn files_apart()

@@ -1,4 +1,4 @@
-use Rattle.vdb_text.proofs.Arrows.{NoneBefore}
+use Rattle.contents_text.proofs.Arrows.{NoneBefore}
 use Rattle.contents_text.proofs.cuts.split_arrow.Given as goal
 
 abbrev pub invariant-loop-at : goal.invariant-loop-at

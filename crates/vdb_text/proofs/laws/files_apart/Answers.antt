@@ -1,5 +1,4 @@
-use Rattle.vdb_text.proofs.Installed.{record_is_below}
-use Rattle.vdb_text.proofs.Packages.{record_names_differ}
+use Rattle.vdb_text.proofs.Packages.{record_is_below, record_names_differ}
 use Rattle.vdb_text.proofs.laws.files_apart.Goals as goal
 
 pub returns-clause-below : goal.returns-clause-below

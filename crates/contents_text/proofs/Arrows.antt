@@ -1,4 +1,4 @@
--- A line of CONTENTS for a link has one path and one target, since no path has an arrow.
+-- What stands before the first arrow of a text; no path has one.
 use Rattle.std.proofs.Common.{◌≡◌, ◌∙◌, ◌&&◌, ◌||◌, ◌<◌, ◌≤◌, ◌+◌, ℕ, Bool, true, false, MatchBool, MatchOption, Option, Some, None, List, [], ◌∷◌, ◌++◌, length, drop, get_or, refl, ap, sym, arith, append_assoc, subst, inl, inr}
 use Rattle.std.proofs.lemmas.Bool.{cases_lt}
 use Rattle.std.proofs.lemmas.List.{append_cancel_left, append_cancel_right, drop_at, length-append}
@@ -9,14 +9,7 @@ use Rattle.file_tree.specs.Paths.{bad_char_at, bad_part_at, begins_badly, is_pat
 use Rattle.file_tree.proofs.Grammar.{form_of_path}
 use Rattle.link_target.specs.Targets.{is_target}
 use Rattle.merge_record.specs.Spelling.{IsPathText}
-use Rattle.vdb_text.specs.Contents.{sym_line}
-use Rattle.vdb_text.specs.Cuts.{IsLinkLine, LacksArrow}
-
-abbrev pub start : List ℕ
-start = 115 ∷ 121 ∷ 109 ∷ 32 ∷ 47 ∷ []
-
-abbrev pub ending : List ℕ
-ending = 32 ∷ 48 ∷ 10 ∷ []
+use Rattle.contents_text.specs.Cuts.{LacksArrow}
 
 lacks_tail : (x : ℕ) (p : List ℕ) → LacksArrow (x ∷ p) → LacksArrow p
 lacks_tail x p none a r e = none (x ∷ a) r (ap (λ (l : List ℕ). x ∷ l) e)
@@ -60,42 +53,6 @@ path_lacks_arrow p is a r e =
     cc (ap begins_badly there, bad, none)
 
 -- what stands between the beginning and the end of a line
-pub between_ends : (text rest p t : List ℕ) → text ≡ start ++ rest → text ≡ sym_line p t → rest ≡ (p ++ 32 ∷ 45 ∷ 62 ∷ 32 ∷ t) ++ ending
-between_ends text rest p t a b =
-    append_cancel_left start rest (p ++ 32 ∷ 45 ∷ 62 ∷ 32 ∷ (t ++ ending)) (sym a ∙ b) ∙ sym (append_assoc p (32 ∷ 45 ∷ 62 ∷ 32 ∷ t) ending)
-
-pub middle_is : (text rest middle p t : List ℕ) → text ≡ start ++ rest → rest ≡ middle ++ ending → text ≡ sym_line p t → middle ≡ p ++ 32 ∷ 45 ∷ 62 ∷ 32 ∷ t
-middle_is text rest middle p t a b c = append_cancel_right middle (p ++ 32 ∷ 45 ∷ 62 ∷ 32 ∷ t) ending (sym b ∙ between_ends text rest p t a c)
-
--- a line, by its parts
-pub line_of_parts : (text rest middle p behind t : List ℕ) → text ≡ start ++ rest → rest ≡ middle ++ ending → middle ≡ p ++ 32 ∷ 45 ∷ 62 ∷ behind → behind ≡ 32 ∷ t → text ≡ sym_line p t
-line_of_parts text rest middle p behind t a b c d =
-    a ∙ ap (λ (l : List ℕ). start ++ l)
-    (b ∙ (ap (λ (l : List ℕ). l ++ ending) (c ∙ ap (λ (l : List ℕ). p ++ 32 ∷ 45 ∷ 62 ∷ l) d) ∙ append_assoc p (32 ∷ 45 ∷ 62 ∷ 32 ∷ t) ending))
-
--- a line has one path and one target
-pub same_link : (p q t u : List ℕ) → LacksArrow p → LacksArrow q → sym_line p t ≡ sym_line q u → (p ≡ q) × (t ≡ u)
-same_link p q t u h k same =
-    let rest = append_cancel_left start (p ++ 32 ∷ 45 ∷ 62 ∷ 32 ∷ (t ++ ending)) (q ++ 32 ∷ 45 ∷ 62 ∷ 32 ∷ (u ++ ending)) same in
-    let both = cut_arrow p q (32 ∷ (t ++ ending)) (32 ∷ (u ++ ending)) h k rest in
-    (both.0, append_cancel_right t u ending (ap (drop 1) both.1))
-
-pub not_if_no_target : (text p t : List ℕ) → LacksArrow p → text ≡ sym_line p t → is_target t ≡ false → IsLinkLine text → ⊥
-not_if_no_target text p t lacks line none is =
-    let same = same_link p is.0 t is.1 lacks (path_lacks_arrow is.0 is.2.0) (sym line ∙ is.3) in
-    cc (ap is_target same.1, none, is.2.1)
-
-pub link_line_if_found : (text p t : List ℕ) (found : Option (List ℕ)) (b : Bool) → LacksArrow p → text ≡ sym_line p t → is_target t ≡ true
-    → MatchOption found (is_utf8 p && is_path p ≡ false) (λ x. (x ≡ p) × (is_utf8 p && is_path p ≡ true)) → b ≡ is_some found
-    → MatchBool b (IsLinkLine text) (IsLinkLine text → ⊥)
-link_line_if_found text p t None b lacks line target found some =
-    subst (λ (x : Bool). MatchBool x (IsLinkLine text) (IsLinkLine text → ⊥)) (sym some)
-    (λ (is : IsLinkLine text).
-    let same = same_link p is.0 t is.1 lacks (path_lacks_arrow is.0 is.2.0) (sym line ∙ is.3) in
-    cc (ap (λ (x : List ℕ). is_utf8 x && is_path x) same.0, found, is.2.0))
-link_line_if_found text p t (Some x) b lacks line target found some =
-    subst (λ (y : Bool). MatchBool y (IsLinkLine text) (IsLinkLine text → ⊥)) (sym some) (p, t, (found.1, target), line)
-
 -- no arrow begins before a place
 abbrev pub NoneBefore : List ℕ → ℕ → Type 0
 NoneBefore text at = (a r : List ℕ) → length a < at → text ≡ a ++ 32 ∷ 45 ∷ 62 ∷ r → ⊥
