@@ -67,7 +67,7 @@ impl<B: Builder> BuildPool<B> {
             record { number = B.number b; faults = B.faults b } ∷ [])) }
         ensures none { IsNone result ↔ (self.old.resting ≡ []) }
         ensures none_same { IsNone result → self.new ≡ self.old }
-        ensures other { IfSome result (λ b. All (λ a. a.number ≡ B.number b → ⊥) self.old.lent) }
+        ensures other { IfSome result (λ b. All (λ a. ¬ (a.number ≡ B.number b)) self.old.lent) }
         ensures ids { SameIds B.number self.old self.new }
         ensures faults { faults_of B.faults self.new ≡ faults_of B.faults self.old }
     {

@@ -1,5 +1,5 @@
 -- The answer that the words, the tree and the image ask for.
-use Rattle.std.specs.Prelude.{◌≡◌, ◌⊎◌, ◌<◌, ℕ, true, false, List, [], length, map}
+use Rattle.std.specs.Prelude.{◌≡◌, ◌⊎◌, ◌<◌, ℕ, true, false, List, [], length, map, ⊤}
 use Rattle.std.specs.List.{AllByRecursion}
 use Rattle.file_tree.specs.Disk.{Map}
 use Rattle.file_tree.specs.declared.limits.Quantity.{Quantity}
@@ -41,7 +41,7 @@ use Rattle.emerge_run.specs.declared.status.Status.TheVariants as status
 -- each candidate of the atom's name has its entry in the one form that is read, and these are the
 -- installed packages, which go together, and no other list tells them
 pub record IsRead (m : Map) (a : AtomValue) (ps : List Installed) : Type 0 where
-  pub entries : HasOddEntry m a.name → ⊥
+  pub entries : ¬ HasOddEntry m a.name
   pub opening : HasOpening m ps
   pub only : (qs : List Installed) → HasOpening m qs → ps ≡ qs
 
@@ -91,19 +91,19 @@ Stands m a ps (Unmatched reasons) = HasNone m a reasons.items
 
 -- a candidate that was chosen is one that the atom matches, whatever the tree tells
 abbrev pub HasMatched : AtomValue → Standing → Type 0
-HasMatched a Met = Unit {0}
+HasMatched a Met = ⊤
 HasMatched a (Chosen f) = value_matches a f [] ≡ true
-HasMatched a Barred = Unit {0}
-HasMatched a (Unmatched reasons) = Unit {0}
+HasMatched a Barred = ⊤
+HasMatched a (Unmatched reasons) = ⊤
 
 -- the entries are in form, and this is the first fault of the database
 pub record HasBadDatabase (m : Map) (a : AtomValue) (fault : DatabaseFault) : Type 0 where
-  pub entries : HasOddEntry m a.name → ⊥
+  pub entries : ¬ HasOddEntry m a.name
   pub first : IsBadDatabase m fault
 
 -- the entries are in form, and this is first wrong with the installed packages
 pub record HasBroken (m : Map) (a : AtomValue) (fault : Broken) : Type 0 where
-  pub entries : HasOddEntry m a.name → ⊥
+  pub entries : ¬ HasOddEntry m a.name
   pub packages : List Installed
   pub broken : IsInconsistent m packages fault
 
@@ -122,9 +122,9 @@ AsksMerge ps f image m (status.BadImage b) =
     StopsAt ps f image m (stops.Image b) ⊎ StopsAt ps f image m (stops.Claim (claims.Image b))
 AsksMerge ps f image m (status.Limit Paths) = StopsAt ps f image m (stops.Claim claims.Limit)
 AsksMerge ps f image m (status.Limit RecordBytes) = StopsAt ps f image m stops.Limit
-AsksMerge ps f image m status.DeviceFault = Unit {0}
-AsksMerge ps f image m status.OutputFault = Unit {0}
-AsksMerge ps f image m status.Memory = Unit {0}
+AsksMerge ps f image m status.DeviceFault = ⊤
+AsksMerge ps f image m status.OutputFault = ⊤
+AsksMerge ps f image m status.Memory = ⊤
 AsksMerge ps f image m s = ⊥
 
 -- the same, for the package that the atom chooses
@@ -161,9 +161,9 @@ AsksFor a m image (status.NoCandidate atom reasons) =
     (atom_value atom ≡ a) × HasNone m a reasons.items
 AsksFor a m image (status.BuildFailed id) =
     (ps : List Installed) × (f : Facts) × IsReady m a ps f × (id ≡ f.id)
-AsksFor a m image status.DeviceFault = Unit {0}
-AsksFor a m image status.OutputFault = Unit {0}
-AsksFor a m image status.Memory = Unit {0}
+AsksFor a m image status.DeviceFault = ⊤
+AsksFor a m image status.OutputFault = ⊤
+AsksFor a m image status.Memory = ⊤
 
 -- the same, for the atom of the words and what recovery makes of a tree
 abbrev pub AsksAfter : List (List ℕ) → Map → (Order → List Entry) → Status → Type 0
@@ -208,6 +208,6 @@ Asks words opening image (status.NoCandidate atom reasons) =
     AsksAfter words opening image (status.NoCandidate atom reasons)
 Asks words opening image (status.BuildFailed id) =
     AsksAfter words opening image (status.BuildFailed id)
-Asks words opening image status.DeviceFault = Unit {0}
-Asks words opening image status.OutputFault = Unit {0}
-Asks words opening image status.Memory = Unit {0}
+Asks words opening image status.DeviceFault = ⊤
+Asks words opening image status.OutputFault = ⊤
+Asks words opening image status.Memory = ⊤

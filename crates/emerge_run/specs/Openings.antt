@@ -1,5 +1,5 @@
 -- The installed packages that a run gives back.
-use Rattle.std.specs.Prelude.{◌≡◌, ◌⊎◌, List, []}
+use Rattle.std.specs.Prelude.{◌≡◌, ◌⊎◌, List, [], ⊤}
 use Rattle.file_tree.specs.Disk.{Map}
 use Rattle.file_tree.specs.declared.limits.Quantity.TheVariants.{Groups}
 use Rattle.database_law.specs.Database.{IsDatabase, IsTidy}
@@ -20,25 +20,25 @@ AreInstalledAfter opening ps = (m : Map) × IsRecovered opening m × AreInstalle
 
 -- a run that answers so ended before it had read the database
 abbrev pub IsUnread : Status → Type 0
-IsUnread (status.Usage fault) = Unit {0}
-IsUnread (status.BadDatabase fault) = Unit {0}
-IsUnread (status.BadJournal fault) = Unit {0}
-IsUnread (status.Limit Groups) = Unit {0}
-IsUnread (status.NotBuilt Command) = Unit {0}
-IsUnread (status.NotBuilt Repository) = Unit {0}
+IsUnread (status.Usage fault) = ⊤
+IsUnread (status.BadDatabase fault) = ⊤
+IsUnread (status.BadJournal fault) = ⊤
+IsUnread (status.Limit Groups) = ⊤
+IsUnread (status.NotBuilt Command) = ⊤
+IsUnread (status.NotBuilt Repository) = ⊤
 IsUnread s = ⊥
 
 -- one that answers so has read it
 abbrev pub HasRead : Status → Type 0
-HasRead (status.Ok groups) = Unit {0}
-HasRead (status.Inconsistent fault) = Unit {0}
-HasRead (status.NoCandidate atom reasons) = Unit {0}
-HasRead (status.Collision c) = Unit {0}
-HasRead (status.BadImage b) = Unit {0}
-HasRead (status.BuildFailed id) = Unit {0}
+HasRead (status.Ok groups) = ⊤
+HasRead (status.Inconsistent fault) = ⊤
+HasRead (status.NoCandidate atom reasons) = ⊤
+HasRead (status.Collision c) = ⊤
+HasRead (status.BadImage b) = ⊤
+HasRead (status.BuildFailed id) = ⊤
 HasRead (status.Limit Groups) = ⊥
-HasRead (status.Limit quantity) = Unit {0}
-HasRead (status.NotBuilt Result) = Unit {0}
+HasRead (status.Limit quantity) = ⊤
+HasRead (status.NotBuilt Result) = ⊤
 HasRead s = ⊥
 
 -- the packages that a run with this answer gives back are such: where it has read the database, and

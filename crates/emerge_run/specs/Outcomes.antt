@@ -1,5 +1,5 @@
 -- What a run leaves: its tree, its groups, and what it wrote.
-use Rattle.std.specs.Prelude.{◌≡◌, ◌≢◌, ◌⊎◌, true, ℕ, Bool, List, [], Contains, IsTrue}
+use Rattle.std.specs.Prelude.{◌≡◌, ◌≢◌, ◌⊎◌, true, ℕ, Bool, List, [], Contains, IsTrue, ⊤}
 use Rattle.std.specs.List.{AllByRecursion}
 use Rattle.file_tree.specs.Disk.{Map, Story}
 use Rattle.file_tree.specs.Moments.{Leaves, Since}
@@ -55,17 +55,17 @@ pub record IsChoice (words : List (List ℕ)) (image : Order → List Entry) (m 
 
 -- an answer that a run gives once its tree is recovered, and that says how it went there
 abbrev pub IsOfTree : Status → Type 0
-IsOfTree (status.Ok groups) = Unit {0}
-IsOfTree (status.NoCandidate atom reasons) = Unit {0}
-IsOfTree (status.Collision c) = Unit {0}
-IsOfTree (status.BadImage b) = Unit {0}
-IsOfTree (status.BuildFailed id) = Unit {0}
+IsOfTree (status.Ok groups) = ⊤
+IsOfTree (status.NoCandidate atom reasons) = ⊤
+IsOfTree (status.Collision c) = ⊤
+IsOfTree (status.BadImage b) = ⊤
+IsOfTree (status.BuildFailed id) = ⊤
 IsOfTree (status.Limit Groups) = ⊥
-IsOfTree (status.Limit quantity) = Unit {0}
-IsOfTree (status.BadDatabase fault) = Unit {0}
-IsOfTree (status.Inconsistent fault) = Unit {0}
+IsOfTree (status.Limit quantity) = ⊤
+IsOfTree (status.BadDatabase fault) = ⊤
+IsOfTree (status.Inconsistent fault) = ⊤
 IsOfTree (status.NotBuilt Command) = ⊥
-IsOfTree (status.NotBuilt part) = Unit {0}
+IsOfTree (status.NotBuilt part) = ⊤
 IsOfTree (status.Usage fault) = ⊥
 IsOfTree (status.BadJournal fault) = ⊥
 IsOfTree status.DeviceFault = ⊥
@@ -113,7 +113,7 @@ IsAnswer tree tells told resting words opening s = IsTrue tree
 abbrev pub BuildEnds : Bool → List Entry → PackageId → Status → Type 0
 BuildEnds tells told id (status.Limit Paths) = HasMany tells told
 BuildEnds tells told id (status.BuildFailed failed) = failed ≡ id
-BuildEnds tells told id status.Memory = Unit {0}
+BuildEnds tells told id status.Memory = ⊤
 BuildEnds tells told id s = ⊥
 
 -- the package that the atom chooses, beside those that are installed; of a tree that tells nothing
@@ -129,42 +129,42 @@ IsNamed words tells opening id = (a : AtomValue) × IsRequest words a ×
 
 -- an answer of a run that merged nothing
 abbrev pub IsRefusal : Status → Type 0
-IsRefusal (status.Usage fault) = Unit {0}
-IsRefusal (status.BadDatabase fault) = Unit {0}
-IsRefusal (status.BadJournal fault) = Unit {0}
-IsRefusal (status.Inconsistent fault) = Unit {0}
-IsRefusal (status.Limit quantity) = Unit {0}
-IsRefusal (status.NotBuilt part) = Unit {0}
-IsRefusal (status.NoCandidate atom reasons) = Unit {0}
-IsRefusal (status.Collision c) = Unit {0}
-IsRefusal (status.BadImage b) = Unit {0}
-IsRefusal (status.BuildFailed id) = Unit {0}
+IsRefusal (status.Usage fault) = ⊤
+IsRefusal (status.BadDatabase fault) = ⊤
+IsRefusal (status.BadJournal fault) = ⊤
+IsRefusal (status.Inconsistent fault) = ⊤
+IsRefusal (status.Limit quantity) = ⊤
+IsRefusal (status.NotBuilt part) = ⊤
+IsRefusal (status.NoCandidate atom reasons) = ⊤
+IsRefusal (status.Collision c) = ⊤
+IsRefusal (status.BadImage b) = ⊤
+IsRefusal (status.BuildFailed id) = ⊤
 IsRefusal s = ⊥
 
 -- the answers before anything is merged: Ok with no group, and none of the output
 abbrev pub IsEarly : Status → Type 0
 IsEarly (status.Ok groups) = groups ≡ 0
 IsEarly status.OutputFault = ⊥
-IsEarly s = Unit {0}
+IsEarly s = ⊤
 
 -- the answers of a run that has read its tree, and merges nothing
 abbrev pub IsUnmerged : Status → Type 0
 IsUnmerged (status.Ok groups) = groups ≡ 0
-IsUnmerged (status.NoCandidate atom reasons) = Unit {0}
-IsUnmerged (status.BuildFailed id) = Unit {0}
-IsUnmerged (status.Limit Paths) = Unit {0}
-IsUnmerged (status.NotBuilt Result) = Unit {0}
-IsUnmerged status.Memory = Unit {0}
+IsUnmerged (status.NoCandidate atom reasons) = ⊤
+IsUnmerged (status.BuildFailed id) = ⊤
+IsUnmerged (status.Limit Paths) = ⊤
+IsUnmerged (status.NotBuilt Result) = ⊤
+IsUnmerged status.Memory = ⊤
 IsUnmerged s = ⊥
 
 -- the answers of the merge of a package
 abbrev pub IsOfMerge : Status → Type 0
-IsOfMerge (status.Ok groups) = Unit {0}
-IsOfMerge (status.Collision c) = Unit {0}
-IsOfMerge (status.BadImage b) = Unit {0}
-IsOfMerge (status.Limit Paths) = Unit {0}
-IsOfMerge (status.Limit RecordBytes) = Unit {0}
-IsOfMerge status.DeviceFault = Unit {0}
-IsOfMerge status.OutputFault = Unit {0}
-IsOfMerge status.Memory = Unit {0}
+IsOfMerge (status.Ok groups) = ⊤
+IsOfMerge (status.Collision c) = ⊤
+IsOfMerge (status.BadImage b) = ⊤
+IsOfMerge (status.Limit Paths) = ⊤
+IsOfMerge (status.Limit RecordBytes) = ⊤
+IsOfMerge status.DeviceFault = ⊤
+IsOfMerge status.OutputFault = ⊤
+IsOfMerge status.Memory = ⊤
 IsOfMerge s = ⊥

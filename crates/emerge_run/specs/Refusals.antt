@@ -90,7 +90,7 @@ packages_with refusal = []
 -- the entries are in form, and these packages don't go together
 pub record AreInconsistent (m : Map) (a : AtomValue) (ps : List Installed)
     (fault : Broken) : Type 0 where
-  pub entries : HasOddEntry m a.name → ⊥
+  pub entries : ¬ HasOddEntry m a.name
   pub broken : IsInconsistent m ps fault
 
 -- what the tree is refused for, the first in this order; a failure and want of memory say nothing
@@ -99,5 +99,5 @@ abbrev pub TreeRefuses : Map → AtomValue → Refusal → Type 0
 TreeRefuses m a refusals.OddEntry = HasOddEntry m a.name
 TreeRefuses m a (refusals.BadDatabase fault) = HasBadDatabase m a fault
 TreeRefuses m a (refusals.Inconsistent fault packages) = AreInconsistent m a packages.items fault
-TreeRefuses m a refusals.Failed = Unit {0}
-TreeRefuses m a refusals.Memory = Unit {0}
+TreeRefuses m a refusals.Failed = ⊤
+TreeRefuses m a refusals.Memory = ⊤

@@ -23,7 +23,7 @@ pub fn read_request(alloc: Global, words: &[String]) -> Result<Atom, Status>
 
 /// The atom that a request merges, where it asks for nothing else.
 fn plain_atom(request: Request) -> Option<Atom>
-    ensures { MatchOption result ((a : AtomValue) → IsPlain request a → ⊥)
+    ensures { MatchOption result ((a : AtomValue) → ¬ IsPlain request a)
         (λ atom. IsPlain request (atom_value atom)) }
 {
     if request.pretend {
@@ -33,7 +33,7 @@ fn plain_atom(request: Request) -> Option<Atom>
 }
 
 fn atom_of(command: Command) -> Option<Atom>
-    ensures { MatchOption result ((a : AtomValue) → IsMergeOf command a → ⊥)
+    ensures { MatchOption result ((a : AtomValue) → ¬ IsMergeOf command a)
         (λ atom. IsMergeOf command (atom_value atom)) }
 {
     match command {
@@ -56,7 +56,7 @@ fn atom_of(command: Command) -> Option<Atom>
 
 /// The one atom of a list that has just one.
 fn only_one(mut atoms: Vec<Atom>) -> Option<Atom>
-    ensures { MatchOption result ((a : AtomValue) → map atom_value atoms.items ≡ a ∷ [] → ⊥)
+    ensures { MatchOption result ((a : AtomValue) → ¬ (map atom_value atoms.items ≡ a ∷ []))
         (λ atom. map atom_value atoms.items ≡ atom_value atom ∷ []) }
 {
     if atoms.len() != 1 {

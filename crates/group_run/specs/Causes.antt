@@ -1,5 +1,5 @@
 -- Why the run of a group was stopped.
-use Rattle.std.specs.Prelude.{◌≡◌, ◌<◌, ◌++◌, ℕ, Bool, true, false, List, [], length}
+use Rattle.std.specs.Prelude.{◌≡◌, ◌<◌, ◌++◌, ℕ, Bool, true, false, List, [], length, ⊤}
 use Rattle.std.specs.Prelude.{Option, Some, None, IsTrue}
 use Rattle.file_tree.specs.Disk.{Map}
 use Rattle.file_tree.specs.declared.objects.Entry.{Entry}
@@ -21,8 +21,8 @@ use Rattle.group_run.specs.declared.stop.Stop.TheVariants as stops
 
 -- a stop that says nothing of the group
 abbrev pub IsPlain : Stop → Type 0
-IsPlain stops.Device = Unit {0}
-IsPlain stops.Memory = Unit {0}
+IsPlain stops.Device = ⊤
+IsPlain stops.Memory = ⊤
 IsPlain e = ⊥
 
 -- the record of the group that places these files passes a limit
@@ -60,9 +60,9 @@ pub record IsRefusal (tells : Bool) (opening : Map) (opened : Book) (groups : Li
 
 -- a stop for what the group has: an object, its record, or its claim
 abbrev pub IsOfGroup : Stop → Type 0
-IsOfGroup (stops.Image b) = Unit {0}
-IsOfGroup (stops.Claim s) = Unit {0}
-IsOfGroup stops.Limit = Unit {0}
+IsOfGroup (stops.Image b) = ⊤
+IsOfGroup (stops.Claim s) = ⊤
+IsOfGroup stops.Limit = ⊤
 IsOfGroup e = ⊥
 
 -- why the run of a package's group ended
@@ -71,7 +71,7 @@ StopsRun tells opening opened groups files g (stops.Image b) = IsFirstBad (all_i
 StopsRun tells opening opened groups files g (stops.Claim s) =
     IsRefusal tells opening opened groups files g s
 StopsRun tells opening opened groups files g stops.Limit = IsTooMuch g (all_in files)
-StopsRun tells opening opened groups files g e = Unit {0}
+StopsRun tells opening opened groups files g e = ⊤
 
 -- where no site was opened, it is for want of memory
 abbrev pub HasCause : Bool → Map → Book → List SiteGroup → Files → ℕ → Option Keeping →

@@ -1,5 +1,5 @@
 -- One group of a site on its way, step by step.
-use Rattle.std.specs.Prelude.{◌≡◌, ◌++◌, ℕ, Bool, true, false, List, [], ◌∷◌, length, map}
+use Rattle.std.specs.Prelude.{◌≡◌, ◌++◌, ℕ, Bool, true, false, List, [], ◌∷◌, length, map, ⊤}
 use Rattle.file_tree.specs.Thing.{Thing}
 use Rattle.file_tree.specs.declared.objects.Entry.{Entry}
 use Rattle.journal.specs.Group.{Group}
@@ -38,7 +38,7 @@ IsInTurn m (Abandon g) = may_end (phase_at m.roll g) ≡ true
 
 -- each event came in its group's turn
 abbrev pub AreInTurn : Machine → List trail.Entry → Type 0
-AreInTurn m [] = Unit {0}
+AreInTurn m [] = ⊤
 AreInTurn m (e ∷ es) = IsInTurn m e.0 × AreInTurn (answered m e.0 e.1) es
 
 -- the events of a site led to its machine, each in its group's turn
@@ -57,7 +57,7 @@ IsAlone g a = (h : ℕ) → ¬ (h ≡ g) → standing_at a h ≡ resting
 -- a stretch of events of one group
 pub record Works {T S : Type 0} (g : ℕ) (old new : Account T S) : Type 0 where
   pub run : IsRun old → IsRun new
-  pub others : (h : ℕ) → (h ≡ g → ⊥) → standing_at new h ≡ standing_at old h
+  pub others : (h : ℕ) → (¬ (h ≡ g)) → standing_at new h ≡ standing_at old h
   pub count : length new.keeping.standings ≡ length old.keeping.standings
   pub groups : new.groups ≡ old.groups
   pub opened_book : new.opened_book ≡ old.opened_book

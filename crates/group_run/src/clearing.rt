@@ -15,20 +15,20 @@ use std::alloc::Global;
 pub(crate) fn clear<T: Tree>(alloc: Global, tree: &mut T, end: Result<(), Stop>) -> Result<(), Stop>
     ensures failed { IsTrue T.tells → IsErrOf end Stop.Device →
         T.story tree.new ≡ T.story tree.old }
-    ensures moments { IsTrue T.tells → (IsErrOf end Stop.Device → ⊥) → (m : Map) →
+    ensures moments { IsTrue T.tells → (¬ IsErrOf end Stop.Device) → (m : Map) →
         IsShut m (T.story tree.old).now →
         Since (λ c. IsRecovered c (cleared m)) (T.story tree.old) (T.story tree.new) }
-    ensures cleared { IsTrue T.tells → (IsErrOf result Stop.Device → ⊥) →
-        (IsErrOf result Stop.Memory → ⊥) → (m : Map) → IsShut m (T.story tree.old).now →
+    ensures cleared { IsTrue T.tells → (¬ IsErrOf result Stop.Device) →
+        (¬ IsErrOf result Stop.Memory) → (m : Map) → IsShut m (T.story tree.old).now →
         (q : List ℕ) → (T.story tree.new).now.holds q ≡ cleared m q }
-    ensures settled { IsTrue T.tells → (IsErrOf result Stop.Device → ⊥) →
-        (IsErrOf result Stop.Memory → ⊥) → IsUntouched (T.story tree.new).now }
+    ensures settled { IsTrue T.tells → (¬ IsErrOf result Stop.Device) →
+        (¬ IsErrOf result Stop.Memory) → IsUntouched (T.story tree.new).now }
     ensures ok { OnOk result (IsOk end) }
     ensures told { IfErr result (λ e. (e ≡ Stop.Device) ⊎ ((e ≡ Stop.Memory) ⊎ (end ≡ Err e))) }
     ensures output { IsErrOf result Stop.Output → IsErrOf end Stop.Output }
     ensures device { IsErrOf end Stop.Device → IsErrOf result Stop.Device }
     ensures count { T.faults tree.old ≤ T.faults tree.new }
-    ensures rose { IsErrOf result Stop.Device → (IsErrOf end Stop.Device → ⊥) →
+    ensures rose { IsErrOf result Stop.Device → (¬ IsErrOf end Stop.Device) →
         Rose (T.faults tree.old) (T.faults tree.new) }
 {
     if let Err(Stop::Device) = end {

@@ -48,7 +48,7 @@ fn merge<T: Tree, S: Sink>(
     ensures let_in { IsTrue T.tells → was_opened (standing_at site.new group).phase ≡ true →
         IsLetIn (T.story site.old.opened).now.holds site.old.opened_book site.old.groups files
         group (group_in site.new group) }
-    ensures shut { (IsErrOf result Stop.Device → ⊥) →
+    ensures shut { (¬ IsErrOf result Stop.Device) →
         is_shut (standing_at site.new group).phase ≡ true }
     ensures quiet { IfErr result (λ e. ¬ (e ≡ Stop.Output)) }
     ensures cause { IfErr result (StopsRun T.tells (T.story site.old.opened).now.holds
@@ -92,7 +92,7 @@ pub(crate) fn merge_and_tell<T: Tree, S: Sink>(
     ensures let_in { IsTrue T.tells → was_opened (standing_at site.new group).phase ≡ true →
         IsLetIn (T.story site.old.opened).now.holds site.old.opened_book site.old.groups files
         group (group_in site.new group) }
-    ensures shut { (IsErrOf result Stop.Device → ⊥) →
+    ensures shut { (¬ IsErrOf result Stop.Device) →
         is_shut (standing_at site.new group).phase ≡ true }
     ensures written { IsTrue S.tells → Wrote
         (AreLines (line_in site.old.groups) history.new.items acknowledged.new.items)

@@ -31,7 +31,7 @@ pub(crate) fn tell<T: Tree, S: Sink>(site: &mut Site<T, S>, group: u32) -> Resul
     ensures part { IsTrue S.tells → (n : ℕ) × (S.written site.new.sink ≡
         S.written site.old.sink ++ take n (line_in site.old.groups group)) }
     ensures only { IfErr result (λ e. e ≡ Stop.Output) }
-    ensures cause { (IsErrOf result Stop.Device → ⊥) × (IsErrOf result Stop.Memory → ⊥) }
+    ensures cause { (¬ IsErrOf result Stop.Device) × (¬ IsErrOf result Stop.Memory) }
     ensures tree { site.new.tree ≡ site.old.tree }
     ensures faults { CountsFault (IsErrOf result Stop.Output) (S.faults site.old.sink)
         (S.faults site.new.sink) }

@@ -7,7 +7,7 @@ pub const SPARE: &str = ".emerge ->new";
 
 /// A law: no path has the name of a spare object in it, so no call on a tree is about one.
 pub fn no_path_is_spare()
-    ensures { (a b : List ℕ) → is_path (a ++ (spare_name ++ b)) ≡ true → ⊥ }
+    ensures { (a b : List ℕ) → ¬ (is_path (a ++ (spare_name ++ b)) ≡ true) }
 {}
 
 /// Whether a name is that of a spare object.

@@ -15,7 +15,7 @@ pub(crate) fn held_part<T: Tree>(
 ) -> Result<Option<Path>, TreeFault>
     requires { at < length path.now }
     ensures holds { IsTrue T.tells → IfOk result (λ r.
-        MatchOption r (HoldsPart (T.story tree.old).now.holds path.now at → ⊥)
+        MatchOption r (¬ HoldsPart (T.story tree.old).now.holds path.now at)
         (λ p. HoldsPart (T.story tree.old).now.holds path.now at × (p ≡ take at path.now))) }
     ensures same { IsTrue T.tells → T.story tree.new ≡ T.story tree.old }
     ensures faults { CountsFault (IsErrOf result TreeFault.Failed) (T.faults tree.old)

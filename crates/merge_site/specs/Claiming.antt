@@ -1,5 +1,5 @@
 -- When a group's claim is granted, and why it isn't.
-use Rattle.std.specs.Prelude.{◌≡◌, ◌≤◌, ◌||◌, ◌++◌, ℕ, Bool, true, false, List, [], Option, is_some, map}
+use Rattle.std.specs.Prelude.{◌≡◌, ◌≤◌, ◌||◌, ◌++◌, ℕ, Bool, true, false, List, [], Option, is_some, map, ⊤}
 use Rattle.std.specs.List.{AllByRecursion}
 use Rattle.file_tree.specs.Disk.{Map}
 use Rattle.image_fit.specs.Images.{IsClear, IsFirst, IsFirstBlock}
@@ -63,12 +63,12 @@ Stops b dying ws rs stops.Limit =
 Stops b dying ws rs stops.Overlap =
     IsTakenIn b dying ws rs × (are_free [] (record_paths rs ws) ≡ false)
 Stops b dying ws rs stops.Device = MayClaim b dying ws rs
-Stops b dying ws rs stops.Memory = Unit {0}
+Stops b dying ws rs stops.Memory = ⊤
 
 -- what stands in the tree stops a claim
 abbrev pub StopsAt : Map → (List ℕ → Option OwnerKey) → List Wish → ClaimStop → Type 0
 StopsAt m own ws (stops.Collision (collisions.Unowned p)) = IsFirstMet m own ws p
-StopsAt m own ws s = Unit {0}
+StopsAt m own ws s = ⊤
 
 -- the removals of a group's record
 abbrev pub removals_at : {T S : Type 0} → Account T S → ℕ → List (List ℕ)

@@ -1,5 +1,5 @@
 -- What the book's refusals and a look's failures are to a claim.
-use Rattle.std.specs.Prelude.{◌≡◌, true, false, [], List, ℕ}
+use Rattle.std.specs.Prelude.{◌≡◌, true, false, [], List, ℕ, ⊤}
 use Rattle.file_tree.specs.declared.fault.TreeFault.{TreeFault}
 use Rattle.file_tree.specs.declared.fault.TreeFault.TheVariants as tree_faults
 use Rattle.merge_record.specs.Judging.{are_free}
@@ -24,18 +24,18 @@ abbrev pub LateStops : List (List ℕ) → ClaimStop → Type 0
 LateStops ps stops.Overlap = are_free [] ps ≡ false
 LateStops ps stops.Device = are_free [] ps ≡ true
 LateStops ps (stops.Collision (collisions.Unowned p)) = are_free [] ps ≡ true
-LateStops ps stops.Memory = Unit {0}
+LateStops ps stops.Memory = ⊤
 LateStops ps s = ⊥
 
 -- how the book stops one
 abbrev pub EarlyStops : ClaimStop → Type 0
 EarlyStops stops.Device = ⊥
 EarlyStops (stops.Collision (collisions.Unowned p)) = ⊥
-EarlyStops s = Unit {0}
+EarlyStops s = ⊤
 
 -- how a look stops one
 abbrev pub LookStops : ClaimStop → Type 0
-LookStops stops.Device = Unit {0}
-LookStops (stops.Collision (collisions.Unowned p)) = Unit {0}
-LookStops stops.Memory = Unit {0}
+LookStops stops.Device = ⊤
+LookStops (stops.Collision (collisions.Unowned p)) = ⊤
+LookStops stops.Memory = ⊤
 LookStops s = ⊥

@@ -92,7 +92,7 @@ pub fn place_path<T: Tree>(
     stage: &Path,
     path: &Path,
 ) -> Result<(), Failed>
-    requires differ { stage.now ≡ path.now → ⊥ }
+    requires differ { ¬ (stage.now ≡ path.now) }
     requires there { IsTrue T.tells → IsSome ((T.story tree.old).now.holds stage.now) }
     ensures performs { IsTrue T.tells → (m : Machine) (p : Placement) →
         slice_get (m.roll.standing group).placements (m.roll.standing group).placed ≡ Some p →

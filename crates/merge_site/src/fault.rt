@@ -35,7 +35,7 @@ impl SiteFault {
     pub(crate) fn of(refusal: Refusal) -> SiteFault
         requires { (refusal ≡ refusals.Limit) ⊎ (refusal ≡ refusals.Memory) }
         ensures limit { result ≡ faults.Limit → refusal ≡ refusals.Limit }
-        ensures none { result ≡ faults.Device → ⊥ }
+        ensures none { ¬ (result ≡ faults.Device) }
     {
         match refusal {
             Refusal::Limit => SiteFault::Limit,

@@ -14,7 +14,7 @@ impl<T: Tree, S: Sink> Site<T, S> {
     /// came.
     pub fn put_token(&mut self, group: u32) -> Result<(), TreeFault>
         requires taken { IsTaken self.old.keeping group Step.PutToken }
-        ensures event { (IsErrOf result TreeFault.Memory → ⊥) →
+        ensures event { (¬ IsErrOf result TreeFault.Memory) →
             Adds self.old self.new (PutToken group) (is_ok result) }
         ensures memory { IsErrOf result TreeFault.Memory → KeepsHistory self.old self.new }
         ensures same { IsTrue T.tells → IsErrOf result TreeFault.Memory →

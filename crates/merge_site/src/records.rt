@@ -22,9 +22,9 @@ impl<T: Tree, S: Sink> Site<T, S> {
             Adds self.old self.new (PutRecord group removals.items) false }
         ensures limit { IsErrOf result SiteFault.Limit →
             PassesLimit (put_content (machine_of self.old.keeping) group removals.items) }
-        ensures refused { (IsErrOf result SiteFault.Device → ⊥) →
+        ensures refused { (¬ IsErrOf result SiteFault.Device) →
             OnErr result (KeepsHistory self.old self.new) }
-        ensures same { IsTrue T.tells → (IsErrOf result SiteFault.Device → ⊥) →
+        ensures same { IsTrue T.tells → (¬ IsErrOf result SiteFault.Device) →
             OnErr result (T.story self.new.tree ≡ T.story self.old.tree) }
         ensures sink { self.new.sink ≡ self.old.sink }
         ensures faults { CountsFault (IsErrOf result SiteFault.Device) (T.faults self.old.tree)

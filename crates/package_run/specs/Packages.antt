@@ -1,5 +1,5 @@
 -- How the merge of a package into a tree goes, and why it is stopped.
-use Rattle.std.specs.Prelude.{◌≡◌, ◌⊎◌, ℕ, Bool, List, [], Result, if◌then◌else◌, ◌==◌}
+use Rattle.std.specs.Prelude.{◌≡◌, ◌⊎◌, ℕ, Bool, List, [], Result, if◌then◌else◌, ◌==◌, ⊤}
 use Rattle.file_tree.specs.Disk.{Map, Story}
 use Rattle.file_tree.specs.declared.objects.Entry.{Entry}
 use Rattle.dep_atom.specs.declared.package.Facts.{Facts}
@@ -39,11 +39,11 @@ pub record IsFor (f : Facts) (owner : OwnerKey) (image : List Entry) (files : Fi
 
 -- the stops that the merge of a package may come to: nothing is removed, and its paths are apart
 abbrev pub MayStop : Stop → Type 0
-MayStop (stops.Claim (claims.Image b)) = Unit {0}
-MayStop (stops.Claim (claims.Collision c)) = Unit {0}
-MayStop (stops.Claim claims.Limit) = Unit {0}
+MayStop (stops.Claim (claims.Image b)) = ⊤
+MayStop (stops.Claim (claims.Collision c)) = ⊤
+MayStop (stops.Claim claims.Limit) = ⊤
 MayStop (stops.Claim s) = ⊥
-MayStop s = Unit {0}
+MayStop s = ⊤
 
 -- how the merge of the package went: as a run of the one group of its files, where this book and
 -- the tree from before grant their paths; or nothing came in
@@ -64,7 +64,7 @@ pub record StopsGroup (tells : Bool) (m : Map) (book : Book) (f : Facts) (owner 
 -- why the merge of the package is stopped; the device, the output and want of memory say nothing
 -- of it
 abbrev pub StopsMerge : Bool → Map → Book → Facts → OwnerKey → List Entry → Stop → Type 0
-StopsMerge tells m book f owner image stops.Device = Unit {0}
-StopsMerge tells m book f owner image stops.Output = Unit {0}
-StopsMerge tells m book f owner image stops.Memory = Unit {0}
+StopsMerge tells m book f owner image stops.Device = ⊤
+StopsMerge tells m book f owner image stops.Output = ⊤
+StopsMerge tells m book f owner image stops.Memory = ⊤
 StopsMerge tells m book f owner image s = StopsGroup tells m book f owner image s

@@ -47,7 +47,7 @@ pub record IsCandidate (m : Map) (name : Name) (id : PackageId) : Type 0 where
 pub record HasOddEntry (m : Map) (name : Name) : Type 0 where
   pub id : PackageId
   pub candidate : IsCandidate m name id
-  pub odd : (slot subslot : List ℕ) → IsEntry (m (cache_path id)) slot subslot → ⊥
+  pub odd : (slot subslot : List ℕ) → ¬ IsEntry (m (cache_path id)) slot subslot
 
 -- a candidate as its entry describes it; it has no flags
 pub record IsOffer (m : Map) (name : Name) (f : Facts) : Type 0 where
@@ -75,7 +75,7 @@ pub record IsChosen (m : Map) (a : AtomValue) (f : Facts) : Type 0 where
   pub offer : IsOffer m a.name f
   pub matched : value_matches a f [] ≡ true
   pub greatest : (g : Facts) → IsOffer m a.name g → value_matches a g [] ≡ true →
-      version_cmp g.id.version f.id.version ≡ Greater → ⊥
+      ¬ (version_cmp g.id.version f.id.version ≡ Greater)
   pub first_text : (g : Facts) → IsOffer m a.name g → value_matches a g [] ≡ true →
       version_cmp g.id.version f.id.version ≡ Equal →
-      slice_cmp nat_cmp (spelling g.id.version) (spelling f.id.version) ≡ Less → ⊥
+      ¬ (slice_cmp nat_cmp (spelling g.id.version) (spelling f.id.version) ≡ Less)

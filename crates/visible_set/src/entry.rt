@@ -22,7 +22,7 @@ pub fn read_entry<T: Tree>(
     ensures iuse { IfOk result (λ f. f.iuse ≡ []) }
     ensures enabled { IfOk result (λ f. f.enabled ≡ []) }
     ensures odd { IsTrue T.tells → IsErrOf result CandidateFault.OddEntry →
-        (slot subslot : List ℕ) → IsEntry ((T.story tree.old).now.holds path.now) slot subslot → ⊥ }
+        (slot subslot : List ℕ) → ¬ IsEntry ((T.story tree.old).now.holds path.now) slot subslot }
     ensures same { IsTrue T.tells → T.story tree.new ≡ T.story tree.old }
     ensures faults { CountsFault (IsErrOf result CandidateFault.Failed) (T.faults tree.old)
         (T.faults tree.new) }
@@ -45,7 +45,7 @@ pub fn read_entry<T: Tree>(
 /// The slot and the subslot that an entry says, if it is in the one form.
 fn entry_slots(alloc: Global, object: &Object) -> Result<Option<SlotValue>, AllocError>
     ensures { IfOk result (λ r.
-        MatchOption r ((slot subslot : List ℕ) → IsEntry (Some object.now) slot subslot → ⊥)
+        MatchOption r ((slot subslot : List ℕ) → ¬ IsEntry (Some object.now) slot subslot)
         (λ v. IsEntry (Some object.now) v.slot v.subslot)) }
 {
     if object.kind != Kind::Plain {
@@ -59,7 +59,7 @@ fn entry_slots(alloc: Global, object: &Object) -> Result<Option<SlotValue>, Allo
 
 /// The value of SLOT in a text of the one form.
 fn slot_line(text: &[u8]) -> Option<&[u8]>
-    ensures { MatchOption result ((value : List ℕ) → text.now ≡ entry_text value → ⊥)
+    ensures { MatchOption result ((value : List ℕ) → ¬ (text.now ≡ entry_text value))
         (λ value. text.now ≡ entry_text value.now) }
 {
     let Some(rest) = text.strip_prefix(b"EAPI=8\nKEYWORDS=amd64\nSLOT=") else {

@@ -29,7 +29,7 @@ pub fn candidates<T: Tree>(
     ensures offers { IsTrue T.tells → IfOk result
         (λ v. AreOffers (T.story tree.old).now.holds name.now v.items) }
     ensures all_read { IsTrue T.tells → IfOk result
-        (λ v. HasOddEntry (T.story tree.old).now.holds name.now → ⊥) }
+        (λ v. ¬ HasOddEntry (T.story tree.old).now.holds name.now) }
     ensures odd { IsTrue T.tells → IsErrOf result CandidateFault.OddEntry →
         HasOddEntry (T.story tree.old).now.holds name.now }
     ensures same { IsTrue T.tells → T.story tree.new ≡ T.story tree.old }
@@ -86,7 +86,7 @@ fn id_at(
     requires stem { stem.now ≡ entry_stem name.now }
     requires names { AreNames name.now }
     ensures { IfOk result (λ r.
-        MatchOption r ((id : Id) → IsId id → id.name ≡ name.now → path.now ≡ cache_path id → ⊥)
+        MatchOption r ((id : Id) → IsId id → id.name ≡ name.now → ¬ (path.now ≡ cache_path id))
         (λ id. IsId id × (id.name ≡ name.now) × (path.now ≡ cache_path id))) }
 {
     let Some(rest) = path.text().strip_prefix(stem) else {
@@ -102,7 +102,7 @@ fn id_at(
 /// The version that the whole text is, if it is one.
 fn read_version(alloc: Global, text: &str) -> Result<Option<Version>, AllocError>
     ensures { IfOk result (λ r.
-        MatchOption r ((p : Parts) → IsReadable p → text.now ≡ spelling p → ⊥)
+        MatchOption r ((p : Parts) → IsReadable p → ¬ (text.now ≡ spelling p))
         (λ v. IsReadable v × (text.now ≡ spelling v))) }
 {
     match Version::parse(alloc, text) {
