@@ -20,7 +20,8 @@ meant_again absent = refl
 meant_again (variant i) = refl
 
 abbrev pub value_code : Coded Value
-value_code = code_by (Option (Option ℕ)) (coded_option (coded_option coded_ℕ)) shown meant meant_again
+value_code =
+    code_by (Option (Option ℕ)) (coded_option (coded_option coded_ℕ)) shown meant meant_again
 
 abbrev pub decisions_code : Coded Choice
 decisions_code = coded_list (coded× coded_ℕ value_code)

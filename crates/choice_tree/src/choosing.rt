@@ -1,4 +1,5 @@
-ghost use Rattle.std.specs.Prelude.{◌≡◌, ◌<◌, ◌++◌, ◌∷◌, IfOk, OnOk, [], false, filter, get_or, length, not, true};
+ghost use Rattle.std.specs.Prelude.{◌≡◌, ◌<◌, ◌++◌, ◌∷◌, IfOk, OnOk, [], false, filter, get_or};
+ghost use Rattle.std.specs.Prelude.{length, not, true};
 ghost use Rattle.std.specs.List.{flat_map};
 ghost use Rattle.dep_atom.specs.Ids.{id_text};
 ghost use Rattle.dep_atom.specs.Match.{value_matches};

@@ -80,8 +80,8 @@ GoodClaimsSuffice =
 -- The headline over definitions. From a kept tree at rest, for an accepted plan over its packages,
 -- while the machine merges the plan by events in any order in which groups wait, answered in any
 -- way, and grants only good claims: each crash image of each moment recovers to the opening after a
--- run of the plan, a kept tree whose packages are consistent, with each group in it that was settled
--- when that moment's event began, and none whose gate was never put.
+-- run of the plan, a kept tree whose packages are consistent, with each group in it that was
+-- settled when that moment's event began, and none whose gate was never put.
 abbrev pub MergesRecoverSoundly : Type 0
 MergesRecoverSoundly =
     (plan : List plans.Group) (change : ℕ → Change) (opening : Map) (ps : List Installed)

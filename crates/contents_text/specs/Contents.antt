@@ -38,7 +38,8 @@ pub record IsDigest (digest : List ℕ) : Type 0 where
 
 abbrev pub IsLine : Line → Type 0
 IsLine (obj path digest time) = IsPathText path × (IsDigest digest × (is_time time ≡ true))
-IsLine (sym path target time) = IsPathText path × ((is_target target ≡ true) × (is_time time ≡ true))
+IsLine (sym path target time) =
+    IsPathText path × ((is_target target ≡ true) × (is_time time ≡ true))
 IsLine (dir path) = IsPathText path
 
 abbrev pub path_of : Owned → List ℕ

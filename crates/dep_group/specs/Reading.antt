@@ -46,13 +46,15 @@ finished at None [] done = Ok done
 finished at None (o ∷ os) done = Err (fault.Open (outermost o.at os))
 
 -- what the tokens give from index `at` on: the trees, or the first fault. `begun` is the opener
--- right before, `os` are the open groups with the innermost first, `done` are the trees in the innermost of them
+-- right before, `os` are the open groups with the innermost first, `done` are the trees in the
+-- innermost of them
 abbrev pub read : {K L : Type 0} → (K → Bool) → (L → Bool) → List (Token K L) → ℕ → Option K
     → List (Opened K L) → List (Tree K L) → Result (List (Tree K L)) GroupFault
 read any_of barred [] at begun os done = finished at begun os done
 read any_of barred (Opens ∷ ts) at begun os done =
     if nat_lt (length os) 64
-    then read any_of barred ts (at + 1) None (record { opener = begun; at = at; before = done } ∷ os) []
+    then read any_of barred ts (at + 1) None
+    (record { opener = begun; at = at; before = done } ∷ os) []
     else Err fault.Depth
 read any_of barred (Leaf a ∷ ts) at None os done =
     if in_any_of any_of os && barred a then Err (fault.Barred at)

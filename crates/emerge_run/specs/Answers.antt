@@ -117,7 +117,8 @@ Refuses m a Result = IsBarred m a
 -- where it is the first, of the objects, of the record, and then of the claim
 abbrev pub AsksMerge : List Installed → Facts → List Entry → Map → Status → Type 0
 AsksMerge ps f image m (status.Ok groups) = ((x : Group) × MayCome ps f image m x) × (groups ≡ 1)
-AsksMerge ps f image m (status.Collision c) = StopsAt ps f image m (stops.Claim (claims.Collision c))
+AsksMerge ps f image m (status.Collision c) =
+    StopsAt ps f image m (stops.Claim (claims.Collision c))
 AsksMerge ps f image m (status.BadImage b) =
     StopsAt ps f image m (stops.Image b) ⊎ StopsAt ps f image m (stops.Claim (claims.Image b))
 AsksMerge ps f image m (status.Limit Paths) = StopsAt ps f image m (stops.Claim claims.Limit)

@@ -73,9 +73,9 @@ IsOfTree status.OutputFault = ⊥
 IsOfTree status.Memory = ⊥
 
 -- How a run over this tree ended: with the answer that it asks for. Each crash image of each moment
--- is one of the beginning, or recovers to what the tree recovered to, with groups of the run, at the
--- end with all of the history; unless the device failed with just these; and a run that tells how it
--- went leaves a tree that reads so.
+-- is one of the beginning, or recovers to what the tree recovered to, with groups of the run, at
+-- the end with all of the history; unless the device failed with just these; and a run that tells
+-- how it went leaves a tree that reads so.
 pub record Outcome (words : List (List ℕ)) (image : Order → List Entry) (old new : Story)
     (history : List ℕ) (s : Status) : Type 0 where
   pub answer : Asks words old.now.holds image s
@@ -85,8 +85,8 @@ pub record Outcome (words : List (List ℕ)) (image : Order → List Entry) (old
       LeavesGroups (IsChoice words image) history old.now new.now
   pub tree : IsOfTree s → HasGroups (IsChoice words image) history old.now new.now
 
--- a run has chosen a package with this image, to come beside these: its tree is at rest, as recovery
--- made it
+-- a run has chosen a package with this image, to come beside these: its tree is at rest, as
+-- recovery made it
 pub record HasChosen (words : List (List ℕ)) (image : Order → List Entry) (old new : Story)
     (ps : List Installed) (f : Facts) (entries : List Entry) : Type 0 where
   pub atom : AtomValue

@@ -15,7 +15,8 @@ use Rattle.emerge_run.specs.declared.status.Status.TheVariants as status
 -- the command merges what this one atom matches, and asks for nothing else: no update, no repair,
 -- no world, no change of a flag
 abbrev pub IsMergeOf : Command → AtomValue → Type 0
-IsMergeOf (Merge atoms world update repair backtrack flips) a = (map atom_value atoms.items ≡ a ∷ [])
+IsMergeOf (Merge atoms world update repair backtrack flips) a =
+    (map atom_value atoms.items ≡ a ∷ [])
     × (world ≡ false) × (update ≡ false) × (repair ≡ false) × (flips ≡ 0)
 IsMergeOf (PlanFile path) a = ⊥
 IsMergeOf (Unmerge atoms) a = ⊥

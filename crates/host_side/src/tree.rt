@@ -55,7 +55,8 @@ impl HostTree {
     /// Tells and counts a failure, unless it is want of memory.
     fn fault(&mut self, call: &str, path: &str, error: io::Error) -> TreeFault
         ensures count { self.old.faults.count ≤ self.new.faults.count }
-        ensures rose { result ≡ TreeFault.Failed → Rose self.old.faults.count self.new.faults.count }
+        ensures rose { result ≡ TreeFault.Failed →
+            Rose self.old.faults.count self.new.faults.count }
     {
         if is_memory(&error) {
             return TreeFault::Memory;
@@ -68,7 +69,8 @@ impl HostTree {
 impl Tree for HostTree {
     ghost tells = { false };
 
-    ghost story = { λ _. record { past = []; now = record { holds = λ _. None; touched = λ _. false } } };
+    ghost story = { λ _.
+        record { past = []; now = record { holds = λ _. None; touched = λ _. false } } };
 
     ghost faults = { λ t. t.faults.count };
 

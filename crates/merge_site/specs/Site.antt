@@ -62,7 +62,8 @@ pub record IsPossible (keeping : Keeping) : Type 0 where
 
 -- no path is one of two groups under way
 abbrev pub AreApart : Roll → Type 0
-AreApart r = (g h : ℕ) (q : List ℕ) → is_live (phase_at r g) ≡ true → is_live (phase_at r h) ≡ true →
+AreApart r = (g h : ℕ) (q : List ℕ) →
+    is_live (phase_at r g) ≡ true → is_live (phase_at r h) ≡ true →
     covers (group_at r g) q ≡ true → covers (group_at r h) q ≡ true → g ≡ h
 
 -- each group has its own number
@@ -80,7 +81,8 @@ AreFresh k = (i : ℕ) → (standing_in k.standings i).phase ≡ Idle →
     (standing_in k.standings i).placements ≡ []
 
 -- the groups of a site, each with its number and its paths
-pub record AreInStep (k : Keeping) (groups : List SiteGroup) (payloads : List Payload) : Type 0 where
+pub record AreInStep
+    (k : Keeping) (groups : List SiteGroup) (payloads : List Payload) : Type 0 where
   pub numbered : AreNumbered payloads
   pub paths : HavePaths k payloads
   pub fresh : AreFresh k
@@ -122,7 +124,8 @@ pub record KeepsHistory {T S : Type 0} (old new : Account T S) : Type 0 where
   pub opened : new.opened ≡ old.opened
 
 -- the line of a group was written, or where that failed a part of it
-pub record Writes (groups : List SiteGroup) (group : ℕ) (ok : Bool) (old new : List ℕ) : Type 0 where
+pub record Writes
+    (groups : List SiteGroup) (group : ℕ) (ok : Bool) (old new : List ℕ) : Type 0 where
   pub whole : IsTrue ok → (x : SiteGroup) → slice_get groups group ≡ Some x →
       new ≡ old ++ x.line.items
   pub part : (x : SiteGroup) → slice_get groups group ≡ Some x →
@@ -138,7 +141,8 @@ removals_left k g =
     length (standing_in k.standings g).removals - (standing_in k.standings g).removed
 
 -- the paths of a group's files in the journal
-pub record AreFilesOf (group : ℕ) (gate changes token : List ℕ) (stages : List (List ℕ)) : Type 0 where
+pub record AreFilesOf
+    (group : ℕ) (gate changes token : List ℕ) (stages : List (List ℕ)) : Type 0 where
   pub of_gate : gate ≡ gate_path group
   pub of_changes : changes ≡ record_path group
   pub of_token : token ≡ token_path group

@@ -1,4 +1,5 @@
-ghost use Rattle.std.specs.Prelude.{◌≡◌, ◌<◌, ◌^◌, ℕ, Bool, List, Some, None, is_ok, length, slice_get};
+ghost use Rattle.std.specs.Prelude.{◌≡◌, ◌<◌, ◌^◌, ℕ, Bool, List, Some, None, is_ok, length};
+ghost use Rattle.std.specs.Prelude.{slice_get};
 ghost use Rattle.std.specs.Prelude.{IsErr, IsErrOf, IsSome, IsTrue};
 ghost use Rattle.file_tree.specs.Disk.{CountsFault};
 ghost use Rattle.journal.specs.Group.{token};

@@ -6,7 +6,8 @@ ghost use Rattle.merge_record.specs.Judging.{are_free};
 ghost use Rattle.merge_record.specs.Names.{jobs};
 ghost use Rattle.owner_book.specs.Book.{ChangesClaim, HasOwnersOf, claim_in, owner_in, path_of};
 ghost use Rattle.owner_book.specs.Removing.{IsIndexed};
-ghost use Rattle.merge_site.specs.Claiming.{IsClearFor, IsTakenIn, MayClaim, Stops, StopsAt, may_hold};
+ghost use Rattle.merge_site.specs.Claiming.{IsClearFor, IsTakenIn, MayClaim, Stops, StopsAt};
+ghost use Rattle.merge_site.specs.Claiming.{may_hold};
 ghost use Rattle.merge_site.specs.Claiming.{record_paths};
 ghost use Rattle.merge_site.specs.Stopping.{EarlyStops, LateStops, LookStops};
 

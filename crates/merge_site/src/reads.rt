@@ -47,8 +47,9 @@ impl<T: Tree, S: Sink> Site<T, S> {
             (T.story self.now.opened) (T.story self.now.tree) }
         ensures stands { IsTrue T.tells → Leaves (Stands (T.story self.now.opened).now.holds
             (machine_of self.now.keeping).roll) (T.story self.now.tree).now }
-        ensures moments { IsTrue T.tells → Since (StoodDuring (T.story self.now.opened).now.holds idle
-            self.now.events) (T.story self.now.opened) (T.story self.now.tree) }
+        ensures moments { IsTrue T.tells → Since
+            (StoodDuring (T.story self.now.opened).now.holds idle self.now.events)
+            (T.story self.now.opened) (T.story self.now.tree) }
         ensures apart { AreApart (machine_of self.now.keeping).roll }
         ensures booked { IsBooked self.now.keeping self.now.events self.now.wishes
             self.now.opened_book self.now.book }

@@ -27,8 +27,8 @@ pub(crate) fn add_wish(
     folder: bool,
 ) -> Result<(), AllocError>
     requires { group < length wishes.old.items }
-    ensures ok { OnOk result (lists_of wishes.new.items ≡ with_wish (lists_of wishes.old.items) group
-        (record { path = path.now; owner = owner; folder = folder })) }
+    ensures ok { OnOk result (lists_of wishes.new.items ≡ with_wish (lists_of wishes.old.items)
+        group (record { path = path.now; owner = owner; folder = folder })) }
     ensures err { OnErr result (lists_of wishes.new.items ≡ lists_of wishes.old.items) }
 {
     let path = path.try_clone()?;

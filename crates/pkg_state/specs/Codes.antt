@@ -46,19 +46,26 @@ module _ {K L : Type 0} where
   joined_none (tree t ts) = ap (tree t) (joined_none ts)
 
   mutual
-    groups_of_tree : (t : Tree K L) (rest : List (Piece K L)) (us : Trees K L) (gs : List (Trees K L)) → groups_of rest ≡ us ∷ gs → groups_of (pieces_of t rest) ≡ tree t us ∷ gs
+    groups_of_tree :
+        (t : Tree K L) (rest : List (Piece K L)) (us : Trees K L) (gs : List (Trees K L)) →
+        groups_of rest ≡ us ∷ gs → groups_of (pieces_of t rest) ≡ tree t us ∷ gs
     groups_of_tree (leaf a) rest us gs e = ap (before (inl a)) e
     groups_of_tree (group k ts) rest us gs e =
-        ap (before (inr (inl k))) (groups_of_trees ts (inr (inr tt) ∷ rest) no_trees (us ∷ gs) (ap (λ l. no_trees ∷ l) e))
+        ap (before (inr (inl k)))
+        (groups_of_trees ts (inr (inr tt) ∷ rest) no_trees (us ∷ gs) (ap (λ l. no_trees ∷ l) e))
         ∙ ap (λ x. tree (group k x) us ∷ gs) (joined_none ts)
 
-    groups_of_trees : (ts : Trees K L) (rest : List (Piece K L)) (us : Trees K L) (gs : List (Trees K L)) → groups_of rest ≡ us ∷ gs → groups_of (all_pieces ts rest) ≡ joined ts us ∷ gs
+    groups_of_trees :
+        (ts : Trees K L) (rest : List (Piece K L)) (us : Trees K L) (gs : List (Trees K L)) →
+        groups_of rest ≡ us ∷ gs → groups_of (all_pieces ts rest) ≡ joined ts us ∷ gs
     groups_of_trees no_trees rest us gs e = e
-    groups_of_trees (tree t ts) rest us gs e = groups_of_tree t (all_pieces ts rest) (joined ts us) gs (groups_of_trees ts rest us gs e)
+    groups_of_trees (tree t ts) rest us gs e =
+        groups_of_tree t (all_pieces ts rest) (joined ts us) gs (groups_of_trees ts rest us gs e)
 
   pub back_again : (ts : Trees K L) → first_of (groups_of (all_pieces ts [])) ≡ ts
   back_again ts = ap first_of (groups_of_trees ts [] no_trees [] refl) ∙ joined_none ts
 
   abbrev pub trees_code : Coded K → Coded L → Coded (Trees K L)
   trees_code k l =
-      code_by (List (Piece K L)) (coded_list (coded⊎ l (coded⊎ (coded_option k) coded_unit))) (λ ts. all_pieces ts []) (λ xs. first_of (groups_of xs)) back_again
+      code_by (List (Piece K L)) (coded_list (coded⊎ l (coded⊎ (coded_option k) coded_unit)))
+      (λ ts. all_pieces ts []) (λ xs. first_of (groups_of xs)) back_again

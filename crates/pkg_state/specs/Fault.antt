@@ -20,18 +20,21 @@ use Rattle.pkg_state.specs.declared.broken.Broken.TheVariants as broken
 -- The leaf to name of trees that don't hold: in trees that must all hold, of the first that fails;
 -- of an any-of group, of its first member.
 abbrev mutual
-  pub lacking : (AtomValue → Bool) → (List ℕ → Bool) → Tree (Opener (List ℕ)) AtomValue → Option AtomValue
+  pub lacking :
+      (AtomValue → Bool) → (List ℕ → Bool) → Tree (Opener (List ℕ)) AtomValue → Option AtomValue
   lacking fact on (leaf a) = Some a
   lacking fact on (group None ts) = lacking_of_all fact on ts
   lacking fact on (group (Some opener) ts) =
       if is_any_of opener then lacking_of_first fact on ts else lacking_of_all fact on ts
 
-  pub lacking_of_all : (AtomValue → Bool) → (List ℕ → Bool) → Trees (Opener (List ℕ)) AtomValue → Option AtomValue
+  pub lacking_of_all :
+      (AtomValue → Bool) → (List ℕ → Bool) → Trees (Opener (List ℕ)) AtomValue → Option AtomValue
   lacking_of_all fact on no_trees = None
   lacking_of_all fact on (tree t ts) =
       if holds kind fact on t then lacking_of_all fact on ts else lacking fact on t
 
-  pub lacking_of_first : (AtomValue → Bool) → (List ℕ → Bool) → Trees (Opener (List ℕ)) AtomValue → Option AtomValue
+  pub lacking_of_first :
+      (AtomValue → Bool) → (List ℕ → Bool) → Trees (Opener (List ℕ)) AtomValue → Option AtomValue
   lacking_of_first fact on no_trees = None
   lacking_of_first fact on (tree t ts) =
       if is_member kind on t then lacking fact on t else lacking_of_first fact on ts

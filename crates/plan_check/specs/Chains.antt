@@ -18,7 +18,8 @@ pub record AreJoined (plan : List Group) (fits : List Life) (s : Stretch) : Type
 
 -- those of `rest` that are born in time wait beside the old ones, and the others stay; those of
 -- `todo` are not yet looked at
-pub record AreParted (InTime : Moment → Type 0) (rest todo others old waiting : List Life) : Type 0 where
+pub record AreParted
+    (InTime : Moment → Type 0) (rest todo others old waiting : List Life) : Type 0 where
   pub apart : (z : Life) → Has others z → ¬ InTime z.birth
   pub whole : (z : Life) → Has rest z → Has others z ⊎ (Has waiting z ⊎ Has todo z)
   pub inside : (z : Life) → Has others z → Has rest z

@@ -20,7 +20,8 @@ moment_at (Some g) = commit g
 
 -- at each line stands the group that clears it first, where these groups are left
 abbrev pub AreClearings : List Group → ℕ → List (List ℕ × ℕ) → Type 0
-AreClearings rest g places = (line : List ℕ) → moment_at (place_at places line) ≡ clearing rest g line
+AreClearings rest g places =
+    (line : List ℕ) → moment_at (place_at places line) ≡ clearing rest g line
 
 -- the life of a package from a moment on, by the groups that stand at the lines
 abbrev pub life_at : Moment → List (List ℕ × ℕ) → Package → Life

@@ -45,6 +45,7 @@ is_kept_out atoms asker line p =
     list_any (λ a. value_matches a p.facts asker) atoms && is_elsewhere line p
 
 -- such a package may be there at some time of the stretch
-abbrev pub IsMet : List Group → Stretch → List AtomValue → List (List ℕ) → Option (List ℕ) → Life → Type 0
+abbrev pub IsMet :
+    List Group → Stretch → List AtomValue → List (List ℕ) → Option (List ℕ) → Life → Type 0
 IsMet plan s atoms asker line y =
     Meets plan s y × (is_kept_out atoms asker line y.package_is ≡ true)

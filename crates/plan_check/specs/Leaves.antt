@@ -1,5 +1,5 @@
--- The leaf that a refusal names, where `Fails` says which trees fail: in trees that should all pass,
--- of the first that fails; of an any-of group, of its first member.
+-- The leaf that a refusal names, where `Fails` says which trees fail: in trees that should all
+-- pass, of the first that fails; of an any-of group, of its first member.
 use Rattle.std.specs.Prelude.{◌≡◌, ◌⊎◌, ℕ, Bool, true, false, List, Option, None, Some}
 use Rattle.dep_atom.specs.Values.{AtomValue}
 use Rattle.dep_group.specs.Trees.{Tree, Trees, group, is_member, leaf, no_trees, tree}

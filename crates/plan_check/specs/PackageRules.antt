@@ -31,7 +31,8 @@ required_rule x =
     (refused.RequiredUse x.package_is.facts.id))
 
 -- the leaf to name of what the package wants in this class and may miss in the stretch
-abbrev pub IsMissing : List Group → List Package → Stretch → Class → Package → Option AtomValue → Type 0
+abbrev pub IsMissing :
+    List Group → List Package → Stretch → Class → Package → Option AtomValue → Type 0
 IsMissing plan start s class p =
     IsLeafOfAll (λ t. ¬ IsFirm (IsChained plan start p.facts.enabled s) (has p.facts.enabled) t)
     (has p.facts.enabled) (tree_of class p)
@@ -70,7 +71,8 @@ built_of plan start p class g =
 abbrev pub built_rule : List Group → List Package → Life → Option Refusal → Type 0
 built_rule plan start x = if_brought x.birth (λ g.
     both (built_of plan start x.package_is Depend g)
-    (both (built_of plan start x.package_is Bdepend g) (built_of plan start x.package_is Idepend g)))
+    (both (built_of plan start x.package_is Bdepend g)
+    (built_of plan start x.package_is Idepend g)))
 
 abbrev pub is_never : Moment → Bool
 is_never opening = false

@@ -48,7 +48,8 @@ fn keeps_out(
     y: &Life<'_>,
 ) -> Result<bool, AllocError>
     requires is { IsIndex index.now }
-    requires within { IsStretchWithin (length (plan_of index.now)) (stretch_value keeping.now.stretch) }
+    requires within { IsStretchWithin (length (plan_of index.now))
+        (stretch_value keeping.now.stretch) }
     requires y { Has (all_lives index.now) (life_of y.now) }
     ensures { IfOk result (λ out. IsTrue out ↔
         IsKept (plan_of index.now) keeping.now (life_of y.now)) }
@@ -71,7 +72,8 @@ fn name_is_clear(
     atom: &Atom,
 ) -> Result<bool, AllocError>
     requires is { IsIndex index.now }
-    requires within { IsStretchWithin (length (plan_of index.now)) (stretch_value keeping.now.stretch) }
+    requires within { IsStretchWithin (length (plan_of index.now))
+        (stretch_value keeping.now.stretch) }
     ensures { IfOk result (λ clear. IsTrue clear →
         IsNameClear (plan_of index.now) (all_lives index.now) keeping.now (atom_value atom.now)) }
 {
@@ -91,7 +93,8 @@ fn is_clear(
     blocks: &[&Atom],
 ) -> Result<bool, AllocError>
     requires is { IsIndex index.now }
-    requires within { IsStretchWithin (length (plan_of index.now)) (stretch_value keeping.now.stretch) }
+    requires within { IsStretchWithin (length (plan_of index.now))
+        (stretch_value keeping.now.stretch) }
     ensures { IfOk result (λ clear. IsTrue clear →
         AreClear (plan_of index.now) (all_lives index.now) keeping.now
         (map (λ atom. atom_value atom.now) blocks.now)) }
@@ -111,7 +114,8 @@ fn first_kept<'a>(
     keeping: &Keeping<'_>,
 ) -> Result<Option<&'a Pkg>, AllocError>
     requires is { IsIndex index.now }
-    requires within { IsStretchWithin (length (plan_of index.now)) (stretch_value keeping.now.stretch) }
+    requires within { IsStretchWithin (length (plan_of index.now))
+        (stretch_value keeping.now.stretch) }
     ensures { IfOk result (λ found.
         IsFirstKept (plan_of index.now) (all_lives index.now) keeping.now
         (option_map (λ p. p.now) found)) }
@@ -129,7 +133,8 @@ fn first_of_all<'a>(
     keeping: &Keeping<'_>,
 ) -> Result<Option<&'a Pkg>, AllocError>
     requires is { IsIndex index.now }
-    requires within { IsStretchWithin (length (plan_of index.now)) (stretch_value keeping.now.stretch) }
+    requires within { IsStretchWithin (length (plan_of index.now))
+        (stretch_value keeping.now.stretch) }
     ensures { IfOk result (λ found.
         IsFirstKept (plan_of index.now) (all_lives index.now) keeping.now
         (option_map (λ p. p.now) found)) }
@@ -150,7 +155,8 @@ pub(crate) fn judge_unblocked(
 ) -> Result<(), PlanRefused>
     requires is { IsIndex index.now }
     requires x { Has (all_lives index.now) (life_of x.now) }
-    ensures { Says (unblocked_rule (plan_of index.now) (start_of index.now) (life_of x.now)) result }
+    ensures { Says (unblocked_rule (plan_of index.now) (start_of index.now) (life_of x.now))
+        result }
 {
     let pkg = x.pkg;
     let line = pkg.line(alloc)?;

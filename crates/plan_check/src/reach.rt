@@ -1,4 +1,5 @@
-ghost use Rattle.std.specs.Prelude.{◌≡◌, ◌↔◌, ◌<◌, ◌*◌, ◌||◌, IfOk, IsTrue, List, [], get_or, length, map, nat_eq, ℕ};
+ghost use Rattle.std.specs.Prelude.{◌≡◌, ◌↔◌, ◌<◌, ◌*◌, ◌||◌, IfOk, IsTrue, List, [], get_or};
+ghost use Rattle.std.specs.Prelude.{length, map, nat_eq, ℕ};
 ghost use Rattle.plan_law.specs.Plans.{Reaches};
 ghost use Rattle.plan_check.specs.Form.{IsInForm};
 ghost use Rattle.plan_check.specs.IsReach.{IsReach};

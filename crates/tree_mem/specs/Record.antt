@@ -17,7 +17,10 @@ disk_of es touched = record { holds = held es; touched = is_among touched }
 -- the disk before a change
 abbrev pub undo : Change → Disk → Disk
 undo (Wrote p old was) d =
-    record { holds = with_path d.holds p old; touched = λ q. if bytes_eq p q then was else d.touched q }
+    record {
+      holds = with_path d.holds p old;
+      touched = λ q. if bytes_eq p q then was else d.touched q;
+    }
 undo (Touched p was) d =
     record { holds = d.holds; touched = λ q. if bytes_eq p q then was else d.touched q }
 undo (Synced touched) d = record { holds = d.holds; touched = is_among touched.keys }
