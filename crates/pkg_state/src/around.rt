@@ -7,7 +7,7 @@ ghost use Rattle.pkg_state.specs.Index.{AreNamed, all_blocks};
 
 use crate::block::Block;
 use crate::blocks::add_blocks;
-use crate::by_name::ByName;
+use crate::by_text::ByText;
 use crate::package::Pkg;
 use dep_atom::Atom;
 use dep_tree::Present;
@@ -18,16 +18,16 @@ use std::alloc::{AllocError, Global};
 #[derive(Drop)]
 pub(crate) struct Around<'a> {
     packages: &'a [Pkg],
-    named: ByName<'a, &'a Pkg>,
-    blocks: ByName<'a, Block<'a>>,
+    named: ByText<'a, &'a Pkg>,
+    blocks: ByText<'a, Block<'a>>,
     ghost are_named: { AreNamed packages.now named.lists },
     ghost are_blocks: { AreBlocks (all_blocks packages.now) blocks.lists },
 }
 
-fn by_own_name<'a>(alloc: Global, packages: &'a [Pkg]) -> Result<ByName<'a, &'a Pkg>, AllocError>
+fn by_own_name<'a>(alloc: Global, packages: &'a [Pkg]) -> Result<ByText<'a, &'a Pkg>, AllocError>
     ensures { IfOk result (λ named. AreNamed packages.now named.lists) }
 {
-    let mut named = ByName::new(alloc);
+    let mut named = ByText::new(alloc);
     for package in packages {
         named.add(alloc, package.facts.id.name.package.text(), package)?;
     }
@@ -37,10 +37,10 @@ fn by_own_name<'a>(alloc: Global, packages: &'a [Pkg]) -> Result<ByName<'a, &'a 
 fn by_blocked_name<'a>(
     alloc: Global,
     packages: &'a [Pkg],
-) -> Result<ByName<'a, Block<'a>>, AllocError>
+) -> Result<ByText<'a, Block<'a>>, AllocError>
     ensures { IfOk result (λ blocks. AreBlocks (all_blocks packages.now) blocks.lists) }
 {
-    let mut blocks = ByName::new(alloc);
+    let mut blocks = ByText::new(alloc);
     for package in packages {
         add_blocks(alloc, &mut blocks, package)?;
     }

@@ -3,14 +3,14 @@ ghost use Rattle.pkg_state.specs.Blocks.{block_value};
 ghost use Rattle.pkg_state.specs.Index.{blocks_of, blocks_of_class, listed, those_on};
 
 use crate::block::{Block, is_block};
-use crate::by_name::ByName;
+use crate::by_text::ByText;
 use crate::class::Class;
 use crate::package::Pkg;
 use std::alloc::{AllocError, Global};
 
 fn add_class<'a>(
     alloc: Global,
-    blocks: &mut ByName<'a, Block<'a>>,
+    blocks: &mut ByText<'a, Block<'a>>,
     owner: &'a Pkg,
     class: Class,
 ) -> Result<(), AllocError>
@@ -32,7 +32,7 @@ fn add_class<'a>(
 /// Puts the blocks of a package under the names that they block.
 pub(crate) fn add_blocks<'a>(
     alloc: Global,
-    blocks: &mut ByName<'a, Block<'a>>,
+    blocks: &mut ByText<'a, Block<'a>>,
     owner: &'a Pkg,
 ) -> Result<(), AllocError>
     ensures { OnOk result ((name : List ℕ) → map block_value (listed blocks.new.lists name) ≡

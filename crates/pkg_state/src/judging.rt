@@ -1,6 +1,4 @@
 ghost use Rattle.std.specs.Prelude.{◌≡◌, IfErr, IfOk, IfSome, MatchResult, OnOk, true};
-ghost use Rattle.std.specs.Option.{option_map};
-ghost use Rattle.dep_atom.specs.Values.{atom_value};
 ghost use Rattle.pkg_state.specs.Consistent.{AreConsistent};
 ghost use Rattle.pkg_state.specs.Fault.{Fault, IsFirstFault, IsTold, IsWrong, is_right, told};
 ghost use Rattle.pkg_state.specs.declared.broken.Broken.TheVariants.{Memory};
@@ -8,20 +6,10 @@ ghost use Rattle.pkg_state.specs.declared.broken.Broken.TheVariants.{Memory};
 use crate::around::Around;
 use crate::broken::Broken;
 use crate::class::Class;
+use crate::leaf::copy_leaf;
 use crate::package::Pkg;
 use crate::twins::first_twins;
-use dep_atom::Atom;
 use std::alloc::{AllocError, Global};
-
-fn copy_leaf(leaf: Option<&Atom>) -> Result<Option<Atom>, AllocError>
-    ensures { IfOk result (λ copy. option_map atom_value copy ≡
-        option_map (λ atom. atom_value atom.now) leaf.entry) }
-{
-    match leaf {
-        Some(atom) => Ok(Some(atom.try_clone()?)),
-        None => Ok(None),
-    }
-}
 
 /// Judges one package among the others.
 fn judge(alloc: Global, one: &Pkg, around: &Around<'_>) -> Result<(), Broken>

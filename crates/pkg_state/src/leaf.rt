@@ -1,4 +1,4 @@
-ghost use Rattle.std.specs.Prelude.{◌≡◌};
+ghost use Rattle.std.specs.Prelude.{◌≡◌, IfOk};
 ghost use Rattle.std.specs.Option.{option_map};
 ghost use Rattle.dep_atom.specs.Values.{atom_value};
 ghost use Rattle.dep_group.specs.Trees.{is_member};
@@ -10,6 +10,18 @@ ghost use Rattle.pkg_state.specs.Fault.{lacking, lacking_of_all, lacking_of_firs
 use dep_atom::Atom;
 use dep_tree::{Node, Present};
 use pms_names::Flags;
+use std::alloc::AllocError;
+
+/// The leaf that is to be named, in memory of its own.
+pub fn copy_leaf(leaf: Option<&Atom>) -> Result<Option<Atom>, AllocError>
+    ensures { IfOk result (λ copy. option_map atom_value copy ≡
+        option_map (λ atom. atom_value atom.now) leaf.entry) }
+{
+    match leaf {
+        Some(atom) => Ok(Some(atom.try_clone()?)),
+        None => Ok(None),
+    }
+}
 
 #[cycle(lacking)]
 fn lacking<'a, P: Present>(node: &'a Node, present: &P, asker: &Flags) -> Option<&'a Atom>

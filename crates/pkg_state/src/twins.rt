@@ -8,7 +8,7 @@ use std::alloc::{AllocError, Global};
 use std::collections::BTreeMap;
 
 /// The first two packages that are on one line, if any are.
-pub(crate) fn first_twins<'a>(
+pub fn first_twins<'a>(
     alloc: Global,
     packages: &'a [Pkg],
 ) -> Result<Option<(&'a Pkg, &'a Pkg)>, AllocError>

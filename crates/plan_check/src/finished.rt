@@ -10,11 +10,10 @@ ghost use Rattle.plan_check.specs.Refusals.Refusal.{Final};
 ghost use Rattle.plan_check.specs.Refusals.{Says};
 ghost use Rattle.plan_check.specs.Verdicts.{refuse};
 
-use crate::leaf::copy_leaf;
 use crate::left::Left;
 use crate::life::{Life, Moment};
 use crate::refusal::PlanRefused;
-use pkg_state::{Class, Pkg};
+use pkg_state::{Class, Pkg, copy_leaf};
 
 fn judge_left(left: &Left<'_>, pkg: &Pkg) -> Result<(), PlanRefused>
     ensures { Says (refuse

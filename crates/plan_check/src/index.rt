@@ -1,7 +1,6 @@
-use crate::by_text::ByText;
 use crate::life::Life;
 use crate::reach::Reach;
-use pkg_state::Pkg;
+use pkg_state::{ByText, Pkg};
 
 /// What the rules look up.
 #[derive(Drop)]

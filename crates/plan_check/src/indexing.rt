@@ -3,11 +3,10 @@ ghost use Rattle.plan_check.specs.Index.{AreKeyed, IsIndex, line_key, name_key, 
 ghost use Rattle.plan_check.specs.IsReach.{IsReach};
 ghost use Rattle.plan_check.specs.Lives.{lives as lives_in, lives_of};
 
-use crate::by_text::ByText;
 use crate::index::Index;
 use crate::life::Life;
 use crate::reach::Reach;
-use pkg_state::{LineName, Pkg};
+use pkg_state::{ByText, LineName, Pkg};
 use std::alloc::{AllocError, Global};
 
 /// The lines of the packages, in the order of the lives.

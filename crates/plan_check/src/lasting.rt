@@ -11,12 +11,11 @@ ghost use Rattle.plan_check.specs.Stretches.{IsStretchWithin, stretch_value};
 
 use crate::firm::{are_firm, leaf_of_all};
 use crate::index::Index;
-use crate::leaf::copy_leaf;
 use crate::life::{Life, Moment};
 use crate::refusal::PlanRefused;
 use crate::stretch::Stretch;
 use dep_atom::Atom;
-use pkg_state::{Class, Pkg};
+use pkg_state::{Class, Pkg, copy_leaf};
 use std::alloc::{AllocError, Global};
 
 /// Whether what the package wants in the class is there all through the stretch.

@@ -4,11 +4,10 @@ ghost use Rattle.pkg_state.specs.Index.{AreNamed};
 ghost use Rattle.plan_check.specs.Lives.{lives_of};
 ghost use Rattle.plan_check.specs.PackageRules.{left_among};
 
-use crate::by_text::ByText;
 use crate::life::{Life, Moment};
 use dep_atom::Atom;
 use dep_tree::Present;
-use pkg_state::Pkg;
+use pkg_state::{ByText, Pkg};
 use pms_names::Flags;
 use std::alloc::{AllocError, Global};
 

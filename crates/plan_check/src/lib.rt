@@ -35,7 +35,6 @@
 #![tactic(auto)]
 
 mod blocked;
-mod by_text;
 mod chain;
 mod chains;
 mod change;
@@ -46,7 +45,6 @@ mod index;
 mod indexing;
 mod keeping;
 mod lasting;
-mod leaf;
 mod left;
 mod life;
 mod lives;
@@ -60,7 +58,6 @@ mod required;
 mod single;
 mod standing;
 mod stretch;
-mod twins;
 mod vacancy;
 mod versions;
 

@@ -5,7 +5,7 @@ ghost use Rattle.plan_check.specs.Rules.{apart_rule, single_rule};
 
 use crate::plan::Group;
 use crate::refusal::PlanRefused;
-use crate::twins::first_twins;
+use pkg_state::first_twins;
 use std::alloc::Global;
 
 fn judge_group(alloc: Global, g: usize, group: &Group) -> Result<(), PlanRefused>

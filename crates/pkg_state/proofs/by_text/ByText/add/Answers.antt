@@ -2,12 +2,12 @@ use Rattle.std.proofs.Common.{◌≡◌, ◌∙◌, None, Some, ap, sym}
 use Rattle.std.proofs.lemmas.Map.Text.{btree_map_updates_str}
 use Rattle.pkg_state.specs.Index.{listed}
 use Rattle.pkg_state.proofs.Listed.{items_of, put_under}
-use Rattle.pkg_state.proofs.by_name.ByName.add.Goals as goal
-use Rattle.pkg_state.proofs.by_name.ByName.add.Goals.{in-Some, in-None}
+use Rattle.pkg_state.proofs.by_text.ByText.add.Goals as goal
+use Rattle.pkg_state.proofs.by_text.ByText.add.Goals.{in-Some, in-None}
 
 pub returns : goal.returns
 returns g c =
-    let name = c.args.name.now in
+    let name = c.args.text.now in
     let list : c.match-remove.list.items ≡ listed c.args.self.now.lists name = elim c.match-remove.branch [
       | in-Some w ↦ ap (λ v. v.items) w.list-is ∙ ap items_of (sym w.in-Some.is ∙ c.remove.ensures.value)
       | in-None w ↦ ap (λ v. v.items) w.list-is ∙ (w.new-list.ensures.items ∙ ap items_of (sym w.in-None.is ∙ c.remove.ensures.value))

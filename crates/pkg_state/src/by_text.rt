@@ -6,12 +6,13 @@ use std::collections::BTreeMap;
 
 /// Lists of items under texts, which are found in the logarithm of the number of texts.
 #[derive(Drop)]
-pub(crate) struct ByText<'a, T: Drop> {
-    pub(crate) lists: BTreeMap<&'a str, Vec<T>>,
+pub struct ByText<'a, T: Drop> {
+    pub lists: BTreeMap<&'a str, Vec<T>>,
 }
 
 impl<'a, T: Drop> ByText<'a, T> {
-    pub(crate) fn new(alloc: Global) -> ByText<'a, T>
+    /// No list at all.
+    pub fn new(alloc: Global) -> ByText<'a, T>
         ensures { (text : List ℕ) → listed result.lists text ≡ [] }
     {
         ByText {
@@ -20,7 +21,7 @@ impl<'a, T: Drop> ByText<'a, T> {
     }
 
     /// Puts an item behind those of its text.
-    pub(crate) fn add(&mut self, alloc: Global, text: &'a str, item: T) -> Result<(), AllocError>
+    pub fn add(&mut self, alloc: Global, text: &'a str, item: T) -> Result<(), AllocError>
         ensures { OnOk result ((other : List ℕ) → listed self.new.lists other ≡
             listed self.old.lists other ++ one_under text.now other item) }
     {
@@ -34,7 +35,7 @@ impl<'a, T: Drop> ByText<'a, T> {
     }
 
     /// The items of a text, in the order in which they were put there.
-    pub(crate) fn get(&self, text: &str) -> &[T]
+    pub fn get(&self, text: &str) -> &[T]
         ensures { result.now ≡ listed self.now.lists text.now }
     {
         match self.lists.get(text) {
