@@ -56,21 +56,3 @@ path_lacks_arrow p is a r e =
 -- no arrow begins before a place
 abbrev pub NoneBefore : List ℕ → ℕ → Type 0
 NoneBefore text at = (a r : List ℕ) → length a < at → text ≡ a ++ 32 ∷ 45 ∷ 62 ∷ r → ⊥
-
-pub none_at_first : (text : List ℕ) → NoneBefore text 0
-none_at_first text a r lt e = omega (arith, lt)
-
-pub none_more : (text back : List ℕ) (at : ℕ) → back ≡ drop at text → at ≤ length text → NoneBefore text at → ((r : List ℕ) → back ≡ 32 ∷ 45 ∷ 62 ∷ r → ⊥) → NoneBefore text (at + 1)
-none_more text back at is within none here a r lt e = elim (cases_lt (length a) at) [
-  | inl before ↦ none a r before e
-  | inr ge ↦ (let same : length a ≡ at = omega (arith, lt, ge) in here r (is ∙ ap (drop at) e ∙ drop_at a (32 ∷ 45 ∷ 62 ∷ r) at same))
-]
-
--- a text lacks an arrow where none begins before its end
-pub lacks_whole : (text : List ℕ) → NoneBefore text (length text) → LacksArrow text
-lacks_whole text none a r e = none a r (omega (arith, ap length e, length-append a (32 ∷ 45 ∷ 62 ∷ r))) e
-
-pub lacks_front : (text front back : List ℕ) (at : ℕ) → text ≡ front ++ back → length front ≡ at → NoneBefore text at → LacksArrow front
-lacks_front text front back at is long none a r e =
-    none a (r ++ back) (omega (arith, ap length e, long, length-append a (32 ∷ 45 ∷ 62 ∷ r)))
-    (is ∙ ap (λ (l : List ℕ). l ++ back) e ∙ append_assoc a (32 ∷ 45 ∷ 62 ∷ r) back)
