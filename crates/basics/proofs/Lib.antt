@@ -1,3 +1,9 @@
+pub mod Each
+pub mod Keys
+pub mod Lists
 pub mod Membership
+pub mod Orderings
+pub mod Permutations
+pub mod Sorted
 pub mod Tests
 pub mod Texts

@@ -1,6 +1,7 @@
 -- What appending, mapping and filtering do to membership, and membership by place.
-use Rattle.std.specs.Prelude.{map, filter, Contains}
-use Rattle.std.proofs.Common.{◌≡◌, ◌⊎◌, ◌<◌, ◌∙◌, ℕ, zero, suc, Bool, true, false, cond, List, [], ◌∷◌, ◌++◌, get_or, length, inl, inr, ap, arith, refl, subst, sym}
+use Rattle.std.specs.Prelude.{map, filter, slice_get, Contains}
+use Rattle.std.proofs.Common.{◌≡◌, ◌⊎◌, ◌<◌, ◌∙◌, ℕ, zero, suc, Bool, true, false, cond, Some, List, [], ◌∷◌, ◌++◌, get_or, length, inl, inr, ap, arith, refl, subst, sym}
+use Rattle.std.proofs.lemmas.Option.{get_or_from_slice_get, slice_get_within}
 use Rattle.basics.specs.Members.{AreDistinct, Has}
 
 pub has-append_left : {A : Type 0} (xs ys : List A) (x : A) → Has xs x → Has (xs ++ ys) x
@@ -68,8 +69,27 @@ contains-from_has [] x has = absurd has
 contains-from_has (y ∷ ys) x (inl e) = (0, omega arith, e)
 contains-from_has (y ∷ ys) x (inr h) = let c = contains-from_has ys x h in (suc c.0, omega (arith, c.1), c.2)
 
+-- what stands at a place is a member
+pub has-at : {A : Type 0} (xs : List A) (i : ℕ) (x : A) → i < length xs → x ≡ get_or xs i x → Has xs x
+has-at xs i x within is = has-from_contains xs x (i, within, sym is)
+
+pub has-slice_get : {A : Type 0} (xs : List A) (i : ℕ) (x : A) → slice_get xs i ≡ Some x → Has xs x
+has-slice_get xs i x e = has-from_contains xs x (i, slice_get_within xs i x e, get_or_from_slice_get xs i x x e)
+
 -- lists that are distinct together have no member in common
 pub distinct-apart : {A : Type 0} (xs ys : List A) (x : A) → AreDistinct (xs ++ ys) → Has xs x → Has ys x → ⊥
 distinct-apart [] ys x distinct has mine = absurd has
 distinct-apart {A = A} (y ∷ xs) ys x distinct (inl e) mine = distinct.0 (has-append_right xs ys y (subst (λ (z : A). Has ys z) (sym e) mine))
 distinct-apart (y ∷ xs) ys x distinct (inr has) mine = distinct-apart xs ys x distinct.1 has mine
+
+-- and distinct lists with no common member are distinct together
+pub distinct-append : {A : Type 0} (xs ys : List A) → AreDistinct xs → AreDistinct ys → ((x : A) → Has xs x → Has ys x → ⊥) → AreDistinct (xs ++ ys)
+distinct-append [] ys a b apart = b
+distinct-append (x ∷ xs) ys a b apart = (
+  (λ has. elim (has-append_cases xs ys x has) [ inl h ↦ a.0 h | inr h ↦ apart x (inl refl) h ]),
+  distinct-append xs ys a.1 b (λ y h k. apart y (inr h) k),
+)
+
+pub distinct-push : {A : Type 0} (xs : List A) (x : A) → AreDistinct xs → ¬ Has xs x → AreDistinct (xs ++ x ∷ [])
+distinct-push {A = A} xs x d new = distinct-append xs (x ∷ []) d ((λ h. h), tt)
+    (λ y has (one : (x ≡ y) ⊎ ⊥). elim one [ inl e ↦ new (subst (λ (z : A). Has xs z) (sym e) has) | inr none ↦ none ])

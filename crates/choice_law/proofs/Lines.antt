@@ -1,6 +1,6 @@
 -- The lines of a universe, what stands on them, and which are decided.
 use Rattle.std.proofs.Common.{◌≡◌, ◌⊎◌, ◌<◌, ◌≤◌, ◌+◌, ℕ, zero, suc, Bool, true, false, cond, ◌∷◌, Option, Some, None, IsSome, nat_eq, unwrap_or, inl, inr, refl, sym, ap, subst, arith, ◌∙◌}
-use Rattle.std.proofs.lemmas.Bool.{cases_Bool, cases_eq, eqb-true}
+use Rattle.std.proofs.lemmas.Bool.{cases_Bool, cases_eq, eq-eqb, eqb-true}
 use Rattle.basics.specs.Members.{Has}
 use Rattle.basics.proofs.Membership.{has-append_cases, has-append_left, has-append_right}
 use Rattle.pkg_state.specs.Package.{Package}
@@ -88,9 +88,7 @@ decided_step : (m l : ℕ) (v : Value) (c : Choice) (b : Bool) → nat_eq m l �
 decided_step m l v c b e = ap (λ (x : Bool). cond x (Some v) (decided c l)) e
 
 pub decided_here : (l : ℕ) (v : Value) (c : Choice) → decided ((l, v) ∷ c) l ≡ Some v
-decided_here l v c = decided_step l l v c true (same_number l) where
-  same_number : (n : ℕ) → nat_eq n n ≡ true
-  same_number n = grind arith
+decided_here l v c = decided_step l l v c true (eq-eqb l l refl)
 
 pub decided_there : (m l : ℕ) (v : Value) (c : Choice) → ¬ (m ≡ l) → decided ((m, v) ∷ c) l ≡ decided c l
 decided_there m l v c other = elim (cases_Bool (nat_eq m l)) [

@@ -1,8 +1,8 @@
 -- The options that are listed are those of the laws, and all of them.
 use Rattle.std.proofs.Common.{◌≡◌, ◌⊎◌, ◌<◌, ◌+◌, ◌&&◌, ◌||◌, ◌++◌, ℕ, zero, suc, Bool, true, false, cond, not, List, [], ◌∷◌, Option, None, Some, IsSome, filter, get_or, length, map, nat_eq, nat_lt, slice_get, refl, sym, ap, subst, arith, ◌∙◌, inl, inr}
 use Rattle.std.specs.Ordering.{is_gt}
-use Rattle.std.proofs.lemmas.Bool.{and_parts, cases_Bool, eqb-true}
-use Rattle.std.proofs.lemmas.List.{get_or_past}
+use Rattle.std.proofs.lemmas.Bool.{and_parts, cases_Bool, cases_lt, eqb-true, lt-ltb, not-true}
+use Rattle.std.proofs.lemmas.List.{get_or_past, length-map}
 use Rattle.basics.specs.Members.{Has}
 use Rattle.basics.proofs.Membership.{has-append_cases, has-append_left, has-append_right, has-filter, has-filter_back, has-map, has-map_back}
 use Rattle.pms_names.specs.Flags.{has}
@@ -19,8 +19,8 @@ use Rattle.choice_tree.specs.Candidates.{Candidate, all_free, free_line, if_free
 use Rattle.choice_tree.specs.Open.{opposes}
 use Rattle.choice_tree.specs.Options.{OptionsAreThose, beside, decision_of, decisions, in_order, is_among, leaving, needs, once_onto, options, others, ousting, same_value, second_part, served, serving}
 use Rattle.choice_tree.specs.Places.{Place, no_place, numbers, package_in, place_at, places}
-use Rattle.choice_tree.proofs.Numbers.{has_numbers, length_mapped, length_numbers, numbers_have}
-use Rattle.choice_tree.proofs.Pick.{below_or_not, flat_has, has_flat, not_true, opposed, opposing, place_is, place_past, stands, there}
+use Rattle.choice_tree.proofs.Numbers.{has_numbers, length_numbers, numbers_have}
+use Rattle.choice_tree.proofs.Pick.{flat_has, has_flat, opposed, opposing, place_is, place_past, stands, there}
 
 -- what is put and ranked is what was there
 put_step : (b : Bool) (x y : Candidate) (ys rest : List Candidate) (z : Candidate) → (Has rest z → (x ≡ z) ⊎ Has ys z) → Has (cond b (x ∷ y ∷ ys) (y ∷ rest)) z → (x ≡ z) ⊎ Has (y ∷ ys) z
@@ -233,10 +233,10 @@ module _ (update : Bool) (u : Universe) (c : Choice) where
   place l = get_or (places u c) l no_place
 
   long : length (places u c) ≡ lines u
-  long = length_mapped (place_at u c) (numbers (lines u) 0) ∙ length_numbers (lines u) 0
+  long = length-map (numbers (lines u) 0) (place_at u c) ∙ length_numbers (lines u) 0
 
   offer_is : (l : ℕ) → (place l).offer ≡ offer_at u l
-  offer_is l = elim (below_or_not l (lines u)) [
+  offer_is l = elim (cases_lt l (lines u)) [
     | inl less ↦ ap (λ (s : Place). s.offer) (place_is u c l less)
     | inr past ↦ ap (λ (s : Place). s.offer) (place_past u c l past) ∙ sym (get_or_past u.offers l no_offer past)
   ]
@@ -318,7 +318,7 @@ module _ (update : Bool) (u : Universe) (c : Choice) where
   gone_other (Some p) s e = cc e
 
   others_is : (l : ℕ) (d : ℕ × Value) → Has (others update ss l) d → (v : Value) × MayChange u c l v × (d ≡ (l, v))
-  others_is l d h = elim (below_or_not l (lines u)) [
+  others_is l d h = elim (cases_lt l (lines u)) [
     | inr past ↦ absurd (none_past (subst (λ (s : Place). Has (if_free s.decided (in_order update (of_line false l s.offer) ++ leaving l s.offer.installed)) d) (place_past u c l past) h))
     | inl less ↦ (
         let r = if_free_is (place l).decided (in_order update (of_line false l (place l).offer) ++ leaving l (place l).offer.installed) d h in
@@ -388,7 +388,7 @@ module _ (update : Bool) (u : Universe) (c : Choice) where
                 subst (λ (i : ℕ). MayBe u c i j.0.value) w.at_line f.may,
                 (λ p q st is.
                     let same : j.0.is ≡ q = (let two : ◌≡◌ {A = Option Package} (Some j.0.is) (Some q) = sym means ∙ is in cc two) in
-                    sym (opposing u c q l p st) ∙ (ap (λ (x : Package). opposes x (place l)) (sym same) ∙ not_true (opposes j.0.is (place l)) t.1)),
+                    sym (opposing u c q l p st) ∙ (ap (λ (x : Package). opposes x (place l)) (sym same) ∙ not-true (opposes j.0.is (place l)) t.1)),
                 sym j.2 ∙ ap (λ (i : ℕ). (i, j.0.value)) w.at_line,
               ))
           | inr one ↦ (absent, record { there = less; free = sym (decided_is m less) ∙ r.0; value = tt }, (λ p q st is. absurd (let bad : ◌≡◌ {A = Option Package} None (Some q) = is in cc bad)), elim one [ inl e ↦ sym e | inr none ↦ absurd none ])
@@ -407,9 +407,7 @@ module _ (update : Bool) (u : Universe) (c : Choice) where
             (has-filter (calm l) (of_line true m (place m).offer) (cand m v some.0) (keeping_has m (place m).offer v some.0 (ap (λ (o : Offer). package_of o v) (offer_is m) ∙ some.1)) (ap not (quiet some.0 some.1))))
       ])) where
         below : nat_lt m (length ss) ≡ true
-        below = let n = long in let less = may.there in to_lt m (length ss) (omega (arith, n, less)) where
-          to_lt : (i n : ℕ) → i < n → nat_lt i n ≡ true
-          to_lt i n less = grind (arith, less)
+        below = let n = long in let less = may.there in lt-ltb m (length ss) (omega (arith, n, less))
 
         quiet : (q : Package) → package_of (offer_at u m) v ≡ Some q → opposes q (place l) ≡ false
         quiet q is = elim (cases_Bool (opposes q (place l))) [
@@ -437,7 +435,7 @@ module _ (update : Bool) (u : Universe) (c : Choice) where
         let r = flat_has (λ a. served update ss p.facts.enabled a) (needs class p) d k in
         let leaf = has-filter_back (λ a. not (is_block a)) (all_leaves kind (has p.facts.enabled) (tree_of class p)) r.0 r.1 in
         let s = served_is p.facts.enabled r.0 d r.2 in
-        (r.0, p, there u c l p e, leaf.0, not_true (is_block r.0) leaf.1, s.0, s.1)
+        (r.0, p, there u c l p e, leaf.0, not-true (is_block r.0) leaf.1, s.0, s.1)
 
   serving_has : (l : ℕ) (class : Class) (a : AtomValue) (p : Package) (m : ℕ) (v : Value) → Stands u (filling u c) l p → Has (all_leaves kind (has p.facts.enabled) (tree_of class p)) a → is_block a ≡ false → MayBe u c m v → Serves u m v a p.facts.enabled → Has (serving update ss class (package_in (place l))) (m, v)
   serving_has l class a p m v st leaf open_leaf may s =

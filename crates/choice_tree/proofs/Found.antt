@@ -3,6 +3,7 @@ use Rattle.std.proofs.Common.{◌≡◌, ◌∙◌, ◌<◌, ◌+◌, ◌-◌, �
 use Rattle.std.specs.List.{find, flat_map}
 use Rattle.std.specs.Option.{option_map, option_or}
 use Rattle.std.proofs.lemmas.List.Folds.{find-append}
+use Rattle.std.proofs.lemmas.List.{length-map}
 use Rattle.dep_atom.specs.Values.{AtomValue}
 use Rattle.pkg_state.specs.declared.class.Class.{Class}
 use Rattle.pkg_state.proofs.Lists.{find_map}
@@ -12,7 +13,7 @@ use Rattle.choice_tree.specs.Open.{classes, first_open, is_open_of, obligations,
 use Rattle.choice_tree.specs.Places.{Place, numbers, place_at, places}
 use Rattle.choice_tree.specs.Seen.{place_of, places_of}
 use Rattle.choice_tree.specs.declared.place.Place.{Place as ThePlace}
-use Rattle.choice_tree.proofs.Numbers.{length_mapped, length_numbers, numbers_next}
+use Rattle.choice_tree.proofs.Numbers.{length_numbers, numbers_next}
 
 module _ (test : ℕ → Bool) (n l : ℕ) (less : l < n) where
   -- this one passes not, so the first is further on
@@ -54,6 +55,6 @@ module _ (test : Obligation → Bool) where
 
 pub same_first : (u : Universe) (c : Choice) (ps : List ThePlace) → places_of ps ≡ places u c → find (is_open_of (places_of ps)) (obligations u.wanted (length ps)) ≡ first_open u c
 same_first u c ps is =
-    let long : length ps ≡ lines u = sym (length_mapped place_of ps) ∙ (ap length is ∙ (length_mapped (place_at u c) (numbers (lines u) 0) ∙ length_numbers (lines u) 0)) in
+    let long : length ps ≡ lines u = sym (length-map ps place_of) ∙ (ap length is ∙ (length-map (numbers (lines u) 0) (place_at u c) ∙ length_numbers (lines u) 0)) in
     ap (λ (ss : List Place). find (is_open_of ss) (obligations u.wanted (length ps))) is
     ∙ ap (λ (n : ℕ). find (is_open_of (places u c)) (obligations u.wanted n)) long

@@ -1,5 +1,5 @@
 -- Lists that are gathered item by item, and candidates that are put by their ranks.
-use Rattle.std.proofs.Common.{◌≡◌, ◌∙◌, ◌<◌, ◌+◌, ◌-◌, ◌++◌, ℕ, zero, suc, Bool, true, false, cond, List, [], ◌∷◌, add-one, ap, arith, drop, drop-cons, filter, get_or, length, map, refl, sym, take}
+use Rattle.std.proofs.Common.{◌≡◌, ◌∙◌, ◌<◌, ◌+◌, ◌-◌, ◌++◌, ℕ, zero, suc, Bool, true, false, cond, List, [], ◌∷◌, ap, arith, drop, filter, get_or, length, map, refl, sym, take}
 use Rattle.std.specs.List.{flat_map}
 use Rattle.std.specs.Ordering.{is_gt}
 use Rattle.std.proofs.lemmas.Grind.{flat_map-append}
@@ -7,9 +7,6 @@ use Rattle.std.proofs.lemmas.List.{append_assoc}
 use Rattle.choice_tree.specs.Candidates.{Candidate, put, rank}
 use Rattle.choice_tree.specs.Places.{numbers}
 use Rattle.choice_tree.proofs.Numbers.{numbers_next}
-
-pub drop_at : {A : Type 0} (xs : List A) (i : ℕ) (x : A) → i < length xs → x ≡ get_or xs i x → drop i xs ≡ x ∷ drop (i + 1) xs
-drop_at {A} xs i x less is = rw (add-one, drop-cons xs i x less) (ap (λ (y : A). y ∷ drop (suc i) xs) (sym is))
 
 pub mapped_insert : {A B : Type 0} (f : A → B) (xs : List A) (i : ℕ) (x : A) → map f (take i xs ++ x ∷ drop i xs) ≡ take i (map f xs) ++ f x ∷ drop i (map f xs)
 mapped_insert f [] zero x = refl

@@ -48,10 +48,6 @@ module _ {A : Type 0} (f : ℕ → A) (d : A) where
   get_numbered (suc n) k (suc l) less =
       let same : suc k + l ≡ k + suc l = omega arith in get_numbered n (suc k) l (omega (arith, less)) ∙ ap f same
 
-pub length_mapped : {A B : Type 0} (f : A → B) (xs : List A) → length (map f xs) ≡ length xs
-length_mapped f [] = refl
-length_mapped f (x ∷ xs) = ap (λ (n : ℕ). suc n) (length_mapped f xs)
-
 pub get_mapped : {A B : Type 0} (g : B → A) (xs : List B) (l : ℕ) (d : B) (e : A) → l < length xs → get_or (map g xs) l e ≡ g (get_or xs l d)
 get_mapped g [] l d e less = absurd (omega (arith, less))
 get_mapped g (x ∷ xs) zero d e less = refl

@@ -1,8 +1,9 @@
 -- What is taken up is open, and where nothing is taken up, nothing is open.
-use Rattle.std.proofs.Common.{◌≡◌, ◌⊎◌, ◌<◌, ◌≤◌, ◌+◌, ◌&&◌, ◌++◌, ℕ, zero, suc, Bool, true, false, not, List, [], ◌∷◌, Option, None, Some, get_or, length, map, nat_eq, refl, sym, ap, subst, arith, ◌∙◌, inl, inr}
+use Rattle.std.proofs.Common.{◌≡◌, ◌⊎◌, ◌<◌, ◌≤◌, ◌+◌, ◌++◌, ℕ, zero, suc, Bool, true, false, not, List, [], ◌∷◌, Option, None, Some, get_or, length, map, nat_eq, refl, sym, ap, subst, arith, ◌∙◌, inl, inr}
 use Rattle.std.specs.List.{flat_map, list_any}
 use Rattle.std.specs.Option.{option_and_then}
-use Rattle.std.proofs.lemmas.Bool.{and_parts, cases_Bool, eqb-true}
+use Rattle.std.proofs.lemmas.Bool.{and_from, and_parts, cases_Bool, cases_lt, eq-eqb, eqb-true, not-true}
+use Rattle.std.proofs.lemmas.List.{length-map}
 use Rattle.basics.specs.Members.{Has}
 use Rattle.basics.proofs.Membership.{has-append_cases, has-append_left, has-append_right, has-map, has-map_back}
 use Rattle.dep_atom.specs.Match.{value_matches}
@@ -16,7 +17,7 @@ use Rattle.choice_law.specs.Universe.{Stands, Universe, Value, absent, conflicts
 use Rattle.choice_law.specs.Tree.{Choice, IsOpen, Obligation, absence, conflict, decided, filling, required, tree, wanted}
 use Rattle.choice_tree.specs.Places.{Place, is_one, no_place, numbers, package_in, packages_in, place_at, places, value_in}
 use Rattle.choice_tree.specs.Open.{FirstOpenIsAPick, classes, decides, first_open, is_gone, is_open_of, obligations, obligations_of, opposes}
-use Rattle.choice_tree.proofs.Numbers.{get_numbered, has_numbers, length_mapped, length_numbers, numbers_have}
+use Rattle.choice_tree.proofs.Numbers.{get_numbered, has_numbers, length_numbers, numbers_have}
 use Rattle.choice_tree.proofs.Packages.{packages_are}
 
 module _ {A : Type 0} (test : A → Bool) where
@@ -31,27 +32,10 @@ module _ {A : Type 0} (test : A → Bool) where
   one_not None h = refl
   one_not (Some a) h = h a refl
 
-pub not_true : (b : Bool) → not b ≡ true → b ≡ false
-not_true true e = absurd (cc e)
-not_true false e = refl
-
-pub not_false : (b : Bool) → not b ≡ false → b ≡ true
-not_false true e = refl
-not_false false e = absurd (cc e)
-
-both_true : (a b : Bool) → a ≡ true → b ≡ true → (a && b) ≡ true
-both_true true b h k = k
-both_true false b h k = absurd (cc h)
-
 get_past : {A : Type 0} (xs : List A) (l : ℕ) (d : A) → length xs ≤ l → get_or xs l d ≡ d
 get_past [] l d past = refl
 get_past (x ∷ xs) zero d past = absurd (omega (arith, past))
 get_past (x ∷ xs) (suc l) d past = get_past xs l d (omega (arith, past))
-
-pub below_or_not : (l n : ℕ) → (l < n) ⊎ (n ≤ l)
-below_or_not l zero = inr (omega arith)
-below_or_not zero (suc n) = inl (omega arith)
-below_or_not (suc l) (suc n) = elim (below_or_not l n) [ inl b ↦ inl (omega (arith, b)) | inr p ↦ inr (omega (arith, p)) ]
 
 pub has_flat : {A B : Type 0} (f : A → List B) (xs : List A) (x : A) (y : B) → Has xs x → Has (f x) y → Has (flat_map f xs) y
 has_flat f [] x y h k = absurd h
@@ -80,11 +64,11 @@ module _ (u : Universe) (c : Choice) where
 
   pub place_past : (l : ℕ) → lines u ≤ l → place l ≡ no_place
   place_past l past =
-      let long : length (places u c) ≡ lines u = length_mapped (place_at u c) (numbers (lines u) 0) ∙ length_numbers (lines u) 0 in
+      let long : length (places u c) ≡ lines u = length-map (numbers (lines u) 0) (place_at u c) ∙ length_numbers (lines u) 0 in
       get_past (places u c) l no_place (omega (arith, long, past))
 
   pub there : (l : ℕ) (p : Package) → package_in (place l) ≡ Some p → Stands u (filling u c) l p
-  there l p is = elim (below_or_not l (lines u)) [
+  there l p is = elim (cases_lt l (lines u)) [
     | inl less ↦ record { there = less; is = ap package_in (sym (place_is l less)) ∙ is }
     | inr past ↦ absurd (let none : package_in (place l) ≡ None = ap package_in (place_past l past) in let bad : ◌≡◌ {A = Option Package} None (Some p) = sym none ∙ is in cc bad)
   ]
@@ -175,28 +159,26 @@ module _ (u : Universe) (c : Choice) where
   tests_open (wanted a) h e = (
     is_wanted a h,
     λ l v p less d is.
-        let none = none_passes (decides a) ss (not_true (list_any (decides a) ss) e) (place_at u c l) (has_place l less) in
+        let none = none_passes (decides a) ss (not-true (list_any (decides a) ss) e) (place_at u c l) (has_place l less) in
         sym (one_has (λ p. value_matches a p.facts []) (package_of (offer_at u l) v) p is) ∙ (sym (decided_is l v a d) ∙ none),
   )
   tests_open (required l) h e =
       let one = one_is (λ p. not (fits_required p)) (package_in (place l)) e in
-      (one.0, there l one.0 one.1, not_true (fits_required one.0) one.2)
+      (one.0, there l one.0 one.1, not-true (fits_required one.0) one.2)
   tests_open (conflict l m) h e =
       let both = and_parts (not (nat_eq l m)) (is_one (λ q. opposes q (place l)) (package_in (place m))) e in
       let other = one_is (λ q. opposes q (place l)) (package_in (place m)) both.1 in
       let one = opposed other.0 l other.2 in
-      let apart = not_true (nat_eq l m) both.0 in
-      (one.0, other.0, one.1, there m other.0 other.1, λ same. (let equal : nat_eq l m ≡ true = ap (nat_eq l) (sym same) ∙ same_number l in let bad : true ≡ false = sym equal ∙ apart in cc bad), one.2) where
-        same_number : (n : ℕ) → nat_eq n n ≡ true
-        same_number n = grind arith
+      let apart = not-true (nat_eq l m) both.0 in
+      (one.0, other.0, one.1, there m other.0 other.1, λ same. (let equal : nat_eq l m ≡ true = ap (nat_eq l) (sym same) ∙ eq-eqb l l refl in let bad : true ≡ false = sym equal ∙ apart in cc bad), one.2)
   tests_open (tree l class) h e =
       let both = and_parts (counts class (value_in (place l))) (is_one (λ p. not (is_met (facts_of (packages_in ss)) class p)) (package_in (place l))) e in
       let one = one_is (λ p. not (is_met (facts_of (packages_in ss)) class p)) (package_in (place l)) both.1 in
       let st = there l one.0 one.1 in
-      (one.0, st, ap (counts class) (sym (value_at l one.0 st)) ∙ both.0, same_met class one.0 ∙ not_true (is_met (facts_of (packages_in ss)) class one.0) one.2)
+      (one.0, st, ap (counts class) (sym (value_at l one.0 st)) ∙ both.0, same_met class one.0 ∙ not-true (is_met (facts_of (packages_in ss)) class one.0) one.2)
   tests_open (absence l) h e =
       let both = and_parts (is_gone (place l).decided) (is_one (λ z. not (list_any (opposes z) ss)) (place l).offer.installed) e in
-      elim (below_or_not l (lines u)) [
+      elim (cases_lt l (lines u)) [
         | inl less ↦ (
             let at_line = place_is l less in
             let one = one_is (λ z. not (list_any (opposes z) ss)) (place l).offer.installed both.1 in (
@@ -205,7 +187,7 @@ module _ (u : Universe) (c : Choice) where
               gone_is (decided c l) (ap (λ (s : Place). is_gone s.decided) (sym at_line) ∙ both.0),
               ap (λ (s : Place). s.offer.installed) (sym at_line) ∙ one.1,
               λ m q st.
-                  let none = none_passes (opposes one.0) ss (not_true (list_any (opposes one.0) ss) one.2) (place_at u c m) (has_place m st.there) in
+                  let none = none_passes (opposes one.0) ss (not-true (list_any (opposes one.0) ss) one.2) (place_at u c m) (has_place m st.there) in
                   sym (opposing one.0 m q st) ∙ (ap (opposes one.0) (place_is m st.there) ∙ none),
             ))
         | inr past ↦ absurd (let none : is_gone (place l).decided ≡ false = ap (λ (s : Place). is_gone s.decided) (place_past l past) in let some = both.0 in cc (none, some))
@@ -224,7 +206,7 @@ module _ (u : Universe) (c : Choice) where
   open_tests (conflict l m) o = (
     in_line l (conflict l m) o.2.there (inr (has-append_left (map (λ m. conflict l m) (numbers (lines u) 0)) (map (λ class. tree l class) classes) (conflict l m)
         (has-map (λ m. conflict l m) (numbers (lines u) 0) m (has_numbers (lines u) 0 m (omega arith) (let less = o.3.there in omega (arith, less)))))),
-    both_true (not (nat_eq l m)) (is_one (λ q. opposes q (place l)) (package_in (place m))) (ap not (apart (cases_Bool (nat_eq l m))))
+    and_from (not (nat_eq l m)) (is_one (λ q. opposes q (place l)) (package_in (place m))) (ap not (apart (cases_Bool (nat_eq l m))))
         (one_has (λ q. opposes q (place l)) (package_in (place m)) o.1 (stands m o.1 o.3) ∙ (opposing o.1 l o.0 o.2 ∙ o.5)),
   ) where
     apart : (nat_eq l m ≡ true) ⊎ (nat_eq l m ≡ false) → nat_eq l m ≡ false
@@ -232,7 +214,7 @@ module _ (u : Universe) (c : Choice) where
     apart (inr other) = other
   open_tests (tree l class) o = (
     in_line l (tree l class) o.1.there (inr (has-append_right (map (λ m. conflict l m) (numbers (lines u) 0)) (map (λ class. tree l class) classes) (tree l class) (has-map (λ class. tree l class) classes class (some_class class)))),
-    both_true (counts class (value_in (place l))) (is_one (λ p. not (is_met (facts_of (packages_in ss)) class p)) (package_in (place l)))
+    and_from (counts class (value_in (place l))) (is_one (λ p. not (is_met (facts_of (packages_in ss)) class p)) (package_in (place l)))
         (ap (counts class) (value_at l o.0 o.1) ∙ o.2)
         (one_has (λ p. not (is_met (facts_of (packages_in ss)) class p)) (package_in (place l)) o.0 (stands l o.0 o.1) ∙ ap not (sym (same_met class o.0) ∙ o.3)),
   )
@@ -242,7 +224,7 @@ module _ (u : Universe) (c : Choice) where
         has-append_right (map (λ a. wanted a) u.wanted) (flat_map (λ l. obligations_of (lines u) l) (numbers (lines u) 0) ++ map (λ l. absence l) (numbers (lines u) 0)) (absence l)
             (has-append_right (flat_map (λ l. obligations_of (lines u) l) (numbers (lines u) 0)) (map (λ l. absence l) (numbers (lines u) 0)) (absence l)
             (has-map (λ l. absence l) (numbers (lines u) 0) l (has_numbers (lines u) 0 l (omega arith) (omega (arith, less))))),
-        both_true (is_gone (place l).decided) (is_one (λ z. not (list_any (opposes z) ss)) (place l).offer.installed)
+        and_from (is_gone (place l).decided) (is_one (λ z. not (list_any (opposes z) ss)) (place l).offer.installed)
             (ap (λ (s : Place). is_gone s.decided) at_line ∙ ap is_gone o.2)
             (ap (λ (s : Place). is_one (λ z. not (list_any (opposes z) ss)) s.offer.installed) at_line
             ∙ (one_has (λ z. not (list_any (opposes z) ss)) (offer_at u l).installed o.0 o.3 ∙ ap not (any_none (opposes o.0) ss (λ s h.

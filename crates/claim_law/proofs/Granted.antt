@@ -1,20 +1,21 @@
 -- A claim that the book takes is a good one.
-use Rattle.std.proofs.Common.{◌≡◌, ◌⊎◌, ◌<◌, ◌++◌, ◌∙◌, ◌&&◌, ◌||◌, ◌==◌, ℕ, Bool, true, false, List, [], ◌∷◌, Option, Some, None, length, map, take, inl, inr, refl, sym, ap, subst, arith}
+use Rattle.std.proofs.Common.{◌≡◌, ◌⊎◌, ◌<◌, ◌++◌, ◌∙◌, ◌||◌, ◌==◌, ℕ, Bool, true, false, List, [], ◌∷◌, Option, Some, None, length, map, take, inl, inr, refl, sym, ap, subst, arith}
 use Rattle.std.specs.Prelude.{IsSome, codes, slice_get, slice_index}
 use Rattle.std.proofs.Math.ListN.{get_or-eq_default}
-use Rattle.std.proofs.lemmas.Bool.{cases_Bool, or_parts, true≢false}
+use Rattle.std.proofs.lemmas.Bool.{and_right, cases_Bool, or_parts, or_right, true≢false}
 use Rattle.basics.specs.Members.{AreDistinct, Has}
 use Rattle.basics.proofs.Membership.{has-map, has-map_back}
+use Rattle.basics.proofs.Tests.{none_is_not_some, or_rest}
 use Rattle.file_tree.specs.Disk.{Map}
 use Rattle.file_tree.specs.Paths.{is_below}
-use Rattle.file_tree.specs.Thing.{Thing}
 use Rattle.merge_record.specs.Judging.{is_in, path_of}
 use Rattle.merge_record.specs.declared.record.OwnerKey.{OwnerKey}
 use Rattle.merge_record.proofs.Form.{has_if_in}
+use Rattle.merge_record.proofs.Free.{is_in-append}
 use Rattle.dep_atom.specs.Ids.{id_text}
 use Rattle.dep_atom.specs.declared.package.PackageId.{PackageId}
 use Rattle.journal.specs.Group.{covers}
-use Rattle.journal.proofs.Changes.{is_in-append, placed_outside}
+use Rattle.journal.proofs.Changes.{placed_outside}
 use Rattle.owner_book.specs.Book as books
 use Rattle.owner_book.specs.Book.{Book, IsClaimedBy, IsTaken as IsTakenPath, claim_in, has, is_wished, owner_in}
 use Rattle.owner_book.specs.Near.{is_near}
@@ -22,32 +23,23 @@ use Rattle.owner_book.specs.Whole.{AreFree, FreeIn}
 use Rattle.owner_book.specs.declared.wish.Wish.{Wish}
 use Rattle.vdb_text.specs.Files.{record_path}
 use Rattle.database_law.specs.Database.{IsDatabase, folder_name}
-use Rattle.database_law.specs.Fields.{contents, name_of, text_of}
+use Rattle.database_law.specs.Fields.{contents, name_of}
 use Rattle.database_law.specs.Packages.{Installed, id_of, paths}
 use Rattle.database_law.specs.Step.{Change, IsApart, Owns, Stays, put}
-use Rattle.database_law.proofs.Places.{none_is_not_some}
+use Rattle.database_law.proofs.Places.{text_there}
 use Rattle.commit_law.specs.Claims.{AreBeside, MayCome}
 use Rattle.claim_law.specs.Granted.{AreOnOtherLines, GrantedClaimsAreGood, IsClaimOf, IsTaken}
 use Rattle.claim_law.specs.Owners.{OwnersAre, Tells, Wishes}
 use Rattle.claim_law.proofs.Lists.{IsBehind, get_there, one_first, place_of, place_within, take_there, wished_if_has}
 
-and_none : (a b : Bool) → b ≡ false → (a && b) ≡ false
-and_none true b e = e
-and_none false b e = refl
-
 -- no path is below itself
 not_below : (q : List ℕ) → is_below q q ≡ false
-not_below q = and_none _ (slice_index q (length q) == 47) (ap (λ (b : ℕ). b == 47) (get_or-eq_default q 0 {n = length q} (omega arith)))
+not_below q = and_right _ (slice_index q (length q) == 47) (ap (λ (b : ℕ). b == 47) (get_or-eq_default q 0 {n = length q} (omega arith)))
 
 -- packages of one folder have one file of CONTENTS
 mark_path : (a b : PackageId) → id_text a ≡ id_text b → record_path a (name_of contents) ≡ record_path b (name_of contents)
 unfolding record_path
 mark_path a b e = ap (λ (t : List ℕ). codes "var/db/pkg/" ++ (t ++ (47 ∷ name_of contents))) e
-
--- a file with a text is there
-pub text_there : (x : Option Thing) → IsSome (text_of x) → IsSome x
-text_there None some = absurd (none_is_not_some (text_of None) refl some)
-text_there (Some x) some = refl
 
 -- packages with marks of their own are told apart by them
 pub one_by : {B : Type 0} (f : Installed → B) (xs : List Installed) (a b : Installed) → AreDistinct (map f xs) → Has xs a → Has xs b → f a ≡ f b → a ≡ b
@@ -82,11 +74,8 @@ put_placed c q some = elim (cases_Bool (is_in (map path_of c.does.content.placem
 covered_cases : (c : Change) (q : List ℕ) → covers c.does q ≡ true → (is_in c.does.content.removals q ≡ true) ⊎ (is_in (map path_of c.does.content.placements) q ≡ true)
 covered_cases c q e = elim (cases_Bool (is_in c.does.content.removals q)) [
   | inl r ↦ inl r
-  | inr n ↦ inr (rest (is_in c.does.content.removals q) (is_in (map path_of c.does.content.placements) q) n (sym (is_in-append c.does.content.removals (map path_of c.does.content.placements) q) ∙ e))
-] where
-  rest : (a b : Bool) → a ≡ false → (a || b) ≡ true → b ≡ true
-  rest false b n h = h
-  rest true b n h = absurd (cc n)
+  | inr n ↦ inr (or_rest (is_in c.does.content.removals q) (is_in (map path_of c.does.content.placements) q) n (sym (is_in-append c.does.content.removals (map path_of c.does.content.placements) q) ∙ e))
+]
 
 -- of wishes that are free together, each is free behind those before it
 free_behind : (b : Book) (dying : OwnerKey → Bool) (ws : List Wish) → AreFree b dying ws → (before : List Wish) (w : Wish) → IsBehind ws before w → FreeIn b dying before w
@@ -193,10 +182,7 @@ module _ (key : Installed → OwnerKey) (b : Book) (m : Map) (ps : List Installe
     claimed_path q e = elim (covered_cases d q e) [
       | inl r ↦ (parts, claim.claimed, or_right (is_wished vs q) (is_in d.does.content.removals q) r)
       | inr p ↦ (let v = put_wished key d vs claim.wishes q p in subst (λ (s : List ℕ). IsClaimedBy b.claims s h) v.2 (claimed_wish v.0 v.1))
-    ] where
-      or_right : (x y : Bool) → y ≡ true → (x || y) ≡ true
-      or_right true y k = refl
-      or_right false y k = k
+    ]
 
     apart_paths : (q : List ℕ) → covers c.does q ≡ true → ¬ (covers d.does q ≡ true)
     apart_paths q mine theirs = elim (covered_cases c q mine) [

@@ -1,8 +1,9 @@
 -- A wish at its place among the others.
-use Rattle.std.proofs.Common.{◌≡◌, ◌<◌, ◌⊎◌, ◌++◌, ◌∙◌, ℕ, Bool, true, false, cond, List, [], ◌∷◌, Option, Some, length, take, inl, inr, refl, sym, ap, arith, length-append}
+use Rattle.std.proofs.Common.{◌≡◌, ◌<◌, ◌⊎◌, ◌++◌, ◌∙◌, ℕ, Bool, true, false, cond, List, [], ◌∷◌, Some, length, take, inl, inr, refl, sym, ap, arith, length-append}
 use Rattle.std.specs.Prelude.{bytes_eq, is_some, slice_get}
-use Rattle.std.proofs.lemmas.Bool.{cases_Bool}
+use Rattle.std.proofs.lemmas.Bool.{both_ways, cases_Bool}
 use Rattle.std.proofs.lemmas.Slice.Eq.{bytes_eq-Decides}
+use Rattle.std.proofs.lemmas.Option.{same_Some}
 use Rattle.basics.specs.Members.{Has}
 use Rattle.merge_record.specs.declared.record.OwnerKey.{OwnerKey}
 use Rattle.owner_book.specs.Book.{is_wished, key_in}
@@ -71,11 +72,9 @@ one_first (x ∷ ws) w v (inr a) (inr b) = elim (one_first ws w v a b) [
 pub wish_if_wished : (ws : List Wish) (q : List ℕ) (k : OwnerKey) → key_in ws q ≡ Some k → (w : Wish) × Has ws w × (w.path ≡ q) × (w.owner ≡ k)
 wish_if_wished [] q k e = absurd (cc e)
 wish_if_wished (x ∷ ws) q k e = elim (cases_Bool (bytes_eq q x.path)) [
-  | inl same ↦ (x, inl refl, sym ((bytes_eq-Decides q x.path).0 same), some_same x.owner k (sym (key_step x ws q true same) ∙ e))
+  | inl same ↦ (x, inl refl, sym ((bytes_eq-Decides q x.path).0 same), same_Some x.owner k (sym (key_step x ws q true same) ∙ e))
   | inr other ↦ (let r = wish_if_wished ws q k (sym (key_step x ws q false other) ∙ e) in (r.0, inr r.1, r.2, r.3))
-] where
-  some_same : (a b : OwnerKey) → ◌≡◌ {A = Option OwnerKey} (Some a) (Some b) → a ≡ b
-  some_same a b s = cc s
+]
 
 -- the one wish for a path names its owner
 pub key_of_one : (ws : List Wish) (w : Wish) → Has ws w → ((v : Wish) → Has ws v → v.path ≡ w.path → v ≡ w) → key_in ws w.path ≡ Some w.owner
@@ -83,9 +82,7 @@ key_of_one [] w has one = absurd has
 key_of_one (x ∷ ws) w has one = elim (cases_Bool (bytes_eq w.path x.path)) [
   | inl same ↦ key_step x ws w.path true same ∙ ap (λ (y : Wish). Some y.owner) (one x (inl refl) (sym ((bytes_eq-Decides w.path x.path).0 same)))
   | inr other ↦ key_step x ws w.path false other ∙ elim has [
-    | inl e ↦ absurd (differ (bytes_eq w.path x.path) other ((bytes_eq-Decides w.path x.path).1 (ap (λ (y : Wish). y.path) (sym e))))
+    | inl e ↦ absurd (both_ways (bytes_eq w.path x.path) other ((bytes_eq-Decides w.path x.path).1 (ap (λ (y : Wish). y.path) (sym e))))
     | inr later ↦ key_of_one ws w later (λ v hv. one v (inr hv))
   ]
-] where
-  differ : (b : Bool) → b ≡ false → b ≡ true → ⊥
-  differ b f t = cc (f, t)
+]

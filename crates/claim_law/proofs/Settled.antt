@@ -2,7 +2,9 @@
 use Rattle.std.proofs.Common.{◌≡◌, ◌∙◌, ◌||◌, ℕ, Bool, true, false, List, [], ◌∷◌, Option, Some, None, inl, inr, refl, sym, ap, subst}
 use Rattle.std.specs.Prelude.{IsSome, is_some}
 use Rattle.std.proofs.lemmas.Bool.{cases_Bool, cond-false, cond-true, or_parts, true≢false}
+use Rattle.std.proofs.lemmas.Option.{same_Some}
 use Rattle.basics.specs.Members.{Has}
+use Rattle.basics.proofs.Tests.{none_is_not_some, or_first}
 use Rattle.file_tree.specs.Disk.{Map}
 use Rattle.file_tree.specs.Thing.{Thing}
 use Rattle.merge_record.specs.Judging.{is_in}
@@ -19,7 +21,7 @@ use Rattle.database_law.specs.Database.{IsCounted, IsDatabase, IsKept, IsOf, fol
 use Rattle.database_law.specs.Packages.{Installed, id_of}
 use Rattle.database_law.specs.Step.{Change, IsAfter, Owns, Stays, put}
 use Rattle.database_law.proofs.Law.{folder_stays, name_comes}
-use Rattle.database_law.proofs.Places.{counted_dropped, counted_of, none_is_not_some, path_free}
+use Rattle.database_law.proofs.Places.{counted_dropped, counted_of, path_free}
 use Rattle.commit_law.specs.Claims.{MayCome}
 use Rattle.claim_law.specs.Granted.{AreOnce}
 use Rattle.claim_law.specs.Owners.{IsWishOf, OwnersAre, Tells}
@@ -64,19 +66,12 @@ module _ (comes : ComesApart) (spells : OneSpelling) (key : Installed → OwnerK
     | inr e ↦ e
     | inl e ↦ elim (cases_Bool (is_in c.does.content.removals q)) [
       | inl r ↦ (let from = tells.removes.only q (has_if_in c.does.content.removals q r) in
-          let one : key p ≡ key from.0 = some_same (key p) (key from.0) (sym (owners.mine p q stays.0 owns) ∙ owners.mine from.0 q from.1.0 from.2) in
+          let one : key p ≡ key from.0 = same_Some (key p) (key from.0) (sym (owners.mine p q stays.0 owns) ∙ owners.mine from.0 q from.1.0 from.2) in
           absurd (true≢false (sym from.1.1 ∙ sym (tells.dies from.0 from.1.0) ∙ ap dying (sym one) ∙ tells.dies p stays.0 ∙ stays.1)))
-      | inr n ↦ (let w = wished_one q (first (is_wished ws q) (is_in c.does.content.removals q) n e) in
+      | inr n ↦ (let w = wished_one q (or_first (is_wished ws q) (is_in c.does.content.removals q) n e) in
           absurd (some_not_none q (may.step.apart.free p q stays owns) (subst (λ (s : List ℕ). IsSome (put c.does s)) w.2 (tells.wishes.put w.0 w.1))))
     ]
   ] where
-    some_same : (a b : OwnerKey) → ◌≡◌ {A = Option OwnerKey} (Some a) (Some b) → a ≡ b
-    some_same a b e = cc e
-
-    first : (x y : Bool) → y ≡ false → (x || y) ≡ true → x ≡ true
-    first true y n e = refl
-    first false y n e = absurd (cc (n, e))
-
     wished_one : (s : List ℕ) → is_wished ws s ≡ true → (w : Wish) × Has ws w × (w.path ≡ s)
     wished_one s e = go (key_in ws s) refl e where
       go : (o : Option OwnerKey) → key_in ws s ≡ o → is_some (key_in ws s) ≡ true → (w : Wish) × Has ws w × (w.path ≡ s)

@@ -3,21 +3,23 @@ use Rattle.std.proofs.Common.{◌≡◌, ◌∙◌, ℕ, true, false, List, [], 
 use Rattle.std.specs.Prelude.{IsSome}
 use Rattle.std.proofs.lemmas.Bool.{cases_Bool, cond-false, or_parts, true≢false}
 use Rattle.basics.specs.Members.{Has}
+use Rattle.basics.proofs.Tests.{none_is_not_some}
 use Rattle.file_tree.specs.Disk.{Map}
 use Rattle.file_tree.specs.Paths.{is_below}
 use Rattle.merge_record.specs.Judging.{is_in, path_of}
 use Rattle.merge_record.specs.Names.{jobs}
 use Rattle.merge_record.proofs.Form.{in_if_has}
+use Rattle.merge_record.proofs.Free.{is_in-append}
 use Rattle.dep_atom.proofs.Joined.{ComesApart}
 use Rattle.vdb_text.specs.Files.{record_path}
 use Rattle.vdb_text.proofs.Packages.{OneSpelling}
 use Rattle.journal.specs.Group.{Group, applied, covers, with_group}
-use Rattle.journal.proofs.Changes.{is_in-append, outside, placed_outside}
+use Rattle.journal.proofs.Changes.{outside, placed_outside}
 use Rattle.database_law.specs.Database.{IsDatabase, IsKept}
 use Rattle.database_law.specs.Packages.{Installed, id_of}
 use Rattle.database_law.specs.Step.{Change, IsAfter, IsApart, Owns, Removes, Stays, put}
 use Rattle.database_law.proofs.Law.{folder_stays, name_comes, own_put}
-use Rattle.database_law.proofs.Places.{counted_of, counted_outside, none_is_not_some}
+use Rattle.database_law.proofs.Places.{counted_of, counted_outside}
 use Rattle.commit_law.specs.Claims.{AreBeside, MayCome}
 
 -- a path of no group is neither removed nor placed

@@ -16,13 +16,14 @@ use Rattle.merge_core.specs.Roll.{Machine, Roll, Stands, committed, group_at, id
 use Rattle.merge_core.specs.Runs.{AllWait, IsFollowing, IsRunFrom, Waits}
 use Rattle.merge_core.specs.Trail.{Entry, EventKeeps, Happens, IsAtRest, machine_after}
 use Rattle.merge_core.proofs.Runs.{opened_begun, run_then}
+use Rattle.merge_core.proofs.Stays.{Stays, stays_then}
 use Rattle.database_law.specs.Packages.{Installed}
 use Rattle.database_law.specs.Step.{Change, groups_of}
 use Rattle.plan_law.specs.Plans as plans
-use Rattle.plan_law.proofs.Members.{distinct_joined, filtered}
+use Rattle.plan_law.proofs.Members.{distinct_joined}
 use Rattle.commit_law.specs.Commits.{CommitsLeaveSoundTrees}
 use Rattle.commit_law.specs.Crashes.{AreStepsAllAlong, AreStepsCommitted, CrashesRecoverSoundly, EachMomentRecoversSoundly, IsPlanned, Merges, RecoversSoundly, SoundTrail}
-use Rattle.commit_law.proofs.Stays.{Stays, answer_stays, begun_listed, run_stays, stays_then}
+use Rattle.commit_law.proofs.Stays.{answer_stays, begun_listed, run_stays}
 
 abbrev pub number : Group → ℕ
 number x = x.content.group
@@ -49,7 +50,7 @@ kept_step false n ns none d = d
 
 pub kept_differ : (test : ℕ → Bool) (ns : List ℕ) → AreDistinct ns → AreDistinct (filter test ns)
 kept_differ test [] d = tt
-kept_differ test (n ∷ ns) d = kept_step (test n) n (filter test ns) (λ h. d.0 (filtered test ns n h).0) (kept_differ test ns d.1)
+kept_differ test (n ∷ ns) d = kept_step (test n) n (filter test ns) (λ h. d.0 (has-filter_back test ns n h).0) (kept_differ test ns d.1)
 
 module _ (r : Roll) (listed : IsListed r) (c : Map) (rising : IsRising (open_groups c)) where
   one_each : (x y : Group) → Has r.order x → Has r.order y → number x ≡ number y → x ≡ y

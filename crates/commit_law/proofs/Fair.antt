@@ -1,6 +1,6 @@
 -- Where only good claims are granted, what a crash commits are steps one after another.
 use Rattle.std.proofs.Common.{◌≡◌, ◌++◌, ◌∙◌, ℕ, Bool, true, false, not, List, [], ◌∷◌, Option, None, map, inl, inr, refl, sym, ap, subst}
-use Rattle.std.proofs.lemmas.Bool.{cases_Bool, cond-false, cond-true}
+use Rattle.std.proofs.lemmas.Bool.{cases_Bool, cond-false, cond-true, not-true}
 use Rattle.std.proofs.lemmas.List.{map-append}
 use Rattle.basics.specs.Members.{AreDistinct, Has}
 use Rattle.basics.proofs.Membership.{has-append_right, has-filter_back}
@@ -119,7 +119,7 @@ module _ (facts : Facts) (change : ℕ → Change) where
         let granted : (n : ℕ) → Has (others r c) n → is_granted (phase_at r n) ≡ true = λ n h.
         (let open_one = has-filter_back (λ g. not (is_settled (phase_at r g))) (open_groups c) n h in
         let there = stands.opened (group_at r n) (has-append_right r.order (groups (group_at r) (others r c)) (group_at r n) (has_groups (group_at r) (others r c) n h)) in
-        fair.opened n there.0 (unsettled (is_settled (phase_at r n)) open_one.1)) in
+        fair.opened n there.0 (not-true (is_settled (phase_at r n)) open_one.1)) in
         let tree = fair_tree r fair in
         let went = all_come (others r c) (applied opening r.order) fair.now tree.0 tree.1
         (kept_differ (λ g. not (is_settled (phase_at r g))) (open_groups c) (rising_differ (open_groups c) (facts.rise c)))
@@ -127,10 +127,6 @@ module _ (facts : Facts) (change : ℕ → Change) where
         let both = steps_then (map change (settled_numbers r)) (map change (others r c)) opening ps fair.now went.0 clear fair.steps
         (subst (λ (gs : List Group). AreSteps (map change (others r c)) (applied opening gs) fair.now went.0) (sym fair.does) went.1) in
         (went.0, subst (λ (cs : List Change). AreSteps cs opening ps went.0) (sym (map-append change (settled_numbers r) (others r c)) ∙ ap (map change) (sym numbers)) both)
-      where
-        unsettled : (b : Bool) → not b ≡ true → b ≡ false
-        unsettled false e = refl
-        unsettled true e = absurd (cc e)
 
     -- one standing changes, whose group isn't granted anew
     fair_set : (r : Roll) (g : ℕ) (s : Standing) → IsFair r → (is_granted s.phase ≡ true → is_granted (phase_at r g) ≡ true)

@@ -18,10 +18,11 @@ use Rattle.pkg_state.specs.declared.class.Class.TheVariants.{Rdepend}
 use Rattle.pkg_state.proofs.Lines.{one_on_line}
 use Rattle.database_law.specs.Database.{folder_name}
 use Rattle.database_law.specs.Packages.{Installed}
-use Rattle.database_law.proofs.Places.{all_less, not_less}
+use Rattle.database_law.proofs.Places.{all_less}
 use Rattle.plan_law.proofs.Members.{passes_some, some_passes}
 use Rattle.commit_law.specs.Commits.{packages_of}
 use Rattle.basics.proofs.Tests.{same_tests}
+use Rattle.basics.proofs.Texts.{not_less}
 
 -- two lists have the same members
 abbrev pub AreSame : List Package → List Package → Type 0

@@ -1,7 +1,7 @@
 -- The committed groups of an accepted plan leave a sound tree.
 use Rattle.std.proofs.Common.{◌≡◌, ℕ, Bool, false, not, List, [], ◌∷◌, filter, map, inl, inr, sym, ap, subst, ◌∙◌}
 use Rattle.basics.specs.Members.{Has}
-use Rattle.basics.proofs.Membership.{has-append_cases, has-append_left, has-append_right, has-map, has-map_back}
+use Rattle.basics.proofs.Membership.{has-append_cases, has-append_left, has-append_right, has-filter, has-filter_back, has-map, has-map_back}
 use Rattle.file_tree.specs.Disk.{Map}
 use Rattle.journal.specs.Group.{applied}
 use Rattle.pkg_state.specs.Package.{Package, line_of}
@@ -10,7 +10,6 @@ use Rattle.database_law.specs.Step.{AreSteps, Change, GroupsKeepDatabase, IsAfte
 use Rattle.plan_law.specs.Accepted.{IsAccepted}
 use Rattle.plan_law.specs.Plans.{Group, GoesOn, WaitsForEarlier, after, changed, clears, group_at}
 use Rattle.plan_law.specs.Sound.{IsSound}
-use Rattle.plan_law.proofs.Members.{filtered, kept}
 use Rattle.commit_law.specs.Commits.{AreOf, CommitsLeaveSoundTrees, IsOf, packages_of}
 use Rattle.commit_law.proofs.Members.{AreSame, consistent_alike}
 use Rattle.std.proofs.lemmas.Bool.{not_from_false, not-true}
@@ -28,7 +27,7 @@ one_change g c ps mid s of step same p = (forth, back) where
   forth h = elim (has-append_cases g.additions (filter (stays_on g) s) p h) [
     | inl added ↦ (let k = has-map_back (λ (y : Installed). y.package_is) c.added p (subst (λ (l : List Package). Has l p) (sym of.comes) added) in
         subst (λ (x : Package). Has (packages_of mid) x) k.2 (came k.0 k.1))
-    | inr left ↦ (let m = filtered (stays_on g) s p left in
+    | inr left ↦ (let m = has-filter_back (stays_on g) s p left in
         let k = has-map_back (λ (y : Installed). y.package_is) ps p ((same p).0 m.0) in
         let stays : c.gone k.0 ≡ false = of.leaves k.0 ∙ ap (λ (x : Package). clears g (line_of x.facts)) k.2 ∙ not-true (clears g (line_of p.facts)) m.1 in
         subst (λ (x : Package). Has (packages_of mid) x) k.2 (has-map (λ (y : Installed). y.package_is) mid k.0 ((step.members k.0).1 (inl (k.1, stays)))))
@@ -40,7 +39,7 @@ one_change g c ps mid s of step same p = (forth, back) where
       elim ((step.members k.0).0 k.1) [
         | inl stays ↦ (let there = (same p).1 (subst (λ (x : Package). Has (packages_of ps) x) k.2 (has-map (λ (y : Installed). y.package_is) ps k.0 stays.0)) in
             let goes_on : clears g (line_of p.facts) ≡ false = ap (λ (x : Package). clears g (line_of x.facts)) (sym k.2) ∙ sym (of.leaves k.0) ∙ stays.1 in
-            has-append_right g.additions (filter (stays_on g) s) p (kept (stays_on g) s p there (not_from_false (clears g (line_of p.facts)) goes_on)))
+            has-append_right g.additions (filter (stays_on g) s) p (has-filter (stays_on g) s p there (not_from_false (clears g (line_of p.facts)) goes_on)))
         | inr added ↦ has-append_left g.additions (filter (stays_on g) s) p
             (subst (λ (l : List Package). Has l p) of.comes (subst (λ (x : Package). Has (packages_of c.added) x) k.2 (has-map (λ (y : Installed). y.package_is) c.added k.0 added)))
       ]

@@ -3,15 +3,16 @@ use Rattle.std.proofs.Common.{◌≡◌, ◌∙◌, ◌+◌, ◌<◌, ℕ, Bool,
 use Rattle.std.specs.Prelude.{Vec, bytes_eq, unwrap_or}
 use Rattle.std.specs.BTreeMap.{BTreeMap, get_by, is_at}
 use Rattle.std.specs.Cmp.{eq_by_cmp_equiv}
-use Rattle.std.specs.Cmp.Lexicographic.{slice_cmp, nat_list_cmp_total, nat_list_eq_equiv}
+use Rattle.std.specs.Cmp.Lexicographic.{slice_cmp, nat_list_cmp_total}
 use Rattle.std.specs.Global.{Global}
-use Rattle.std.specs.Map.{KeepsOthers, IsKeyTest, AreApart, lookup}
-use Rattle.std.specs.Ordering.{nat_cmp, is_eq, eq_by_cmp}
+use Rattle.std.specs.Map.{KeepsOthers, lookup}
+use Rattle.std.specs.Ordering.{nat_cmp, eq_by_cmp}
 use Rattle.std.proofs.lemmas.Bool.{cases_Bool, cond-true, cond-false}
 use Rattle.std.proofs.lemmas.List.{take_more}
 use Rattle.std.proofs.lemmas.List.Sums.{fold-append}
-use Rattle.std.proofs.lemmas.Map.Text.{is_eq-slice_cmp}
 use Rattle.std.proofs.lemmas.Slice.Eq.{bytes_eq-Decides}
+use Rattle.basics.proofs.Texts.{other_is_not}
+use Rattle.basics.proofs.Keys.{other_keys}
 use Rattle.config_text.specs.Assignments.{last_value}
 use Rattle.config_text.specs.Known.{Knows}
 use Rattle.config_text.specs.declared.assignment.Assignment.{Assignment}
@@ -22,14 +23,6 @@ Values = BTreeMap (Vec ℕ Global) (List ℕ)
 abbrev pub found : Values → List ℕ → Option (List ℕ)
 found values q = get_by (λ k. slice_cmp nat_cmp q k.items) values
 
-apart : (bs cs ks : List ℕ) → bytes_eq bs cs ≡ false → is_eq (slice_cmp nat_cmp bs ks) ≡ true → is_eq (slice_cmp nat_cmp cs ks) ≡ false
-apart bs cs ks n y =
-    is_eq-slice_cmp cs ks ∙ (nat_list_eq_equiv.symm cs ks ∙ sym (nat_list_eq_equiv.congr bs ks cs (sym (is_eq-slice_cmp bs ks) ∙ y)) ∙ n)
-
-others : {K X : Type 0} (eq : K → K → Bool) (test : K → Bool) (old new : List (K × X)) → KeepsOthers eq test old new → (other : K → Bool) → IsKeyTest eq other → AreApart test other → lookup other new ≡ lookup other old
-unfolding KeepsOthers
-others eq test old new h = h
-
 -- one key has changed
 pub changed : (key : List ℕ) (w : Option (List ℕ)) (old new : Values)
     → found new key ≡ w
@@ -39,7 +32,7 @@ changed key w old new here keeps q =
     elim (cases_Bool (bytes_eq key q)) [
       | inl e ↦ subst (λ l. found new l ≡ w) ((bytes_eq-Decides key q).0 e) here ∙ sym (cond-true (bytes_eq key q) w (found old q) e)
       | inr e ↦
-          others _ _ old.entries new.entries keeps (is_at (λ k. slice_cmp nat_cmp q k.items)) (λ x y. (eq_by_cmp_equiv nat_list_cmp_total).congr q x.items y.items) (λ k. apart key q k.items e)
+          other_keys _ _ old.entries new.entries keeps (is_at (λ k. slice_cmp nat_cmp q k.items)) (λ x y. (eq_by_cmp_equiv nat_list_cmp_total).congr q x.items y.items) (λ k. other_is_not key q k.items e)
           ∙ sym (cond-false (bytes_eq key q) w (found old q) e)
     ]
 

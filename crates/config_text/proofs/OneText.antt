@@ -2,6 +2,8 @@
 use Rattle.std.proofs.Common.{◌≡◌, ◌∙◌, ℕ, true, false, List, [], ◌∷◌, ◌++◌, ap, append_assoc, append-nil, arith, inl, inr, refl, subst, sym}
 use Rattle.std.proofs.lemmas.Bool.Decides.{nat_tests}
 use Rattle.std.specs.Str.{IsUtf8}
+use Rattle.std.proofs.lemmas.Bool.{both_ways}
+use Rattle.basics.proofs.Lists.{heads, tails}
 use Rattle.config_text.specs.AssignFaults.{BadKeyAt, BeginsNoItem, FirstFault, IsOpen, OpenQuoteAt}
 use Rattle.config_text.specs.Assignments.{AreItems, IsItem, Item, Blank, Comment, Assign, Says, is_in_line, is_solid, said, spell_item, spell_items}
 use Rattle.config_text.specs.Follow.{Stops}
@@ -12,7 +14,7 @@ use Rattle.config_text.specs.declared.fault.TextFault.{TextFault}
 use Rattle.config_text.specs.declared.fault.TextFault.TheVariants.{BadKey, Memory, NotUtf8, OpenQuote}
 use Rattle.config_text.proofs.BadBytes.{no_bad_byte}
 use Rattle.config_text.proofs.OneValue.{key_begins, key_bytes, one_part, one_run, one_value, part_first, quotes_end, value_ends}
-use Rattle.config_text.proofs.Stretches.{heads, not_both, not_inside, one_stretch, onward, same_list, stopped, tails}
+use Rattle.config_text.proofs.Stretches.{not_inside, one_stretch, onward, same_list, stopped}
 
 white_begins_no_key : (b : ℕ) → is_white b ≡ true → begins_key b ≡ false
 white_begins_no_key b h = grind (arith, nat_tests)
@@ -82,7 +84,7 @@ rest_of known bytes as' xs r p f e =
 bad_rest : (r : List ℕ) (zs : List Item) → BeginsNoItem r → AreItems zs [] → r ≡ spell_items zs ++ [] → ⊥
 bad_rest [] zs bad f e = absurd bad
 bad_rest (b ∷ r) [] bad f e = absurd (cc)
-bad_rest (b ∷ r) (Blank c ∷ zs) bad f e = not_both (is_white b) (subst (λ y. is_white y ≡ true) (sym (heads b c r (spell_items zs ++ []) e)) f.0) bad.0
+bad_rest (b ∷ r) (Blank c ∷ zs) bad f e = both_ways (is_white b) bad.0 (subst (λ y. is_white y ≡ true) (sym (heads b c r (spell_items zs ++ []) e)) f.0)
 bad_rest (b ∷ r) (Comment u ∷ zs) bad f e = bad.1.0 (heads b 35 r ((u ++ spell_items zs) ++ []) e)
 bad_rest (b ∷ r) (Assign n xs ∷ zs) bad f e =
     bad.1.1 n ((spell_runs xs ++ spell_items zs) ++ []) f.0.0 (e ∙ (ap (λ l. l ++ []) (with_key n (spell_runs xs) (spell_items zs)) ∙ with_key n (spell_runs xs ++ spell_items zs) []))

@@ -1,11 +1,13 @@
 -- Values that are spelled the same are the same.
 use Rattle.std.proofs.Common.{◌≡◌, ◌∙◌, ℕ, Bool, true, false, not, ◌||◌, ◌==◌, List, [], ◌∷◌, ◌++◌, drop, ap, append_assoc, arith, refl, subst, sym}
 use Rattle.std.specs.List.{AllByRecursion}
+use Rattle.std.proofs.lemmas.Bool.{both_ways}
+use Rattle.basics.proofs.Lists.{heads, heads_differ, tails}
 use Rattle.config_text.specs.Assignments.{is_solid}
 use Rattle.config_text.specs.Follow.{Stops}
 use Rattle.config_text.specs.Lines.{is_white}
 use Rattle.config_text.specs.Values.{AreQuoted, AreRuns, IsKey, IsPart, IsPlain, IsRun, LacksQuote, Part, Plain, Escaped, Named, Braced, Run, Bare, Single, Double, begins_key, is_escapable, is_in_single, is_key_byte, may_stand, spell_part, spell_parts, spell_run, spell_runs}
-use Rattle.config_text.proofs.Stretches.{heads, not_both, one_stretch, same_list, stopped, tails}
+use Rattle.config_text.proofs.Stretches.{one_stretch, same_list, stopped}
 
 pub key_bytes : (key : List ℕ) → IsKey key → AllByRecursion (λ c. is_key_byte c ≡ true) key
 key_bytes [] k = absurd k
@@ -15,9 +17,6 @@ key_bytes (b ∷ bytes) k = (rw k.0 refl, k.1)
 pub key_begins : (key r s : List ℕ) → IsKey key → Stops begins_key r → r ≡ key ++ s → ⊥
 key_begins [] r s k stops e = absurd k
 key_begins (b ∷ bytes) r s k stops e = stopped begins_key b r (bytes ++ s) k.0 stops e
-
-differ : (a b : ℕ) (as' bs : List ℕ) → (a ≡ b → ⊥) → a ∷ as' ≡ b ∷ bs → ⊥
-differ a b as' bs apart e = apart (heads a b as' bs e)
 
 plain_escaped : (quoted : Bool) (b c : ℕ) (r s : List ℕ) → IsPlain quoted b r → (quoted ≡ true) × (is_escapable c ≡ true) → b ∷ r ≡ 92 ∷ c ∷ s → ⊥
 plain_escaped quoted b c r s p k e =
@@ -56,16 +55,20 @@ one_part quoted (Plain b) (Braced n) r s h k e = absurd (plain_braced quoted b n
 one_part quoted (Escaped b) (Plain c) r s h k e = absurd (plain_escaped quoted c b s r k h (sym e))
 one_part quoted (Escaped b) (Escaped c) r s h k e =
     (ap Escaped (heads b c r s (tails 92 92 (b ∷ r) (c ∷ s) e)), tails b c r s (tails 92 92 (b ∷ r) (c ∷ s) e))
-one_part quoted (Escaped b) (Named n) r s h k e = absurd (differ 92 36 (b ∷ r) (n ++ s) (λ q. omega arith) e)
-one_part quoted (Escaped b) (Braced n) r s h k e = absurd (differ 92 36 (b ∷ r) (123 ∷ ((n ++ (125 ∷ [])) ++ s)) (λ q. omega arith) e)
+one_part quoted (Escaped b) (Named n) r s h k e = absurd (heads_differ 92 36 (b ∷ r) (n ++ s) (λ q. omega arith) e)
+one_part quoted (Escaped b) (Braced n) r s h k e = absurd (heads_differ 92 36 (b ∷ r) (123 ∷ ((n ++ (125 ∷ [])) ++ s)) (λ q. omega arith) e)
 one_part quoted (Named n) (Plain c) r s h k e = absurd (plain_named quoted c n s r k h.0 (sym e))
-one_part quoted (Named n) (Escaped c) r s h k e = absurd (differ 36 92 (n ++ r) (c ∷ s) (λ q. omega arith) e)
+one_part quoted (Named n) (Escaped c) r s h k e = absurd (heads_differ 36 92 (n ++ r) (c ∷ s) (λ q. omega arith) e)
 one_part quoted (Named n) (Named m) r s h k e = let both = one_named n m r s h k e in (ap Named both.0, both.1)
 one_part quoted (Named n) (Braced m) r s h k e = absurd (named_braced n m r s h.0 e)
 one_part quoted (Braced n) (Plain c) r s h k e = absurd (plain_braced quoted c n s r k h (sym e))
-one_part quoted (Braced n) (Escaped c) r s h k e = absurd (differ 36 92 (123 ∷ ((n ++ (125 ∷ [])) ++ r)) (c ∷ s) (λ q. omega arith) e)
+one_part quoted (Braced n) (Escaped c) r s h k e = absurd (heads_differ 36 92 (123 ∷ ((n ++ (125 ∷ [])) ++ r)) (c ∷ s) (λ q. omega arith) e)
 one_part quoted (Braced n) (Named m) r s h k e = absurd (named_braced m n s r k.0 (sym e))
 one_part quoted (Braced n) (Braced m) r s h k e = let both = one_braced n m r s h k e in (ap Braced both.0, both.1)
+
+pub dollar_stands : (q : Bool) → may_stand q 36 ≡ true
+dollar_stands true = refl
+dollar_stands false = refl
 
 -- with which byte a part begins
 pub part_first : (quoted : Bool) (x : Part) (r more : List ℕ) (b : ℕ) → IsPart quoted x r → spell_part x ++ r ≡ b ∷ more → may_stand quoted b ≡ true
@@ -73,15 +76,7 @@ part_first quoted (Plain c) r more b h e = subst (λ y. may_stand quoted y ≡ t
 part_first quoted (Escaped c) r more b h e =
     subst (λ q. may_stand q b ≡ true) (sym h.0) (subst (λ y. may_stand true y ≡ true) (heads 92 b (c ∷ r) more e) refl)
 part_first quoted (Named n) r more b h e = subst (λ y. may_stand quoted y ≡ true) (heads 36 b (n ++ r) more e) (dollar_stands quoted)
-  where
-    dollar_stands : (q : Bool) → may_stand q 36 ≡ true
-    dollar_stands true = refl
-    dollar_stands false = refl
 part_first quoted (Braced n) r more b h e = subst (λ y. may_stand quoted y ≡ true) (heads 36 b (123 ∷ ((n ++ (125 ∷ [])) ++ r)) more e) (dollar_stands quoted)
-  where
-    dollar_stands : (q : Bool) → may_stand q 36 ≡ true
-    dollar_stands true = refl
-    dollar_stands false = refl
 
 pub part_some : (x : Part) (r : List ℕ) → spell_part x ++ r ≡ [] → ⊥
 part_some (Plain c) r e = absurd (cc)
@@ -120,9 +115,9 @@ one_run (Bare x) (Single u) r s h k e = absurd (bare_single x r ((u ++ (39 ∷ [
 one_run (Bare x) (Double ys) r s h k e = absurd (bare_double x r ((spell_parts ys ++ (34 ∷ [])) ++ s) h e)
 one_run (Single t) (Bare y) r s h k e = absurd (bare_single y s ((t ++ (39 ∷ [])) ++ r) k (sym e))
 one_run (Single t) (Single u) r s h k e = let both = one_single t u r s h k e in (ap Single both.0, both.1)
-one_run (Single t) (Double ys) r s h k e = absurd (differ 39 34 ((t ++ (39 ∷ [])) ++ r) ((spell_parts ys ++ (34 ∷ [])) ++ s) (λ q. omega arith) e)
+one_run (Single t) (Double ys) r s h k e = absurd (heads_differ 39 34 ((t ++ (39 ∷ [])) ++ r) ((spell_parts ys ++ (34 ∷ [])) ++ s) (λ q. omega arith) e)
 one_run (Double xs) (Bare y) r s h k e = absurd (bare_double y s ((spell_parts xs ++ (34 ∷ [])) ++ r) k (sym e))
-one_run (Double xs) (Single u) r s h k e = absurd (differ 34 39 ((spell_parts xs ++ (34 ∷ [])) ++ r) ((u ++ (39 ∷ [])) ++ s) (λ q. omega arith) e)
+one_run (Double xs) (Single u) r s h k e = absurd (heads_differ 34 39 ((spell_parts xs ++ (34 ∷ [])) ++ r) ((u ++ (39 ∷ [])) ++ s) (λ q. omega arith) e)
 one_run (Double xs) (Double ys) r s h k e = let both = one_double xs ys r s h k e in (ap Double both.0, both.1)
 
 solid_first : (w q : Bool) → not (w || q) ≡ true → not w ≡ true
@@ -146,7 +141,7 @@ run_some (Double xs) r e = absurd (cc)
 -- no run stands at the end of a value
 pub value_ends : (s : List ℕ) → Stops is_solid s → (x : Run) (t : List ℕ) → IsRun x t → spell_run x ++ t ≡ s → ⊥
 value_ends [] stops x t h e = run_some x t e
-value_ends (b ∷ s) stops x t h e = not_both (is_solid b) (run_first x t s b h e) stops
+value_ends (b ∷ s) stops x t h e = both_ways (is_solid b) stops (run_first x t s b h e)
 
 pub one_value : (xs ys : List Run) (r s : List ℕ) → Stops is_solid r → Stops is_solid s → AreRuns xs r → AreRuns ys s → spell_runs xs ++ r ≡ spell_runs ys ++ s → (xs ≡ ys) × (r ≡ s)
 one_value xs ys r s m n h k e = same_list IsRun spell_run one_run xs ys r s (value_ends r m) (value_ends s n) h k e

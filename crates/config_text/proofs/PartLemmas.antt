@@ -5,14 +5,15 @@ use Rattle.std.specs.Prelude.{MatchOption}
 use Rattle.std.specs.Str.{IsUtf8}
 use Rattle.std.proofs.lemmas.Bool.Decides.{nat_tests}
 use Rattle.std.proofs.lemmas.Str.{IsUtf8-nil}
+use Rattle.basics.proofs.Lists.{tails}
 use Rattle.config_text.specs.Assignments.{part_value}
 use Rattle.config_text.specs.Follow.{Stops}
 use Rattle.config_text.specs.Reading.{Assigns, Begins, BeginsOther, Escapes, GivesPart, IsGiven, IsPiece, IsWhole, LacksKey, NamesVariable, piece_value}
 use Rattle.config_text.specs.Values.{BeginsNoName, HasKey, IsKey, Plain, Escaped, Named, Braced, begins_key, is_escapable, is_key_byte, may_stand}
 use Rattle.config_text.specs.declared.part.Piece.{Piece}
 use Rattle.config_text.specs.declared.part.Piece.TheVariants.{Byte, Name}
-use Rattle.config_text.proofs.OneValue.{key_begins, key_bytes}
-use Rattle.config_text.proofs.Stretches.{one_stretch, tails}
+use Rattle.config_text.proofs.OneValue.{dollar_stands, key_begins, key_bytes}
+use Rattle.config_text.proofs.Stretches.{one_stretch}
 use Rattle.config_text.proofs.Wholes.{IsClean, ascii_one, clean_key, clean_put, clean_skip, clean_whole, skip, whole_stretch}
 
 pub gives_part : (quoted : Bool) (values : List ℕ → List ℕ) (text rest was now : List ℕ) (piece : Piece) → IsPiece quoted text rest piece → IsGiven values piece was now → GivesPart quoted values text rest was now
@@ -85,15 +86,11 @@ name_piece text name rest quoted h =
       whole = λ values value good w. h.whole value (values name.now) good w;
     }
 
-dollar_may_stand : (quoted : Bool) → may_stand quoted 36 ≡ true
-dollar_may_stand true = refl
-dollar_may_stand false = refl
-
 pub dollar_piece : (text : List ℕ) (quoted : Bool) → BeginsNoName text → IsPiece quoted (36 ∷ text) text (Byte 36)
 dollar_piece text quoted h =
     record {
       part = Plain 36;
-      form = record { stands = dollar_may_stand quoted; names_nothing = λ e. h; escapes_nothing = λ e q. absurd (omega (arith, e)) };
+      form = record { stands = dollar_stands quoted; names_nothing = λ e. h; escapes_nothing = λ e q. absurd (omega (arith, e)) };
       spelled = refl;
       means = λ values. refl;
       whole = λ values value good w. whole_stretch value text (36 ∷ []) w;

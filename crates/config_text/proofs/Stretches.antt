@@ -1,21 +1,14 @@
 -- Where a stretch of bytes ends, and lists of parts that are spelled the same.
-use Rattle.std.proofs.Common.{◌≡◌, ◌∙◌, ℕ, Bool, true, false, List, [], ◌∷◌, ◌++◌, get_or, drop, ap, append-nil, append_assoc, refl, subst, sym}
+use Rattle.std.proofs.Common.{◌≡◌, ◌∙◌, ℕ, Bool, true, false, List, [], ◌∷◌, ◌++◌, ap, append-nil, append_assoc, refl, subst, sym}
 use Rattle.std.specs.List.{AllByRecursion, flat_map}
+use Rattle.std.proofs.lemmas.Bool.{both_ways}
+use Rattle.basics.proofs.Lists.{heads, tails}
 use Rattle.config_text.specs.Follow.{Follow, Stops}
-
-pub heads : (a b : ℕ) (as' bs : List ℕ) → a ∷ as' ≡ b ∷ bs → a ≡ b
-heads a b as' bs e = ap (λ l. get_or l 0 0) e
-
-pub tails : (a b : ℕ) (as' bs : List ℕ) → a ∷ as' ≡ b ∷ bs → as' ≡ bs
-tails a b as' bs e = ap (λ l. drop 1 l) e
-
-pub not_both : (x : Bool) → x ≡ true → x ≡ false → ⊥
-not_both x t f = cc
 
 pub stopped : (test : ℕ → Bool) (b : ℕ) (r more : List ℕ) → test b ≡ true → Stops test r → r ≡ b ∷ more → ⊥
 stopped test b [] more passes stops e = absurd (cc)
 stopped test b (c ∷ r) more passes stops e =
-    not_both (test b) passes (subst (λ x. test x ≡ false) (heads c b r more e) stops)
+    both_ways (test b) (subst (λ x. test x ≡ false) (heads c b r more e) stops) passes
 
 -- a stretch of bytes that pass ends at the first that doesn't
 pub one_stretch : (test : ℕ → Bool) (a b r s : List ℕ) → AllByRecursion (λ x. test x ≡ true) a → AllByRecursion (λ x. test x ≡ true) b → Stops test r → Stops test s → a ++ r ≡ b ++ s → (a ≡ b) × (r ≡ s)
@@ -30,7 +23,7 @@ one_stretch test (a ∷ as') (b ∷ bs) r s h k m n e =
 pub not_inside : (test : ℕ → Bool) (a b r : List ℕ) (x : ℕ) → AllByRecursion (λ y. test y ≡ true) a → test x ≡ false → a ≡ b ++ (x ∷ r) → ⊥
 not_inside test [] [] r x h f e = absurd (cc)
 not_inside test [] (b ∷ bs) r x h f e = absurd (cc)
-not_inside test (a ∷ as') [] r x h f e = not_both (test x) (subst (λ y. test y ≡ true) (heads a x as' r e) h.0) f
+not_inside test (a ∷ as') [] r x h f e = both_ways (test x) f (subst (λ y. test y ≡ true) (heads a x as' r e) h.0)
 not_inside test (a ∷ as') (b ∷ bs) r x h f e = not_inside test as' bs r x h.1 f (tails a b as' (bs ++ (x ∷ r)) e)
 
 module _ {A : Type 0} (IsIn : A → List ℕ → Type 0) (spell : A → List ℕ) (one : (x y : A) (r s : List ℕ) → IsIn x r → IsIn y s → spell x ++ r ≡ spell y ++ s → (x ≡ y) × (r ≡ s)) where

@@ -10,6 +10,7 @@ use Rattle.hex.proofs.HexLemmas.{decode_of-encode_lower}
 use Rattle.basics.specs.Bytes.{is_digit}
 use Rattle.basics.specs.Members.{AreDistinct, Has}
 use Rattle.basics.proofs.Membership.{has-append_left, has-append_right, has-map}
+use Rattle.basics.proofs.Lists.{heads_and_tails}
 use Rattle.file_tree.specs.Paths.{bad_char_at, bad_part_at, begins_badly, is_path}
 use Rattle.file_tree.proofs.Grammar.{form_of_path}
 use Rattle.std.specs.Str.{is_utf8}
@@ -231,15 +232,12 @@ line_once (link_line p d t) (dir q) a b same = let f : 115 ≡ 100 = ap (λ (l :
 line_once (dir p) (obj q e u) a b same = let f : 100 ≡ 111 = ap (λ (l : List ℕ). get_or l 0 0) same in absurd (omega (arith, f))
 line_once (dir p) (link_line q e u) a b same = let f : 100 ≡ 115 = ap (λ (l : List ℕ). get_or l 0 0) same in absurd (omega (arith, f))
 
-head_same : {A : Type 0} (x y : A) (xs ys : List A) → x ∷ xs ≡ y ∷ ys → (x ≡ y) × (xs ≡ ys)
-head_same x y xs ys e = (ap (λ (l : List _). get_or l 0 x) e, ap (drop 1) e)
-
 lines_once : (ls ks : List Line) → AllByRecursion IsLine ls → AllByRecursion IsLine ks → map line_text ls ≡ map line_text ks → owned_in ls ≡ owned_in ks
 lines_once [] [] a b e = refl
 lines_once [] (k ∷ ks) a b e = absurd (let f : [] ≡ map line_text (k ∷ ks) = e in cc)
 lines_once (l ∷ ls) [] a b e = absurd (let f : map line_text (l ∷ ls) ≡ [] = e in cc)
 lines_once (l ∷ ls) (k ∷ ks) a b e =
-    let both = head_same (line_text l) (line_text k) (map line_text ls) (map line_text ks) e in
+    let both = heads_and_tails (line_text l) (line_text k) (map line_text ls) (map line_text ks) e in
     ap (λ (xs : List Owned). xs ++ owned_in ls) (line_once l k a.0 b.0 both.0) ∙ ap (λ (xs : List Owned). owned_by k ++ xs) (lines_once ls ks a.1 b.1 both.1)
 
 pub one_contents : OneContents
@@ -252,11 +250,11 @@ split_good [] [] at x e good there = absurd (cc there)
 split_good [] (t ∷ texts) at x e good there = absurd (let f : t ∷ texts ≡ [] = e in cc)
 split_good (l ∷ ls) [] at x e good there = absurd (cc there)
 split_good (l ∷ ls) (t ∷ texts) zero x e good there =
-    let heads = head_same t (line_text l) texts (map line_text ls) e in
+    let heads = heads_and_tails t (line_text l) texts (map line_text ls) e in
     let same : t ≡ x = (let f : ◌≡◌ {A = Option (List ℕ)} (Some t) (Some x) = there in cc) in
     (l, [], ls, refl, (good.0, (sym same ∙ heads.0, (refl, tt))))
 split_good (l ∷ ls) (t ∷ texts) (suc at) x e good there =
-    let heads = head_same t (line_text l) texts (map line_text ls) e in
+    let heads = heads_and_tails t (line_text l) texts (map line_text ls) e in
     let rest = split_good ls texts at x heads.1 good.1 there in (
       rest.0,
       l ∷ rest.1,

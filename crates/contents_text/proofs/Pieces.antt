@@ -2,8 +2,7 @@
 use Rattle.std.proofs.Common.{◌≡◌, ◌∙◌, ◌<◌, ◌≤◌, ◌==◌, ◌-◌, ℕ, zero, suc, Bool, true, false, cond, List, [], ◌∷◌, ◌++◌, length, get_or, drop, take, refl, ap, sym, subst, arith}
 use Rattle.std.specs.List.{list_any}
 use Rattle.std.proofs.Math.Seq.{take-length}
-use Rattle.std.proofs.lemmas.Bool.{or_from, or_parts}
-use Rattle.std.proofs.lemmas.Bool.Decides.{nat_tests}
+use Rattle.std.proofs.lemmas.Bool.{eqb-true, false_from_ne_true, or_from, or_parts}
 use Rattle.memchr.specs.Find.{NoneAfter, NoneBefore, Nowhere, Passes, is_byte}
 use Rattle.contents_text.specs.Contents.{before_lines, lines}
 use Rattle.contents_text.specs.Cuts.{HasNoSpace, IsFirstLine}
@@ -16,17 +15,10 @@ whole_rest (x ∷ xs) =
     let less : length (x ∷ xs) - 1 ≡ length xs = omega arith in
     ap (λ (n : ℕ). take n xs) less ∙ take-length xs
 
-not_true : (b : Bool) → (b ≡ true → ⊥) → b ≡ false
-not_true true h = absurd (h refl)
-not_true false h = refl
-
-same_byte : (x b : ℕ) → (x == b) ≡ true → x ≡ b
-same_byte x b h = grind (arith, nat_tests)
-
 -- a text around one of its bytes
 pub cut_at : (b : ℕ) (text : List ℕ) (at : ℕ) → at < length text → (get_or text at 0 == b) ≡ true → text ≡ take at text ++ (b ∷ drop 1 (drop at text))
 cut_at b [] at lt here = absurd (omega (arith, lt))
-cut_at b (x ∷ text) zero lt here = ap (λ (n : ℕ). n ∷ text) (same_byte x b here)
+cut_at b (x ∷ text) zero lt here = ap (λ (n : ℕ). n ∷ text) (eqb-true x b here)
 cut_at b (x ∷ text) (suc at) lt here = ap (λ (l : List ℕ). x ∷ l) (cut_at b text at (omega (arith, lt)) here)
 
 solid : (b : ℕ) (text : List ℕ) → ((k : ℕ) → k < length text → (get_or text k 0 == b) ≡ false) → list_any (λ c. c == b) text ≡ false
@@ -51,7 +43,7 @@ shorter_behind (x ∷ text) zero lt = omega arith
 shorter_behind (x ∷ text) (suc at) lt = let e = shorter_behind text at (omega (arith, lt)) in omega (arith, e)
 
 pub no_space : (text : List ℕ) → Nowhere (Passes (is_byte 32) text) 0 (length text) → HasNoSpace text
-no_space text none = solid 32 text (λ k lt. not_true (get_or text k 0 == 32) (none k (omega arith) lt))
+no_space text none = solid 32 text (λ k lt. false_from_ne_true (get_or text k 0 == 32) (none k (omega arith) lt))
 
 -- the last space cuts the text
 pub last_space : (text front back : List ℕ) (at : ℕ) → front ≡ take at text → back ≡ drop at text
@@ -59,7 +51,7 @@ pub last_space : (text front back : List ℕ) (at : ℕ) → front ≡ take at t
     → HasNoSpace (take (length back - 1) (drop 1 back)) × (text ≡ front ++ (32 ∷ take (length back - 1) (drop 1 back)))
 last_space text front back at f b after here =
     let rest : take (length back - 1) (drop 1 back) ≡ drop 1 (drop at text) = whole_rest back ∙ ap (drop 1) b in (
-      subst HasNoSpace (sym rest) (solid_behind 32 text at (λ k gt lt. not_true (get_or text k 0 == 32) (after.after k (omega (arith, gt)) lt))),
+      subst HasNoSpace (sym rest) (solid_behind 32 text at (λ k gt lt. false_from_ne_true (get_or text k 0 == 32) (after.after k (omega (arith, gt)) lt))),
       cut_at 32 text at after.high here ∙ ap (λ (l : List ℕ). l ++ (32 ∷ drop 1 (drop at text))) (sym f) ∙ ap (λ (l : List ℕ). front ++ (32 ∷ l)) (sym rest),
     )
 
@@ -69,7 +61,7 @@ pub ended_line : (text line back : List ℕ) (at : ℕ) → line ≡ take at tex
     → IsFirstLine text line (take (length back - 1) (drop 1 back))
 ended_line text line back at l b before here =
     let rest : take (length back - 1) (drop 1 back) ≡ drop 1 (drop at text) = whole_rest back ∙ ap (drop 1) b in
-    let one : IsOneLine (take at text) = solid_front 10 text at (omega (arith, before.high)) (λ k lt. not_true (get_or text k 0 == 10) (before.before k (omega arith) lt)) in
+    let one : IsOneLine (take at text) = solid_front 10 text at (omega (arith, before.high)) (λ k lt. false_from_ne_true (get_or text k 0 == 10) (before.before k (omega arith) lt)) in
     record {
       first = ap lines (cut_at 10 text at before.high here) ∙ lines_ended (take at text) (drop 1 (drop at text)) one
           ∙ ap (λ (x : List ℕ). x ∷ lines (drop 1 (drop at text))) (sym l) ∙ ap (λ (x : List ℕ). line ∷ lines x) (sym rest);
@@ -95,10 +87,7 @@ whole_line (x ∷ text) line behind some l b none =
     let whole : line ≡ x ∷ text = l ∙ take-length (x ∷ text) in
     let empty : behind ≡ [] = b ∙ drop_all (x ∷ text) in
     record {
-      first = lines_last x text (solid 10 (x ∷ text) (λ k lt. not_true (get_or (x ∷ text) k 0 == 10) (none k (omega arith) lt)))
+      first = lines_last x text (solid 10 (x ∷ text) (λ k lt. false_from_ne_true (get_or (x ∷ text) k 0 == 10) (none k (omega arith) lt)))
           ∙ ap (λ (t : List ℕ). t ∷ []) (sym whole) ∙ ap (λ (t : List ℕ). line ∷ lines t) (sym empty);
       shorter = subst (λ (t : List ℕ). length t < length (x ∷ text)) (sym empty) (omega arith);
     }
-
-pub some_bytes : (text : List ℕ) (b : Bool) → b ≡ (length text == 0) → b ≡ false → text ≡ [] → ⊥
-some_bytes text b is none e = cc (is, none, ap (λ (l : List ℕ). length l == 0) e)

@@ -1,14 +1,14 @@
 -- How far the reading of CONTENTS has come.
-use Rattle.std.proofs.Common.{◌≡◌, ◌∙◌, ◌||◌, ◌≤◌, ◌+◌, ℕ, suc, Bool, true, false, cond, List, [], ◌∷◌, ◌++◌, length, take, map, MatchBool, Some, Result, Ok, Err, refl, ap, sym, subst, inl, inr, arith, append_assoc}
-use Rattle.std.specs.Prelude.{IfOk, bytes_eq, slice_get}
+use Rattle.std.proofs.Common.{◌≡◌, ◌∙◌, ◌||◌, ◌≤◌, ◌+◌, ℕ, suc, Bool, true, false, cond, List, [], ◌∷◌, ◌++◌, length, take, map, MatchBool, Some, Result, Ok, Err, refl, ap, sym, subst, arith, append_assoc}
+use Rattle.std.specs.Prelude.{IfOk, slice_get}
 use Rattle.std.specs.List.{AllByRecursion}
 use Rattle.std.proofs.Math.Bool.{or_comm}
 use Rattle.std.proofs.lemmas.List.{append-nil, length-append, map-append, take_at}
-use Rattle.std.proofs.lemmas.List.Folds.{list_any-append}
 use Rattle.basics.specs.Members.{AreDistinct, Has}
-use Rattle.basics.proofs.Membership.{has-append_cases, has-map_back}
+use Rattle.basics.proofs.Membership.{distinct-append, has-map_back}
 use Rattle.merge_record.specs.Judging.{is_in}
 use Rattle.merge_record.proofs.Form.{has_if_in, in_if_has}
+use Rattle.merge_record.proofs.Free.{is_in-append}
 use Rattle.contents_text.specs.Contents.{FirstFault, IsLine, Line, TellsOwned, dir, is_dropped, line_text, lines, obj, owned_by, owned_in, path_of, sym as link_line, unless_dropped}
 use Rattle.contents_text.specs.Cuts.{IsFirstLine}
 use Rattle.contents_text.specs.Reading.{Adds, Bars, Goes, Reads, Stops, item_of}
@@ -36,11 +36,6 @@ all_more : (ls : List Line) (l : Line) → AllByRecursion IsLine ls → IsLine l
 all_more [] l h is = (is, tt)
 all_more (k ∷ ls) l h is = (h.0, all_more ls l h.1 is)
 
-distinct_more : (xs ys : List (List ℕ)) → AreDistinct xs → AreDistinct ys → ((q : List ℕ) → Has xs q → Has ys q → ⊥) → AreDistinct (xs ++ ys)
-distinct_more [] ys a b apart = b
-distinct_more (x ∷ xs) ys a b apart =
-    (λ h. elim (has-append_cases xs ys x h) [ inl l ↦ a.0 l | inr r ↦ apart x (inl refl) r ], distinct_more xs ys a.1 b (λ q h k. apart q (inr h) k))
-
 one_at_most : (o : Owned) (b : Bool) → AreDistinct (map path_of (cond b [] (o ∷ [])))
 one_at_most o true = tt
 one_at_most o false = ((λ h. h), tt)
@@ -53,9 +48,6 @@ one_owned (dir p) = tt
 -- what the lines and one more own
 owned_more : (before : List Line) (l : Line) → owned_in (before ++ (l ∷ [])) ≡ owned_in before ++ owned_by l
 owned_more before l = owned_in-append before (l ∷ []) ∙ ap (λ (os : List Owned). owned_in before ++ os) (append-nil (owned_by l))
-
-in_both : (a b : List (List ℕ)) (q : List ℕ) → is_in (a ++ b) q ≡ (is_in a q || is_in b q)
-in_both a b q = list_any-append (λ p. bytes_eq q p) a b
 
 -- one more good line
 pub gone : (text rest line behind : List ℕ) (number : ℕ) (was taken : List (List ℕ)) (old new : List Owned) → IsReadTo text rest number was old
@@ -79,10 +71,10 @@ gone text rest line behind number was taken old new r first goes =
       form = all_more r.before l r.form goes.1;
       count = omega (arith, r.count, length-append r.before (l ∷ []));
       means = adds.behind ∙ ap (λ (os : List Owned). os ++ owned_by l) r.means ∙ sym more;
-      once = subst (λ (ps : List (List ℕ)). AreDistinct ps) (sym paths) (distinct_more (map path_of (owned_in r.before)) (map path_of (owned_by l)) r.once (one_owned l) apart);
-      same = λ q. adds.now q ∙ in_both (map path_of (owned_by l)) was q ∙ ap (λ (b : Bool). is_in (map path_of (owned_by l)) q || b) (r.same q)
+      once = subst (λ (ps : List (List ℕ)). AreDistinct ps) (sym paths) (distinct-append (map path_of (owned_in r.before)) (map path_of (owned_by l)) r.once (one_owned l) apart);
+      same = λ q. adds.now q ∙ is_in-append (map path_of (owned_by l)) was q ∙ ap (λ (b : Bool). is_in (map path_of (owned_by l)) q || b) (r.same q)
           ∙ or_comm (is_in (map path_of (owned_by l)) q) (is_in (map path_of old) q)
-          ∙ sym (in_both (map path_of old) (map path_of (owned_by l)) q)
+          ∙ sym (is_in-append (map path_of old) (map path_of (owned_by l)) q)
           ∙ ap (λ (ps : List (List ℕ)). is_in ps q) (sym (map-append path_of old (owned_by l)) ∙ ap (map path_of) (sym adds.behind));
       room = omega (arith, r.room, first.shorter);
     }

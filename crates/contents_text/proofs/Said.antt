@@ -24,9 +24,6 @@ sym_start = 115 ∷ 121 ∷ 109 ∷ 32 ∷ 47 ∷ []
 abbrev pub dir_start : List ℕ
 dir_start = 100 ∷ 105 ∷ 114 ∷ 32 ∷ 47 ∷ []
 
-first_byte : (a b : ℕ) (x y : List ℕ) → a ∷ x ≡ b ∷ y → a ≡ b
-first_byte a b x y e = ap (λ (l : List ℕ). get_or l 0 0) e
-
 -- a line for a file, by what stands behind its first slash
 abbrev IsFileOf : List ℕ → Type 0
 IsFileOf rest = (p d t : List ℕ) × IsLine (obj p d t) × (rest ≡ p ++ (32 ∷ (encode_lower d ++ (32 ∷ t))))

@@ -10,20 +10,16 @@ use Rattle.std.specs.declared.cmp.Ordering.TheVariants.{Less, Equal, Greater}
 use Rattle.std.proofs.lemmas.Cmp.{nat_list_cmp_total}
 use Rattle.basics.specs.Members.{AreDistinct, Has}
 use Rattle.basics.proofs.Membership.{has-map}
+use Rattle.basics.proofs.Orderings.{ordering_cases}
 use Rattle.pms_names.specs.Flags.{IsRising, byte_order}
 use Rattle.database_law.specs.Database.{folder_name}
 use Rattle.database_law.specs.Packages.{Installed}
 use Rattle.database_law.specs.Step.{SomeAfter, Stays}
 use Rattle.std.proofs.lemmas.Bool.{cases_Bool}
 
-pub less_or : (o : Ordering) → (o ≡ Less) ⊎ ((o ≡ Equal) ⊎ (o ≡ Greater))
-less_or Less = inl refl
-less_or Equal = inr (inl refl)
-less_or Greater = inr (inr refl)
-
 -- two different texts stand in one order or the other
 other_order : (x y : List ℕ) → (x ≡ y → ⊥) → (byte_order x y ≡ Less → ⊥) → byte_order y x ≡ Less
-other_order x y ne no-less = elim (less_or (byte_order x y)) [
+other_order x y ne no-less = elim (ordering_cases (byte_order x y)) [
   | inl e ↦ absurd (no-less e)
   | inr (inl e) ↦ absurd (ne (same_text x y (sym (texts_ties x y ∙ ap is_eq e))))
   | inr (inr e) ↦ nat_list_cmp_total.antisymm y x ∙ ap ordering_reverse e

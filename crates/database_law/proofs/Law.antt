@@ -4,6 +4,7 @@ use Rattle.std.specs.Prelude.{bytes_eq, IsSome}
 use Rattle.std.proofs.lemmas.Bool.{true≢false, cases_Bool, cond-true, cond-false, false≢true, or_parts}
 use Rattle.basics.specs.Members.{Has}
 use Rattle.basics.proofs.Membership.{has-map, has-map_back}
+use Rattle.basics.proofs.Tests.{none_is_not_some, some-IsSome}
 use Rattle.file_tree.specs.Disk.{Map}
 use Rattle.file_tree.specs.Paths.{is_below}
 use Rattle.file_tree.specs.Thing.{Thing}
@@ -25,7 +26,7 @@ use Rattle.contents_text.specs.declared.owned.Content.TheVariants.{File, Link}
 use Rattle.contents_text.specs.declared.owned.Owned.{Owned}
 use Rattle.database_law.specs.Packages.{Installed, id_of, paths}
 use Rattle.database_law.specs.Step.{GroupKeepsDatabase, GroupsKeepDatabase, IsAfter, IsApart, IsStep, Puts, Removes, Stays, groups_of, put}
-use Rattle.database_law.proofs.Places.{cases_option, counted_below, counted_dropped, counted_of, counted_outside, mark, none_is_not_some, one_of_rising, path_free, says_mark, some_is}
+use Rattle.database_law.proofs.Places.{cases_option, counted_below, counted_dropped, counted_of, counted_outside, mark, one_of_rising, path_free, says_mark}
 
 -- one more placement, by whether it is at the path
 placed_step : (p : Placement) (ps : List Placement) (o : Thing) (os : List Thing) (q : List ℕ) (x : Option Thing) (b : Bool) → bytes_eq q p.path ≡ b → with_placements (p ∷ ps) (o ∷ os) q x ≡ with_placements ps os q (cond b (Some o) x)
@@ -78,8 +79,8 @@ dropped_if_jobs q h =
     (or_parts (is_below jobs q) (is_below q jobs) rest).0
 
 holds_some : (x : Option Thing) (c : Content) → Holds x c → IsSome x
-holds_some x (File digest) h = some_is x h.0 h.1
-holds_some x (Link target) h = some_is x _ h
+holds_some x (File digest) h = some-IsSome x h.0 h.1
+holds_some x (Link target) h = some-IsSome x _ h
 
 module _ (comes : ComesApart) (spells : OneSpelling) (m : Map) (ps added qs : List Installed) (gone : Installed → Bool) (does : Group)
     (db : IsDatabase m ps) (kept : IsKept m ps) (removes : Removes m ps gone does) (puts : Puts added does) (free : IsApart m ps gone added does) (after : IsAfter ps gone added qs) where
@@ -106,7 +107,7 @@ module _ (comes : ComesApart) (spells : OneSpelling) (m : Map) (ps added qs : Li
       | inl none ↦ none
       | inr some ↦ (
           let q : List ℕ = record_path (id_of p) name in
-          let from = puts.inside q (counted_below q (counted_of (id_of p) name (db.ids p stays.0))) (some_is (put does q) some.0 some.1) in
+          let from = puts.inside q (counted_below q (counted_of (id_of p) name (db.ids p stays.0))) (some-IsSome (put does q) some.0 some.1) in
           absurd (not_both p from.0 stays from.1 (same_id p from.0 name from.2.0 (db.ids p stays.0) (puts.ids from.0 from.1) from.2.1)))
     ]
 
@@ -139,7 +140,7 @@ module _ (comes : ComesApart) (spells : OneSpelling) (m : Map) (ps added qs : Li
       | inl e ↦ e
       | inr some ↦ (
           let q : List ℕ = record_path (id_of a) name in
-          let there = some_is (m q) some.0 some.1 in
+          let there = some-IsSome (m q) some.0 some.1 in
           let from = db.all q (counted_of (id_of a) name (puts.ids a has)) there in
           let same = same_id from.0 a from.2.0 name (db.ids from.0 from.1) (puts.ids a has) (sym from.2.1) in
           elim (cases_Bool (gone from.0)) [
@@ -168,7 +169,7 @@ module _ (comes : ComesApart) (spells : OneSpelling) (m : Map) (ps added qs : Li
   every : (q : List ℕ) → IsCounted q → IsSome (new q) → (p : Installed) × Has qs p × IsOf (id_of p) q
   every q is there = elim (cases_option (put does q)) [
     | inr some ↦ (
-        let from = puts.inside q (counted_below q is) (some_is (put does q) some.0 some.1) in
+        let from = puts.inside q (counted_below q is) (some-IsSome (put does q) some.0 some.1) in
         (from.0, (after.members from.0).1 (inr from.1), from.2))
     | inl none ↦ elim (cases_Bool (is_in does.content.removals q)) [
       | inl e ↦ absurd (none_is_not_some (new q) (loses does m q (counted_outside q is) none e) there)

@@ -1,3 +1,4 @@
 pub mod Places
 pub mod Law
 pub mod After
+pub mod Words

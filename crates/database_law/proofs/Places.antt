@@ -1,14 +1,14 @@
 -- Which paths are in a package's folder, and that a package's own paths are in none.
-use Rattle.std.proofs.Common.{◌≡◌, ◌⊎◌, ◌∙◌, ◌||◌, ◌==◌, ℕ, Bool, true, false, cond, List, [], ◌∷◌, ◌++◌, map, Option, Some, None, refl, ap, sym, subst, inl, inr, arith, append_assoc}
+use Rattle.std.proofs.Common.{◌≡◌, ◌⊎◌, ◌∙◌, ◌||◌, ◌==◌, ℕ, Bool, true, false, cond, List, [], ◌∷◌, ◌++◌, map, Option, Some, None, refl, ap, sym, subst, inl, inr, arith}
 use Rattle.std.specs.Prelude.{codes, IsSome, slice_index}
-use Rattle.std.specs.List.{AllByRecursion}
+use Rattle.std.specs.List.{AllByRecursion, list_any}
 use Rattle.std.specs.List.Sorted.{IsStrictlySortedBy}
-use Rattle.std.specs.declared.cmp.Ordering.TheVariants.{Less, Equal}
+use Rattle.std.specs.declared.cmp.Ordering.TheVariants.{Less}
 use Rattle.basics.specs.Members.{Has}
-use Rattle.std.proofs.lemmas.Bool.{or_from}
+use Rattle.std.proofs.lemmas.Bool.{or_from, or_parts}
 use Rattle.std.proofs.lemmas.Bool.Decides.{nat_tests}
-use Rattle.std.proofs.lemmas.Cmp.{tied_itself, nat_list_cmp_total}
 use Rattle.basics.proofs.Membership.{has-append_cases, has-map_back}
+use Rattle.basics.proofs.Texts.{not_less}
 use Rattle.file_tree.specs.Paths.{is_below}
 use Rattle.file_tree.specs.Thing.{Thing}
 use Rattle.merge_record.specs.Names.{jobs}
@@ -17,7 +17,7 @@ use Rattle.contents_text.specs.Contents.{TellsOwned, Line, is_dropped, obj, sym 
 use Rattle.database_law.specs.Database.{IsCounted, IsFolderName, folder_name, has_slash, is_skipped}
 use Rattle.database_law.specs.Fields.{Folder, Says, contents, field_text, name_of, text_of}
 use Rattle.dep_atom.specs.Ids.{IsId, name_and_version}
-use Rattle.dep_atom.specs.Cuts.{is_plain}
+use Rattle.dep_atom.specs.Cuts.{Lacks, is_either, is_plain}
 use Rattle.dep_atom.specs.declared.package.PackageId.{PackageId}
 use Rattle.dep_atom.proofs.Plain.{ArePlain, plain-append, plain_name, plain_version}
 use Rattle.pms_names.specs.Bytes.{begins_badly, may_contain}
@@ -25,6 +25,7 @@ use Rattle.pms_names.specs.Names.{IsName}
 use Rattle.pms_names.specs.declared.kind.Kind.TheVariants.{Category, Package}
 use Rattle.version_text.specs.Grammar.{spelling}
 use Rattle.vdb_text.specs.Files.{database_path, record_path}
+use Rattle.vdb_text.proofs.Packages.{record_path-parts}
 use Rattle.contents_text.specs.declared.owned.Content.TheVariants.{File, Link}
 use Rattle.contents_text.specs.declared.owned.Owned.{Owned}
 use Rattle.database_law.specs.Packages.{Installed, paths}
@@ -32,12 +33,6 @@ use Rattle.database_law.specs.Packages.{Installed, paths}
 pub cases_option : {A : Type 0} (o : Option A) → (o ≡ None) ⊎ ((x : A) × (o ≡ Some x))
 cases_option None = inl refl
 cases_option (Some x) = inr (x, refl)
-
-pub some_is : {A : Type 0} (o : Option A) (x : A) → o ≡ Some x → IsSome o
-some_is {A} o x e = subst (λ (y : Option A). IsSome y) (sym e) refl
-
-pub none_is_not_some : {A : Type 0} (o : Option A) → o ≡ None → IsSome o → ⊥
-none_is_not_some {A} o e some = let h : IsSome {T = A} None = subst (λ (y : Option A). IsSome y) e some in cc h
 
 no_slash : (b : ℕ) → is_plain b ≡ true → (b == 47) ≡ false
 no_slash b h = grind (arith, nat_tests)
@@ -69,17 +64,12 @@ version_counts id is = record {
   taken = name_taken id.name.«package» (45 ∷ spelling id.version) is.«package»;
 }
 
--- a path of a package's folder, by its parts
-folder_parts : (id : PackageId) (name : List ℕ) → record_path id name ≡ codes "var/db/pkg/" ++ (id.name.category ++ (47 ∷ (name_and_version id ++ (47 ∷ name))))
-unfolding record_path
-folder_parts id name = ap (λ (t : List ℕ). codes "var/db/pkg/" ++ t) (append_assoc id.name.category (47 ∷ name_and_version id) (47 ∷ name))
-
 pub counted_of : (id : PackageId) (name : List ℕ) → IsId id → IsCounted (record_path id name)
 counted_of id name is = record {
   category = id.name.category;
   pf = name_and_version id;
   name = name;
-  is = folder_parts id name;
+  is = record_path-parts id name;
   category-counts = category_counts id is;
   pf-counts = version_counts id is;
 }
@@ -126,7 +116,8 @@ path_free f p q says has =
     let free = lines_free text.ls o.0 (subst (λ (os : List Owned). Has os o.0) text.means o.1) in
     subst (λ (s : List ℕ). is_dropped s ≡ false) o.2 free
 
-text_there : (x : Option Thing) → IsSome (text_of x) → IsSome x
+-- a file with a text is there
+pub text_there : (x : Option Thing) → IsSome (text_of x) → IsSome x
 text_there None some = absurd (let h : IsSome {T = List ℕ} None = some in cc h)
 text_there (Some x) some = refl
 
@@ -143,9 +134,6 @@ all_less x [] r all has = absurd has
 all_less x (p ∷ ps) r all (inl e) = subst (λ (y : Installed). byte_order x (folder_name y) ≡ Less) e all.0
 all_less x (p ∷ ps) r all (inr has) = all_less x ps r all.1 has
 
-pub not_less : (x y : List ℕ) → x ≡ y → byte_order x y ≡ Less → ⊥
-not_less x y e less = let same : byte_order x x ≡ Equal = tied_itself nat_list_cmp_total x in let h : byte_order x x ≡ Less = ap (byte_order x) e ∙ less in let no' : Equal ≡ Less = sym same ∙ h in cc
-
 -- of a database's packages no two have one folder
 pub one_of_rising : (ps : List Installed) (p r : Installed) → IsRising (map folder_name ps) → Has ps p → Has ps r → folder_name p ≡ folder_name r → p ≡ r
 unfolding IsStrictlySortedBy
@@ -154,3 +142,10 @@ one_of_rising (x ∷ ps) p r rising (inl a) (inl b) e = sym a ∙ b
 one_of_rising (x ∷ ps) p r rising (inl a) (inr b) e = absurd (not_less (folder_name x) (folder_name r) (ap folder_name a ∙ e) (all_less (folder_name x) ps r rising.0 b))
 one_of_rising (x ∷ ps) p r rising (inr a) (inl b) e = absurd (not_less (folder_name x) (folder_name p) (ap folder_name b ∙ sym e) (all_less (folder_name x) ps p rising.0 a))
 one_of_rising (x ∷ ps) p r rising (inr a) (inr b) e = one_of_rising ps p r rising.1 a b e
+
+-- what has no slash lacks that byte
+pub lacks_from : (text : List ℕ) → has_slash text ≡ false → Lacks 47 47 text
+lacks_from [] h = refl
+lacks_from (b ∷ text) h =
+    let parts = or_parts (b == 47) (has_slash text) h in
+    or_from (is_either 47 47 b) (list_any (is_either 47 47) text) (or_from (b == 47) (b == 47) parts.0 parts.0) (lacks_from text parts.1)

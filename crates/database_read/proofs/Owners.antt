@@ -1,18 +1,16 @@
 -- The package of a folder's text, and the folder of a path in a package's folder.
-use Rattle.std.proofs.Common.{◌≡◌, ◌∙◌, ◌==◌, ℕ, false, Option, MatchOption, List, [], ◌∷◌, ◌++◌, drop, refl, ap, sym, subst, lit<, append_assoc}
+use Rattle.std.proofs.Common.{◌≡◌, ◌∙◌, ℕ, Option, MatchOption, List, ◌∷◌, ◌++◌, drop, refl, ap, sym, subst, lit<, append_assoc}
 use Rattle.std.specs.Prelude.{codes}
-use Rattle.std.specs.List.{list_any}
-use Rattle.std.proofs.lemmas.Bool.{or_from, or_parts}
 use Rattle.std.proofs.lemmas.List.{append_cancel_left}
 use Rattle.std.proofs.lemmas.Str.Pattern.{IsSplitOnceResult, split_after}
 use denote.Ref.{Bor}
-use Rattle.dep_atom.specs.Cuts.{Lacks, is_either}
 use Rattle.dep_atom.specs.Ids.{IsId, id_text, name_and_version}
 use Rattle.dep_atom.specs.declared.package.PackageId.{PackageId}
 use Rattle.dep_atom.proofs.Cuts.{cut_once}
 use Rattle.vdb_text.specs.Files.{record_path}
-use Rattle.database_law.specs.Database.{IsCounted, IsOf, has_slash}
-use Rattle.database_law.proofs.Places.{category_counts, version_counts}
+use Rattle.vdb_text.proofs.Packages.{record_path-parts}
+use Rattle.database_law.specs.Database.{IsCounted, IsOf}
+use Rattle.database_law.proofs.Places.{category_counts, lacks_from, version_counts}
 use Rattle.database_read.specs.Folders.{folder_text}
 use Rattle.database_read.proofs.Cuts.{no_slash_at}
 
@@ -20,12 +18,6 @@ use Rattle.database_read.proofs.Cuts.{no_slash_at}
 pub at_slash : (text : List ℕ) (id : PackageId) → IsId id → text ≡ id_text id → (r : Option (Bor (List ℕ) × Bor (List ℕ))) → IsSplitOnceResult 47 text r
     → MatchOption r ⊥ (λ x. (x.0.now ≡ id.name.category) × (x.1.now ≡ name_and_version id))
 at_slash text id is e r clause = split_after 47 text id.name.category (name_and_version id) r clause (lit< tt) e (no_slash_at id.name.category (category_counts id is).part)
-
-lacks_from : (text : List ℕ) → has_slash text ≡ false → Lacks 47 47 text
-lacks_from [] h = refl
-lacks_from (b ∷ text) h =
-    let parts = or_parts (b == 47) (has_slash text) h in
-    or_from (is_either 47 47 b) (list_any (is_either 47 47) text) (or_from (b == 47) (b == 47) parts.0 parts.0) (lacks_from text parts.1)
 
 -- a path is in one folder
 pub one_folder : (q : List ℕ) (c d : IsCounted q) → (c.category ≡ d.category) × (c.pf ≡ d.pf)
@@ -35,18 +27,13 @@ one_folder q c d =
     let two = cut_once 47 47 c.pf (47 ∷ c.name) d.pf (47 ∷ d.name) (lacks_from c.pf c.pf-counts.part) (lacks_from d.pf d.pf-counts.part) refl refl (ap (drop 1) one.1) in
     (one.0, two.0)
 
--- a path of a package's folder, by its parts
-pub path_parts : (id : PackageId) (name : List ℕ) → record_path id name ≡ codes "var/db/pkg/" ++ (id.name.category ++ (47 ∷ (name_and_version id ++ (47 ∷ name))))
-unfolding record_path
-path_parts id name = ap (λ (t : List ℕ). codes "var/db/pkg/" ++ t) (append_assoc id.name.category (47 ∷ name_and_version id) (47 ∷ name))
-
 -- each path of a package's folder is in one that counts
 abbrev pub counted_in : (id : PackageId) (name : List ℕ) → IsId id → IsCounted (record_path id name)
 counted_in id name is = record {
   category = id.name.category;
   pf = name_and_version id;
   name = name;
-  is = path_parts id name;
+  is = record_path-parts id name;
   category-counts = category_counts id is;
   pf-counts = version_counts id is;
 }

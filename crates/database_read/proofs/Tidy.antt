@@ -4,7 +4,8 @@ use Rattle.std.specs.Prelude.{IfErr, IfOk}
 use Rattle.std.specs.List.Sorted.{IsStrictlySortedBy}
 use Rattle.std.proofs.lemmas.Bool.{true≢false}
 use Rattle.basics.specs.Members.{AreDistinct, Has}
-use Rattle.basics.proofs.Membership.{distinct-apart, has-append_cases, has-append_left, has-append_right}
+use Rattle.basics.proofs.Membership.{distinct-apart, distinct-append, has-append_cases, has-append_left, has-append_right}
+use Rattle.basics.proofs.Texts.{not_less}
 use Rattle.file_tree.specs.Disk.{Map}
 use Rattle.pms_names.specs.Flags.{IsRising}
 use Rattle.contents_text.specs.Contents.{TellsOwned, path_of}
@@ -17,7 +18,6 @@ use Rattle.path_overlap.specs.Overlaps.{AreApart, IsFirst, IsFirstOverlap, IsOve
 use Rattle.path_overlap.specs.declared.overlap.Overlap.{Overlap}
 use Rattle.path_overlap.specs.declared.overlap.Overlap.TheVariants.{Nested, Twice}
 use Rattle.path_overlap.proofs.Again.{none_twice}
-use Rattle.path_overlap.proofs.Sets.{not_less}
 use Rattle.database_read.specs.Faults.{Overlaps, overlap_fault}
 use Rattle.database_read.specs.Machine.{IsOfMachine}
 use Rattle.database_read.specs.Owned.{IsAbove, IsOwned, IsOwnedBelow, IsOwnedTwice, all_paths}
@@ -49,13 +49,6 @@ EachDistinct ps = (p : Installed) → Has ps p → AreDistinct (paths p)
 pub each_distinct : (m : Map) (ps : List Installed) → IsDatabase m ps → EachDistinct ps
 each_distinct m ps db p has = own_distinct (folder m (id_of p)) p (db.says p has)
 
-distinct_both : (xs ys : List (List ℕ)) → AreDistinct xs → AreDistinct ys → ((q : List ℕ) → Has xs q → Has ys q → ⊥) → AreDistinct (xs ++ ys)
-distinct_both [] ys dx dy apart = dy
-distinct_both (x ∷ xs) ys dx dy apart = (
-  (λ has. elim (has-append_cases xs ys x has) [ inl h ↦ dx.0 h | inr h ↦ apart x (inl refl) h ]),
-  distinct_both xs ys dx.1 dy (λ q hx hy. apart q (inr hx) hy),
-)
-
 -- the second part of a list of distinct texts
 distinct_behind : (xs ys : List (List ℕ)) → AreDistinct (xs ++ ys) → AreDistinct ys
 distinct_behind [] ys d = d
@@ -80,7 +73,7 @@ one_owner (x ∷ ps) d p r q (inr hp) (inr hr) own own' = one_owner ps (distinct
 pub all_distinct : (ps : List Installed) → IsRising (map folder_name ps) → EachDistinct ps → ((p r : Installed) (q : List ℕ) → Has ps p → Has ps r → Has (paths p) q → Has (paths r) q → p ≡ r) → AreDistinct (all_paths ps)
 all_distinct [] rising each once = tt
 all_distinct (x ∷ ps) rising each once =
-    distinct_both (paths x) (all_paths ps) (each x (inl refl))
+    distinct-append (paths x) (all_paths ps) (each x (inl refl))
     (all_distinct ps (rising_behind x ps rising) (λ p has. each p (inr has)) (λ p r q hp hr own own'. once p r q (inr hp) (inr hr) own own'))
     (λ q own there. let o = owner_of ps q there in not_behind x ps o.owner rising o.listed (once x o.owner q (inl refl) (inr o.listed) own o.owns))
 

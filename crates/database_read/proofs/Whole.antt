@@ -1,15 +1,17 @@
 -- When the packages of all folders are the map's database, and which fault is its first.
 use Rattle.std.proofs.Common.{◌≡◌, ◌∙◌, ℕ, List, [], ◌∷◌, map, refl, ap, sym, subst, inl, inr}
+use Rattle.std.proofs.lemmas.Cmp.{nat_list_cmp_total}
 use Rattle.basics.specs.Members.{Has}
 use Rattle.basics.proofs.Membership.{has-append_cases, has-append_right, has-map, has-map_back}
-use Rattle.basics.proofs.Texts.{less_one_way}
+use Rattle.basics.proofs.Texts.{less_one_way, not_less}
+use Rattle.basics.proofs.Sorted.{same_sorted}
 use Rattle.pms_names.specs.Flags.{IsRising}
 use Rattle.file_tree.specs.Disk.{Map}
 use Rattle.vdb_text.specs.Files.{record_path}
 use Rattle.database_law.specs.Database.{IsDatabase, folder, folder_name}
 use Rattle.database_law.specs.Packages.{Installed, id_of}
 use Rattle.database_law.proofs.Places.{mark, says_mark}
-use Rattle.path_overlap.proofs.Sets.{behind_later, not_less, same_rising}
+use Rattle.path_overlap.proofs.Sets.{behind_later}
 use Rattle.database_read.specs.Faults.{IsFirstBadFolder, IsFirstOf}
 use Rattle.database_read.specs.Folders.{AreFolders, folder_text}
 use Rattle.database_read.specs.Telling.{TellAll, Tells}
@@ -59,7 +61,7 @@ module _ (m : Map) (texts : List (List ℕ)) (are : AreFolders m texts) where
         })
 
     pub tell_all : TellAll m texts ps
-    tell_all = subst (λ (ts : List (List ℕ)). TellAll m ts ps) (sym (same_rising texts (map folder_name ps) are.rising db.rising is_named is_listed))
+    tell_all = subst (λ (ts : List (List ℕ)). TellAll m ts ps) (sym (same_sorted nat_list_cmp_total texts (map folder_name ps) are.rising db.rising is_named is_listed))
         (each_tells ps (λ p has. record { is = db.ids p has; named = refl; says = db.says p has }))
 
   pub first_fault : (e : DatabaseFault) → IsFirstOf m texts e → IsFirstBadFolder m e

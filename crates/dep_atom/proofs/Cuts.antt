@@ -5,28 +5,17 @@ use Rattle.std.proofs.lemmas.Bool.Decides.{nat_tests}
 use Rattle.std.proofs.lemmas.List.Folds.{list_any-append}
 use Rattle.std.proofs.lemmas.List.{append_cancel_right}
 use Rattle.dep_atom.specs.Cuts.{is_either, Lacks, Starts, end_text}
-use Rattle.std.proofs.lemmas.Bool.{or_from}
+use Rattle.std.proofs.lemmas.Bool.{both_ways, or_from, or_parts}
 
 head_lacks : (x y b : ℕ) (bytes : List ℕ) → Lacks x y (b ∷ bytes) → is_either x y b ≡ false
-head_lacks x y b bytes h = first (is_either x y b) (list_any (is_either x y) bytes) h
-  where
-    first : (p q : Bool) → (p || q) ≡ false → p ≡ false
-    first false q e = refl
-    first true q e = e
+head_lacks x y b bytes h = (or_parts (is_either x y b) (list_any (is_either x y) bytes) h).0
 
 tail_lacks : (x y b : ℕ) (bytes : List ℕ) → Lacks x y (b ∷ bytes) → Lacks x y bytes
-tail_lacks x y b bytes h = second (is_either x y b) (list_any (is_either x y) bytes) h
-  where
-    second : (p q : Bool) → (p || q) ≡ false → q ≡ false
-    second false q e = e
-    second true q e = absurd (let f : true ≡ false = e in cc)
-
-contrary : (p : Bool) → p ≡ false → p ≡ true → ⊥
-contrary p f t = cc
+tail_lacks x y b bytes h = (or_parts (is_either x y b) (list_any (is_either x y) bytes) h).1
 
 meets : (x y b : ℕ) (bytes rest more : List ℕ) → Lacks x y (b ∷ bytes) → Starts x y rest → rest ≡ (b ∷ bytes) ++ more → ⊥
 meets x y b bytes [] more h k e = absurd (omega (arith, ap length e))
-meets x y b bytes (r ∷ rest) more h k e = contrary (is_either x y b) (head_lacks x y b bytes h) (subst (λ c. is_either x y c ≡ true) (ap (λ l. get_or l 0 0) e) k)
+meets x y b bytes (r ∷ rest) more h k e = both_ways (is_either x y b) (head_lacks x y b bytes h) (subst (λ c. is_either x y c ≡ true) (ap (λ l. get_or l 0 0) e) k)
 
 pub cut_once : (x y : ℕ) (a b c d : List ℕ) → Lacks x y a → Lacks x y c → Starts x y b → Starts x y d → a ++ b ≡ c ++ d → (a ≡ c) × (b ≡ d)
 cut_once x y [] b [] d h k s t e = (refl, e)

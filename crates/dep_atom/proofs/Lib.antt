@@ -8,5 +8,6 @@ pub mod OneId
 pub mod Opened
 pub mod Parts
 pub mod Plain
+pub mod SameParts
 pub mod Whole
 pub mod Wrong

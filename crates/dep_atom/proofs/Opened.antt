@@ -2,6 +2,7 @@
 use Rattle.std.proofs.Common.{◌≡◌, ℕ, ◌<◌, List, [], ◌∷◌, ◌++◌, length, get_or, drop, refl, sym, ◌∙◌, ap, arith, length-append, append_assoc, append-nil}
 use Rattle.std.specs.List.{AllByRecursion, flat_map}
 use Rattle.std.proofs.lemmas.Grind.{flat_map-append}
+use Rattle.std.proofs.lemmas.List.{nil_from_length}
 use Rattle.dep_atom.specs.declared.uses.UseDep.{UseDep}
 use Rattle.dep_atom.specs.Cuts.{Starts}
 use Rattle.dep_atom.specs.Form.{IsUseForm}
@@ -23,12 +24,8 @@ opened_text-step items u text rest more behind some found begins parts =
 pub opened_first : (u : UseDep) (text first rest : List ℕ) → text ≡ 91 ∷ first → first ≡ use_text u ++ rest → text ≡ opened_text (u ∷ []) ++ rest
 opened_first u text first rest e k = e ∙ ap (λ l. 91 ∷ l) (k ∙ ap (λ l. l ++ rest) (sym (append-nil (use_text u))))
 
-empty : (l : List ℕ) → length l ≡ 0 → l ≡ []
-empty [] e = refl
-empty (x ∷ l) e = absurd (omega (arith, e))
-
 pub opened_last : (items : List UseDep) (text rest end : List ℕ) → 0 < length items → text ≡ opened_text items ++ rest → rest ≡ 93 ∷ end → length end ≡ 0 → text ≡ uses_text items
-opened_last items text rest end some found e none = found ∙ ap (λ r. opened_text items ++ r) (e ∙ ap (λ l. 93 ∷ l) (empty end none)) ∙ sym (uses_text-closed items some)
+opened_last items text rest end some found e none = found ∙ ap (λ r. opened_text items ++ r) (e ∙ ap (λ l. 93 ∷ l) (nil_from_length end none)) ∙ sym (uses_text-closed items some)
 
 pub length-more : (items : List UseDep) (u : UseDep) → 0 < length (items ++ (u ∷ []))
 length-more items u = omega (arith, length-append items (u ∷ []))

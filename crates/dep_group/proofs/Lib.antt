@@ -1,4 +1,3 @@
-pub mod Bools
 pub mod WordLemmas
 pub mod ShapeLemmas
 pub mod ReadingLemmas

@@ -1,6 +1,7 @@
 -- Tokens with their openers and leaves replaced read as the trees with theirs replaced.
 use Rattle.std.specs.Prelude.{map, nat_lt, if◌then◌else◌, ◌&&◌, ◌||◌, Option, Some, None, Result, Err}
-use Rattle.std.proofs.Common.{◌≡◌, ℕ, ◌+◌, Bool, true, false, List, [], ◌∷◌, ◌++◌, length, refl, ap, sym, ◌∙◌, arith}
+use Rattle.std.proofs.Common.{◌≡◌, ℕ, ◌+◌, Bool, true, false, List, [], ◌∷◌, ◌++◌, length, refl, ap, sym, ◌∙◌}
+use Rattle.std.proofs.lemmas.List.{length-map, map_push}
 use Rattle.dep_group.specs.declared.token.Token.{Token}
 use Rattle.dep_group.specs.declared.token.Token.TheVariants.{Leaf, Begins, Opens, Closes, Glued, Unknown}
 use Rattle.dep_group.specs.declared.token.GroupFault.{GroupFault}
@@ -12,14 +13,6 @@ use Rattle.dep_group.specs.Maps.{opener_map, tree_map, trees_map, token_map, ope
 pub trees_of-map : {J K L M : Type 0} (f : J → K) (g : L → M) (ts : List (Tree J L)) → trees_of (map (tree_map f g) ts) ≡ trees_map f g (trees_of ts)
 trees_of-map f g [] = refl
 trees_of-map f g (t ∷ ts) = ap (tree (tree_map f g t)) (trees_of-map f g ts)
-
-map-push : {A B : Type 0} (f : A → B) (xs : List A) (x : A) → map f (xs ++ x ∷ []) ≡ map f xs ++ f x ∷ []
-map-push f [] x = refl
-map-push f (y ∷ xs) x = ap (λ r. f y ∷ r) (map-push f xs x)
-
-length-mapped : {A B : Type 0} (f : A → B) (xs : List A) → length (map f xs) ≡ length xs
-length-mapped f [] = refl
-length-mapped f (x ∷ xs) = omega (arith, length-mapped f xs)
 
 answer_map-if : {J K L M : Type 0} (f : J → K) (g : L → M) (b : Bool) (r s : Result (List (Tree J L)) GroupFault) → answer_map f g (if b then r else s) ≡ (if b then answer_map f g r else answer_map f g s)
 answer_map-if f g true r s = refl
@@ -49,20 +42,20 @@ module _ {J K L M : Type 0} (f : J → K) (g : L → M) (any_of : J → Bool) (a
   pub read-map : (ts : List (Token J L)) (at : ℕ) (begun : Option J) (os : List (Opened J L)) (done : List (Tree J L)) → read any_of' barred' (map (token_map f g) ts) at (opener_map f begun) (map (opened_map f g) os) (map (tree_map f g) done) ≡ answer_map f g (read any_of barred ts at begun os done)
   read-map [] at begun os done = finished-map at begun os done
   read-map (Opens ∷ ts) at begun os done =
-      ap (λ n. if nat_lt n 64 then read any_of' barred' (map (token_map f g) ts) (at + 1) None (record { opener = opener_map f begun; at = at; before = map (tree_map f g) done } ∷ map (opened_map f g) os) [] else Err fault.Depth) (length-mapped (opened_map f g) os)
+      ap (λ n. if nat_lt n 64 then read any_of' barred' (map (token_map f g) ts) (at + 1) None (record { opener = opener_map f begun; at = at; before = map (tree_map f g) done } ∷ map (opened_map f g) os) [] else Err fault.Depth) (length-map os (opened_map f g))
       ∙ ap (λ r. if nat_lt (length os) 64 then r else Err fault.Depth) (read-map ts (at + 1) None (record { opener = begun; at = at; before = done } ∷ os) [])
       ∙ sym (answer_map-if f g (nat_lt (length os) 64) (read any_of barred ts (at + 1) None (record { opener = begun; at = at; before = done } ∷ os) []) (Err fault.Depth))
   read-map (Leaf a ∷ ts) at None os done =
       ap (λ b. if b && barred' (g a) then Err (fault.Barred at) else read any_of' barred' (map (token_map f g) ts) (at + 1) None (map (opened_map f g) os) (map (tree_map f g) done ++ leaf (g a) ∷ [])) (in_any_of-map os)
       ∙ ap (λ b. if in_any_of any_of os && b then Err (fault.Barred at) else read any_of' barred' (map (token_map f g) ts) (at + 1) None (map (opened_map f g) os) (map (tree_map f g) done ++ leaf (g a) ∷ [])) (same_barred a)
-      ∙ ap (λ d. if in_any_of any_of os && barred a then Err (fault.Barred at) else read any_of' barred' (map (token_map f g) ts) (at + 1) None (map (opened_map f g) os) d) (sym (map-push (tree_map f g) done (leaf a)))
+      ∙ ap (λ d. if in_any_of any_of os && barred a then Err (fault.Barred at) else read any_of' barred' (map (token_map f g) ts) (at + 1) None (map (opened_map f g) os) d) (sym (map_push (tree_map f g) done (leaf a)))
       ∙ ap (λ r. if in_any_of any_of os && barred a then Err (fault.Barred at) else r) (read-map ts (at + 1) None os (done ++ leaf a ∷ []))
       ∙ sym (answer_map-if f g (in_any_of any_of os && barred a) (Err (fault.Barred at)) (read any_of barred ts (at + 1) None os (done ++ leaf a ∷ [])))
   read-map (Begins opener ∷ ts) at None os done = read-map ts (at + 1) (Some opener) os done
   read-map (Closes ∷ ts) at None [] done = refl
   read-map (Closes ∷ ts) at None (o ∷ os) done =
       ap (λ r. read any_of' barred' (map (token_map f g) ts) (at + 1) None (map (opened_map f g) os) (map (tree_map f g) o.before ++ group (opener_map f o.opener) r ∷ [])) (trees_of-map f g done)
-      ∙ ap (λ d. read any_of' barred' (map (token_map f g) ts) (at + 1) None (map (opened_map f g) os) d) (sym (map-push (tree_map f g) o.before (group o.opener (trees_of done))))
+      ∙ ap (λ d. read any_of' barred' (map (token_map f g) ts) (at + 1) None (map (opened_map f g) os) d) (sym (map_push (tree_map f g) o.before (group o.opener (trees_of done))))
       ∙ read-map ts (at + 1) None os (o.before ++ group o.opener (trees_of done) ∷ [])
   read-map (Glued ∷ ts) at None os done = refl
   read-map (Unknown ∷ ts) at None os done = refl

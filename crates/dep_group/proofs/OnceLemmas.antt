@@ -5,6 +5,7 @@ use Rattle.std.proofs.Math.ListN.{drop_of_length-le}
 use Rattle.std.proofs.Math.Seq.{take-length}
 use Rattle.std.proofs.lemmas.Bool.{cases_lt}
 use Rattle.std.proofs.lemmas.Bool.Decides.{nat_tests}
+use Rattle.basics.proofs.Lists.{heads, tails}
 use Rattle.dep_group.proofs.MapLemmas.{read-map}
 use Rattle.dep_group.proofs.OrderLemmas.{EachWord-parted, Reached, closes, closes-count}
 use Rattle.dep_group.proofs.ReadingLemmas.{ok_under, ok_unless, read-printed}
@@ -397,12 +398,6 @@ cut_twice (x ∷ xs) ys [] vs e le = absurd (omega (arith, le))
 cut_twice (x ∷ xs) ys (u ∷ us) vs e le =
     let p = cut_twice xs ys us vs (tails x u (xs ++ ys) (us ++ vs) e) (omega (arith, le)) in
     (p.0, ap (λ l. u ∷ l) p.1 ∙ ap (λ y. y ∷ (xs ++ p.0)) (sym (heads x u (xs ++ ys) (us ++ vs) e)), p.2)
-  where
-    tails : {A : Type 0} (a b : A) (l k : List A) → a ∷ l ≡ b ∷ k → l ≡ k
-    tails a b l k e = cc
-
-    heads : {A : Type 0} (a b : A) (l k : List A) → a ∷ l ≡ b ∷ k → a ≡ b
-    heads a b l k e = cc
 
 -- of two faults the words before the one are those before the other
 ordered : {L : Type 0} (g : Grammar L) (barred : L → Bool) → OneMark g barred → (ws : List (List ℕ)) (e f : GroupFault) (a : FirstWordFault g barred ws e) (b : FirstWordFault g barred ws f) → e ≢ fault.Memory → f ≢ fault.Memory → length a.front ≤ length b.front → e ≡ f

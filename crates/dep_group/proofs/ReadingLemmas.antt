@@ -2,14 +2,13 @@
 use Rattle.std.specs.Prelude.{not, nat_lt, max, if◌then◌else◌, ◌&&◌, Option, Some, None, Result, Ok, Err}
 use Rattle.std.proofs.Common.{◌≡◌, ℕ, ◌+◌, ◌<◌, ◌≤◌, Bool, true, false, List, [], ◌∷◌, ◌++◌, length, refl, ap, sym, ◌∙◌, arith, append_assoc, append-nil, subst}
 use Rattle.std.proofs.lemmas.Bool.Decides.{nat_tests}
-use Rattle.dep_group.proofs.Bools.{and_left, and_right}
 use Rattle.dep_group.specs.declared.token.Token.{Token}
 use Rattle.dep_group.specs.declared.token.Token.TheVariants.{Leaf, Begins, Opens, Closes, Glued, Unknown}
 use Rattle.dep_group.specs.declared.token.GroupFault.{GroupFault}
 use Rattle.dep_group.specs.declared.token.GroupFault.TheVariants as fault
 use Rattle.dep_group.specs.Trees.{Tree, Trees, leaf, group, no_trees, tree, trees_of, depth, all_depth, is_free, all_free}
 use Rattle.dep_group.specs.Reading.{opening, tokens, all_tokens, Opened, in_any_of, read, list_of, led_here}
-use Rattle.std.proofs.lemmas.Bool.{not-true}
+use Rattle.std.proofs.lemmas.Bool.{and_parts, not-true}
 
 pub trees_of-list_of : {K L : Type 0} (ts : Trees K L) → trees_of (list_of ts) ≡ ts
 trees_of-list_of no_trees = refl
@@ -33,8 +32,8 @@ mutual
   pub read-all_tokens : {K L : Type 0} (any_of : K → Bool) (barred : L → Bool) (ts : Trees K L) (rest : List (Token K L)) (at : ℕ) (os : List (Opened K L)) (done : List (Tree K L)) → length os + all_depth ts ≤ 64 → all_free any_of barred (in_any_of any_of os) ts ≡ true → (q : ℕ) × (read any_of barred (all_tokens ts rest) at None os done ≡ read any_of barred rest q None os (done ++ list_of ts))
   read-all_tokens any_of barred no_trees rest at os done low free = (at, ap (λ d. read any_of barred rest at None os d) (sym (append-nil done)))
   read-all_tokens any_of barred (tree t ts) rest at os done low free =
-      let first = read-tokens any_of barred t (all_tokens ts rest) at os done (omega arith) (and_left _ _ free) in
-      let others = read-all_tokens any_of barred ts rest first.0 os (done ++ t ∷ []) (omega arith) (and_right _ _ free) in
+      let first = read-tokens any_of barred t (all_tokens ts rest) at os done (omega arith) (and_parts _ _ free).0 in
+      let others = read-all_tokens any_of barred ts rest first.0 os (done ++ t ∷ []) (omega arith) (and_parts _ _ free).1 in
       (others.0, first.1 ∙ others.1 ∙ ap (λ d. read any_of barred rest others.0 None os d) (append_assoc done (t ∷ []) (list_of ts)))
 
 -- the printed tokens of trees in form read as the trees
@@ -113,7 +112,7 @@ all_depth-push (x ∷ xs) t = omega (arith, all_depth-push xs t)
 all_free-push : {K L : Type 0} (any_of : K → Bool) (barred : L → Bool) (inside : Bool) (xs : List (Tree K L)) (t : Tree K L) → all_free any_of barred inside (trees_of xs) ≡ true → is_free any_of barred inside t ≡ true → all_free any_of barred inside (trees_of (xs ++ t ∷ [])) ≡ true
 all_free-push any_of barred inside [] t hs h = ap (λ b. b && true) h
 all_free-push any_of barred inside (x ∷ xs) t hs h =
-    ap (λ b. b && all_free any_of barred inside (trees_of (xs ++ t ∷ []))) (and_left _ _ hs) ∙ all_free-push any_of barred inside xs t (and_right _ _ hs) h
+    ap (λ b. b && all_free any_of barred inside (trees_of (xs ++ t ∷ []))) (and_parts _ _ hs).0 ∙ all_free-push any_of barred inside xs t (and_parts _ _ hs).1 h
 
 IsSound-room : {K L : Type 0} (any_of : K → Bool) (barred : L → Bool) (os : List (Opened K L)) (done : List (Tree K L)) → IsSound any_of barred os done → length os ≤ 64
 IsSound-room any_of barred [] done s = omega arith

@@ -1,9 +1,9 @@
 -- What the shape of a word says of its bytes.
-use Rattle.std.specs.Prelude.{not, if◌then◌else◌, ◌==◌}
+use Rattle.std.specs.Prelude.{not, if◌then◌else◌}
 use Rattle.std.specs.Str.{IsUtf8, IsCharBoundary}
 use Rattle.std.proofs.Common.{◌≡◌, ℕ, ◌<◌, ◌∙◌, Bool, true, false, List, [], ◌∷◌, length, get_or, refl, arith}
 use Rattle.std.proofs.lemmas.Str.{IsCharBoundary-after_ascii}
-use Rattle.std.proofs.lemmas.Bool.Decides.{nat_tests}
+use Rattle.std.proofs.lemmas.Bool.{eqb-true, not-false}
 use Rattle.dep_group.specs.declared.shape.Shape.TheVariants.{Opens, Closes, Glued, AnyOf, ExactlyOne, AtMostOne, When, Item}
 use Rattle.dep_group.specs.Shapes.{IsCondition, shape, asks, denies}
 
@@ -21,20 +21,13 @@ when_chosen false false false false false false false n on h = absurd (cc)
 pub shape-when : (brackets : Bool) (word : List ℕ) (on : Bool) → shape brackets word ≡ When on → (asks word ≡ true) × (not (denies word) ≡ on)
 shape-when brackets word on h = when_chosen _ _ _ _ _ _ _ _ _ h
 
-of_eqb : (a b : ℕ) → (a == b) ≡ true → a ≡ b
-of_eqb a b h = grind (arith, nat_tests)
-
 -- a word that begins with an exclamation mark may be cut behind it
 pub denies-boundary : (word : List ℕ) (on : Bool) → IsUtf8 word → on ≡ false → IsCondition word on → IsCharBoundary word 1
 denies-boundary word on utf8 off h =
     let when = shape-when h.0 word on h.1 in
-    let first : get_or word 0 0 ≡ 33 = of_eqb (get_or word 0 0) 33 (of_not_false (denies word) (when.1 ∙ off)) in
+    let first : get_or word 0 0 ≡ 33 = eqb-true (get_or word 0 0) 33 (not-false (denies word) (when.1 ∙ off)) in
     IsCharBoundary-after_ascii word 0 utf8 (long word first) (omega arith)
   where
-    of_not_false : (b : Bool) → not b ≡ false → b ≡ true
-    of_not_false true e = refl
-    of_not_false false e = cc
-
     long : (w : List ℕ) → get_or w 0 0 ≡ 33 → 0 < length w
     long [] e = absurd (omega arith)
     long (b ∷ w) e = omega arith

@@ -4,11 +4,10 @@ use Rattle.std.specs.List.{list_all}
 use Rattle.std.proofs.Common.{◌≡◌, ◌≢◌, ℕ, ◌+◌, ◌-◌, ◌<◌, ◌≤◌, Bool, true, false, List, [], ◌∷◌, ◌++◌, length, take, drop, refl, ap, sym, ◌∙◌, subst, arith, inl, inr, append_assoc, append-nil}
 use Rattle.std.proofs.Math.ListN.{drop_of_length-le}
 use Rattle.std.proofs.Math.Seq.{take-append_seam, take-append-add, take-length, drop-append_seam}
-use Rattle.std.proofs.lemmas.Bool.{cases_lt}
+use Rattle.std.proofs.lemmas.Bool.{and_parts, cases_lt}
 use Rattle.std.proofs.lemmas.Bool.Decides.{nat_tests}
 use Rattle.std.proofs.lemmas.List.{drop-append-le, length-append, take-append-le}
 use Rattle.std.proofs.lemmas.List.Folds.{list_all-append}
-use Rattle.dep_group.proofs.Bools.{and_left, and_right}
 use Rattle.dep_group.proofs.OrderLemmas.{EachWord-append, EachWord-length, Reached, begin-read, leaves_open, text-read}
 use Rattle.dep_group.proofs.ReadingLemmas.{both}
 use Rattle.dep_group.proofs.TokenLemmas.{token_same}
@@ -233,23 +232,23 @@ stops g barred front [] ts (u ∷ us) os done f s h p r = absurd h
 stops g barred front (w ∷ ws) ts [] os done f s h p r = absurd h
 stops g barred front (w ∷ ws) ts (Opens ∷ us) os done f s h p r = elim (under (nat_lt (length os) 64) _ fault.Depth f r) [
   | inl k ↦
-      let s' = opened_one g barred front w ts os done s h.0 (and_left _ _ p) k.0 in
-      behind g barred front (w ∷ []) ws f (stops g barred (front ++ w ∷ []) ws (ts ++ Opens ∷ []) us (new_group None (length ts) done ∷ os) [] f s' h.1 (and_right _ _ p) (at_index barred us _ _ _ [] f (one_more ts Opens) k.1))
+      let s' = opened_one g barred front w ts os done s h.0 (and_parts _ _ p).0 k.0 in
+      behind g barred front (w ∷ []) ws f (stops g barred (front ++ w ∷ []) ws (ts ++ Opens ∷ []) us (new_group None (length ts) done ∷ os) [] f s' h.1 (and_parts _ _ p).1 (at_index barred us _ _ _ [] f (one_more ts Opens) k.1))
   | inr k ↦ stop g barred front (w ∷ ws) ts os done fault.Depth f s (full (length os) s.room k.0, inl h.0) k.1
 ]
 stops g barred front (w ∷ ws) ts (Leaf a ∷ us) os done f s h p r = elim (unless (in_any_of is_any_of os && barred a) _ (fault.Barred (length ts)) f r) [
   | inl k ↦
-      let s' = leaf_read g barred front w a ts os done s h.0 (and_left _ _ p) k.0 in
-      behind g barred front (w ∷ []) ws f (stops g barred (front ++ w ∷ []) ws (ts ++ Leaf a ∷ []) us os (done ++ leaf a ∷ []) f s' h.1 (and_right _ _ p) (at_index barred us _ _ os _ f (one_more ts (Leaf a)) k.1))
+      let s' = leaf_read g barred front w a ts os done s h.0 (and_parts _ _ p).0 k.0 in
+      behind g barred front (w ∷ []) ws f (stops g barred (front ++ w ∷ []) ws (ts ++ Leaf a ∷ []) us os (done ++ leaf a ∷ []) f s' h.1 (and_parts _ _ p).1 (at_index barred us _ _ os _ f (one_more ts (Leaf a)) k.1))
   | inr k ↦
       stop g barred front (w ∷ ws) ts os done (fault.Barred (length ts)) f s
-      (index g barred front ts os done s, record { leaf = a; token = h.0.0; is_barred = and_right _ _ k.0; no_text = barred_here g barred front w ts os done a s h.0 k.0 }) k.1
+      (index g barred front ts os done s, record { leaf = a; token = h.0.0; is_barred = (and_parts _ _ k.0).1; no_text = barred_here g barred front w ts os done a s h.0 k.0 }) k.1
 ]
 stops g barred front (w ∷ ws) ts (Closes ∷ us) [] done f s h p r = stop g barred front (w ∷ ws) ts [] done (fault.Close (length ts)) f s (index g barred front ts [] done s, refl, h.0) (err_of _ f r)
 stops g barred front (w ∷ ws) ts (Closes ∷ us) (o ∷ os) done f s h p r =
     let done' = o.before ++ group o.opener (trees_of done) ∷ [] in
-    let s' = closed g barred front w ts o os done s h.0 (and_left _ _ p) in
-    behind g barred front (w ∷ []) ws f (stops g barred (front ++ w ∷ []) ws (ts ++ Closes ∷ []) us os done' f s' h.1 (and_right _ _ p) (at_index barred us _ _ os done' f (one_more ts Closes) r))
+    let s' = closed g barred front w ts o os done s h.0 (and_parts _ _ p).0 in
+    behind g barred front (w ∷ []) ws f (stops g barred (front ++ w ∷ []) ws (ts ++ Closes ∷ []) us os done' f s' h.1 (and_parts _ _ p).1 (at_index barred us _ _ os done' f (one_more ts Closes) r))
 stops g barred front (w ∷ ws) ts (Glued ∷ us) os done f s h p r = stop g barred front (w ∷ ws) ts os done (fault.NoSpace (length ts)) f s (index g barred front ts os done s, h.0) (err_of _ f r)
 stops g barred front (w ∷ ws) ts (Unknown ∷ us) os done f s h p r = stop g barred front (w ∷ ws) ts os done (fault.Leaf (length ts)) f s (index g barred front ts os done s, inl h.0) (err_of _ f r)
 stops g barred front (w ∷ []) ts (Begins b ∷ []) os done f s h p r = no_group g barred front w [] b ts os done f s h.0 (λ k. k) (err_of _ f r)
@@ -257,8 +256,8 @@ stops g barred front (w ∷ []) ts (Begins b ∷ (u ∷ us)) os done f s h p r =
 stops g barred front (w ∷ (v ∷ ws)) ts (Begins b ∷ []) os done f s h p r = absurd h.1
 stops g barred front (w ∷ (v ∷ ws)) ts (Begins b ∷ (Opens ∷ us)) os done f s h p r = elim (under (nat_lt (length os) 64) _ fault.Depth f r) [
   | inl k ↦
-      let s' = opened_two g barred front w v b ts os done s h.0 h.1.0 (and_left _ _ p) (and_left _ _ (and_right _ _ p)) k.0 in
-      behind g barred front (w ∷ v ∷ []) ws f (stops g barred (front ++ w ∷ v ∷ []) ws (ts ++ Begins b ∷ Opens ∷ []) us (new_group (Some b) (length ts + 1) done ∷ os) [] f s' h.1.1 (and_right _ _ (and_right _ _ p)) (at_index barred us _ _ _ [] f (two_more ts (Begins b) Opens) k.1))
+      let s' = opened_two g barred front w v b ts os done s h.0 h.1.0 (and_parts _ _ p).0 (and_parts _ _ (and_parts _ _ p).1).0 k.0 in
+      behind g barred front (w ∷ v ∷ []) ws f (stops g barred (front ++ w ∷ v ∷ []) ws (ts ++ Begins b ∷ Opens ∷ []) us (new_group (Some b) (length ts + 1) done ∷ os) [] f s' h.1.1 (and_parts _ _ (and_parts _ _ p).1).1 (at_index barred us _ _ _ [] f (two_more ts (Begins b) Opens) k.1))
   | inr k ↦ stop g barred front (w ∷ v ∷ ws) ts os done fault.Depth f s (full (length os) s.room k.0, inr ((b, h.0), h.1.0)) k.1
 ]
 stops g barred front (w ∷ (v ∷ ws)) ts (Begins b ∷ (Leaf a ∷ us)) os done f s h p r = no_group g barred front w (v ∷ ws) b ts os done f s h.0 (other g v (Leaf a) h.1.0 (λ e. cc)) (err_of _ f r)

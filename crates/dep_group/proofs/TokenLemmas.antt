@@ -4,7 +4,8 @@ use Rattle.std.specs.List.{list_all}
 use Rattle.std.proofs.Common.{◌≡◌, ℕ, zero, suc, ◌+◌, ◌<◌, length, take, get_or, Bool, true, false, List, [], ◌∷◌, ◌++◌, refl, ap, sym, ◌∙◌, subst, arith}
 use Rattle.std.proofs.lemmas.List.{append_cancel_right}
 use Rattle.std.proofs.lemmas.Slice.Eq.{bytes_eq-Decides}
-use Rattle.dep_group.proofs.Bools.{and_left, and_right}
+use Rattle.std.proofs.lemmas.Bool.{and_parts}
+use Rattle.basics.proofs.Lists.{tails}
 use Rattle.dep_group.specs.declared.shape.Shape.{Shape}
 use Rattle.dep_group.specs.declared.shape.Shape.TheVariants as shapes
 use Rattle.dep_group.specs.declared.token.Opener.{Opener}
@@ -43,9 +44,6 @@ apart s t u h k = ap rank (sym h ∙ k)
 conditions_same : (f f' : List ℕ) (on : Bool) → condition f on ≡ condition f' on → f ≡ f'
 conditions_same f f' true h = append_cancel_right f f' (question_mark ∷ []) h
 conditions_same f f' false h = append_cancel_right f f' (question_mark ∷ []) (tails _ _ _ _ h)
-  where
-    tails : (a b : ℕ) (xs ys : List ℕ) → a ∷ xs ≡ b ∷ ys → xs ≡ ys
-    tails a b xs ys e = cc
 
 whens_same : (f f' : List ℕ) (on on' : Bool) → condition f on ≡ condition f' on' → shapes.When on ≡ shapes.When on' → When f on ≡ When f' on'
 whens_same f f' on on' h k = go on on' (of_when on on' k) h
@@ -271,8 +269,8 @@ good_texts g [] [] e h = refl
 good_texts g [] (t ∷ ts) e h = absurd h
 good_texts g (w ∷ ws) [] e h = absurd h
 good_texts g (w ∷ ws) (t ∷ ts) e h =
-    ap (λ x. x ∷ ws) (good_text g w t (and_left (is_good t) (list_all is_good ts) e) h.0)
-    ∙ ap (λ xs. token_text g t ∷ xs) (good_texts g ws ts (and_right (is_good t) (list_all is_good ts) e) h.1)
+    ap (λ x. x ∷ ws) (good_text g w t (and_parts (is_good t) (list_all is_good ts) e).0 h.0)
+    ∙ ap (λ xs. token_text g t ∷ xs) (good_texts g ws ts (and_parts (is_good t) (list_all is_good ts) e).1 h.1)
 
 -- words that are read as trees are the words of these trees, which are in form
 pub read-in_form : {L : Type 0} (g : Grammar L) (barred : L → Bool) (ws : List (List ℕ)) (ts : List (Token (Opener (List ℕ)) L)) (out : List (Tree (Opener (List ℕ)) L)) → list_all is_word ws ≡ true → AreTokens g ws ts → read is_any_of barred ts 0 None [] [] ≡ Ok out → (ws ≡ tree_words g (trees_of out)) × IsInForm g barred (trees_of out)

@@ -9,16 +9,15 @@ use Rattle.std.specs.Str.{IsUtf8, IsCharBoundary}
 use Rattle.std.proofs.lemmas.Str.{IsCharBoundary-start, IsCharBoundary-after_ascii}
 use Rattle.std.proofs.lemmas.Bool.Decides.{nat_tests}
 use Rattle.std.proofs.Math.Seq.{drop-cons}
-use Rattle.dep_group.proofs.Bools.{and_left, and_right}
 use Rattle.dep_group.specs.Words.{Spot, begins_word, with_letter, words, is_word, word_between, place, spaced_after, spaced, texts, words_of}
 use Rattle.dep_group.specs.Views.{spot}
 use Rattle.dep_group.specs.declared.word.Word.{Word}
-use Rattle.std.proofs.lemmas.Bool.{not-true}
+use Rattle.std.proofs.lemmas.Bool.{and_parts, not-true}
 use Rattle.basics.specs.Blanks.{is_blank}
 
 is_word-first : (b : ℕ) (w : List ℕ) → is_word (b ∷ w) ≡ true → not (is_blank b) ≡ true
 is_word-first b [] h = h
-is_word-first b (c ∷ w) h = and_left (not (is_blank b)) (is_word (c ∷ w)) h
+is_word-first b (c ∷ w) h = (and_parts (not (is_blank b)) (is_word (c ∷ w)) h).0
 
 -- a blank is no part of a word
 pub words-blank : (at b : ℕ) (bs : List ℕ) → is_blank b ≡ true → words at (b ∷ bs) ≡ words (at + 1) bs
@@ -35,9 +34,9 @@ words-word_blank at b (c ∷ []) bs h e =
     ∙ ap (λ r. with_letter at c (not r) (words (at + 1) (b ∷ bs))) e
     ∙ ap (λ ws. record { at = at; bytes = c ∷ [] } ∷ ws) (words-blank (at + 1) b bs e)
 words-word_blank at b (c ∷ (d ∷ w)) bs h e =
-    words-letter at c ((d ∷ w) ++ (b ∷ bs)) (and_left (not (is_blank c)) (is_word (d ∷ w)) h)
-    ∙ ap (λ r. with_letter at c r (words (at + 1) ((d ∷ w) ++ (b ∷ bs)))) (is_word-first d w (and_right (not (is_blank c)) (is_word (d ∷ w)) h))
-    ∙ ap (λ ws. with_letter at c true ws) (words-word_blank (at + 1) b (d ∷ w) bs (and_right (not (is_blank c)) (is_word (d ∷ w)) h) e)
+    words-letter at c ((d ∷ w) ++ (b ∷ bs)) (and_parts (not (is_blank c)) (is_word (d ∷ w)) h).0
+    ∙ ap (λ r. with_letter at c r (words (at + 1) ((d ∷ w) ++ (b ∷ bs)))) (is_word-first d w (and_parts (not (is_blank c)) (is_word (d ∷ w)) h).1)
+    ∙ ap (λ ws. with_letter at c true ws) (words-word_blank (at + 1) b (d ∷ w) bs (and_parts (not (is_blank c)) (is_word (d ∷ w)) h).1 e)
     ∙ ap (λ n. record { at = at; bytes = c ∷ (d ∷ w) } ∷ words n bs) (omega arith)
 
 -- what is one word to its end
@@ -45,9 +44,9 @@ pub words-word : (at : ℕ) (w : List ℕ) → is_word w ≡ true → words at w
 words-word at [] h = absurd (cc)
 words-word at (c ∷ []) h = words-letter at c [] h
 words-word at (c ∷ (d ∷ w)) h =
-    words-letter at c (d ∷ w) (and_left (not (is_blank c)) (is_word (d ∷ w)) h)
-    ∙ ap (λ r. with_letter at c r (words (at + 1) (d ∷ w))) (is_word-first d w (and_right (not (is_blank c)) (is_word (d ∷ w)) h))
-    ∙ ap (λ ws. with_letter at c true ws) (words-word (at + 1) (d ∷ w) (and_right (not (is_blank c)) (is_word (d ∷ w)) h))
+    words-letter at c (d ∷ w) (and_parts (not (is_blank c)) (is_word (d ∷ w)) h).0
+    ∙ ap (λ r. with_letter at c r (words (at + 1) (d ∷ w))) (is_word-first d w (and_parts (not (is_blank c)) (is_word (d ∷ w)) h).1)
+    ∙ ap (λ ws. with_letter at c true ws) (words-word (at + 1) (d ∷ w) (and_parts (not (is_blank c)) (is_word (d ∷ w)) h).1)
 
 -- bytes none of which is a blank are a word
 pub is_word-letters : (b : ℕ) (w : List ℕ) → ((k : ℕ) → k < length (b ∷ w) → is_blank (get_or (b ∷ w) k 0) ≡ false) → is_word (b ∷ w) ≡ true
@@ -165,8 +164,8 @@ HasRead-end text found start i past order h =
 with_letter-words : (at b : ℕ) (joins : Bool) (ws : List Spot) → not (is_blank b) ≡ true → list_all is_word (texts ws) ≡ true → list_all is_word (texts (with_letter at b joins ws)) ≡ true
 with_letter-words at b true [] h hs = ap (λ r. r && true) h
 with_letter-words at b true (w ∷ ws) h hs =
-    ap (λ r. r && list_all is_word (texts ws)) (is_word-before b w.bytes h (and_left (is_word w.bytes) (list_all is_word (texts ws)) hs))
-    ∙ and_right (is_word w.bytes) (list_all is_word (texts ws)) hs
+    ap (λ r. r && list_all is_word (texts ws)) (is_word-before b w.bytes h (and_parts (is_word w.bytes) (list_all is_word (texts ws)) hs).0)
+    ∙ (and_parts (is_word w.bytes) (list_all is_word (texts ws)) hs).1
   where
     is_word-before : (b : ℕ) (w : List ℕ) → not (is_blank b) ≡ true → is_word w ≡ true → is_word (b ∷ w) ≡ true
     is_word-before b [] h k = absurd (cc)
@@ -190,10 +189,10 @@ joined (w ∷ (v ∷ ws)) = w ++ (32 ∷ joined (v ∷ ws))
 
 texts-joined : (at : ℕ) (ws : List (List ℕ)) → list_all is_word ws ≡ true → texts (words at (joined ws)) ≡ ws
 texts-joined at [] h = refl
-texts-joined at (w ∷ []) h = ap texts (words-word at w (and_left (is_word w) true h))
+texts-joined at (w ∷ []) h = ap texts (words-word at w (and_parts (is_word w) true h).0)
 texts-joined at (w ∷ (v ∷ ws)) h =
-    ap texts (words-word_blank at 32 w (joined (v ∷ ws)) (and_left (is_word w) (list_all is_word (v ∷ ws)) h) refl)
-    ∙ ap (λ r. w ∷ r) (texts-joined (at + length w + 1) (v ∷ ws) (and_right (is_word w) (list_all is_word (v ∷ ws)) h))
+    ap texts (words-word_blank at 32 w (joined (v ∷ ws)) (and_parts (is_word w) (list_all is_word (v ∷ ws)) h).0 refl)
+    ∙ ap (λ r. w ∷ r) (texts-joined (at + length w + 1) (v ∷ ws) (and_parts (is_word w) (list_all is_word (v ∷ ws)) h).1)
 
 -- the words with a space before each
 abbrev preceded : List (List ℕ) → List ℕ

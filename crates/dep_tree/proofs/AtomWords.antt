@@ -28,12 +28,11 @@ use Rattle.dep_atom.proofs.Plain.{ArePlain, plain_name, plain_version, plain_dif
 use Rattle.dep_group.specs.declared.shape.Shape.TheVariants as shapes
 use Rattle.dep_group.specs.Shapes.{asks, condition, denies, has_parenthesis, is_parenthesis, question_mark, shape}
 use Rattle.dep_group.specs.Words.{is_word}
-use Rattle.dep_group.proofs.Bools.{and_left, and_right}
 use Rattle.dep_group.proofs.FormLemmas.{IsWritten}
 use Rattle.dep_group.proofs.OnceLemmas.{OneMark}
 use Rattle.dep_group.specs.Tokens.{IsFlag}
 use Rattle.dep_tree.specs.Grammar.{blocks, grammar, is_block}
-use Rattle.std.proofs.lemmas.Bool.{not-true}
+use Rattle.std.proofs.lemmas.Bool.{and_parts, both_ways, not-true, or_right}
 use Rattle.basics.specs.Blanks.{is_blank}
 
 abbrev Are : (ℕ → Bool) → List ℕ → Type 0
@@ -163,25 +162,21 @@ parted : (a : AtomValue) → value_text a ≡ front a ++ uses_text a.uses
 parted a = regroup (block_text a.block) (op_text a.op) (name_text a.name) (version_part a.version) (star_text a.star) (slot_text a.slot) (uses_text a.uses)
 
 outer_no_parenthesis : (b : ℕ) → is_outer b ≡ true → is_parenthesis b ≡ false
-outer_no_parenthesis b h = not-true (is_parenthesis b) (and_left _ _ (and_right _ _ h))
+outer_no_parenthesis b h = not-true (is_parenthesis b) (and_parts _ _ (and_parts _ _ h).1).0
 
 outer_no_bracket : (b : ℕ) → is_outer b ≡ true → (b == 91) ≡ false
-outer_no_bracket b h = not-true (b == 91) (and_left _ _ (and_right _ _ (and_right _ _ h)))
+outer_no_bracket b h = not-true (b == 91) (and_parts _ _ (and_parts _ _ (and_parts _ _ h).1).1).0
 
 outer_no_question : (b : ℕ) → is_outer b ≡ true → (b == 63) ≡ false
-outer_no_question b h = not-true (b == 63) (and_right (not (b == 91)) (not (b == 63)) (and_right (not (is_parenthesis b)) (not (b == 91) && not (b == 63)) (and_right (is_letter b) (not (is_parenthesis b) && (not (b == 91) && not (b == 63))) h)))
+outer_no_question b h = not-true (b == 63) (and_parts (not (b == 91)) (not (b == 63)) (and_parts (not (is_parenthesis b)) (not (b == 91) && not (b == 63)) (and_parts (is_letter b) (not (is_parenthesis b) && (not (b == 91) && not (b == 63))) h).1).1).1
 
 outside : (xs ys : List ℕ) → Are is_outer xs → has_parenthesis false (xs ++ ys) ≡ has_parenthesis false ys
 outside [] ys h = refl
 outside (x ∷ xs) ys h = rw (outer_no_parenthesis x h.0, outer_no_bracket x h.0) (outside xs ys h.1)
 
-or_true : (a b : Bool) → b ≡ true → (a || b) ≡ true
-or_true true b h = refl
-or_true false b h = h
-
 inside : (xs ys : List ℕ) → Are is_inner xs → has_parenthesis true (xs ++ ys) ≡ has_parenthesis true ys
 inside [] ys h = refl
-inside (x ∷ xs) ys h = ap (λ b. has_parenthesis b (xs ++ ys)) (or_true (x == 91) (not (x == 93)) (and_right _ _ h.0)) ∙ inside xs ys h.1
+inside (x ∷ xs) ys h = ap (λ b. has_parenthesis b (xs ++ ys)) (or_right (x == 91) (not (x == 93)) (and_parts _ _ h.0).1) ∙ inside xs ys h.1
 
 uses_quiet : (us : List UseDep) → AllByRecursion IsUseForm us → has_parenthesis false (uses_text us) ≡ false
 uses_quiet [] h = refl
@@ -215,7 +210,7 @@ plain_left : (xs ys : List ℕ) → HasPlain xs → HasPlain (xs ++ ys)
 plain_left xs ys h = list_any-append is_plain xs ys ∙ ap (λ b. b || list_any is_plain ys) h
 
 plain_right : (xs ys : List ℕ) → HasPlain ys → HasPlain (xs ++ ys)
-plain_right xs ys h = list_any-append is_plain xs ys ∙ or_true (list_any is_plain xs) (list_any is_plain ys) h
+plain_right xs ys h = list_any-append is_plain xs ys ∙ or_right (list_any is_plain xs) (list_any is_plain ys) h
 
 some_plain : (bytes : List ℕ) → 0 < length bytes → ArePlain bytes → HasPlain bytes
 some_plain [] some h = absurd (omega (arith, some))
@@ -228,12 +223,9 @@ name_plain kind bytes h = some_plain bytes h.spelled.sized.some (plain_name kind
 not_one : (w c : List ℕ) → HasPlain w → list_any is_plain c ≡ false → bytes_eq w c ≡ false
 not_one w c h k = go (bytes_eq w c) refl
   where
-    both : (b : Bool) → b ≡ true → b ≡ false → ⊥
-    both b e f = absurd (cc)
-
     go : (r : Bool) → bytes_eq w c ≡ r → bytes_eq w c ≡ false
     go false e = e
-    go true e = let d = bytes_eq-Decides w c in absurd (both (list_any is_plain w) h (ap (list_any is_plain) (d.0 e) ∙ k))
+    go true e = let d = bytes_eq-Decides w c in absurd (both_ways (list_any is_plain w) (ap (list_any is_plain) (d.0 e) ∙ k) h)
 
 item_chosen : (a b c d e f g n : Bool) → a ≡ false → b ≡ false → c ≡ false → d ≡ false → e ≡ false → f ≡ false → g ≡ false → (if a then shapes.Opens else if b then shapes.Closes else if c then shapes.Glued else if d then shapes.AnyOf else if e then shapes.ExactlyOne else if f then shapes.AtMostOne else if g then shapes.When n else shapes.Item) ≡ shapes.Item
 item_chosen a b c d e f g n ha hb hc hd he hf hg = rw (ha, hb, hc, hd, he, hf, hg) refl
@@ -262,11 +254,11 @@ atom_shape a h =
 
 outer_letters : (bytes : List ℕ) → Are is_outer bytes → Are is_letter bytes
 outer_letters [] h = tt
-outer_letters (b ∷ bytes) h = (and_left _ _ h.0, outer_letters bytes h.1)
+outer_letters (b ∷ bytes) h = ((and_parts _ _ h.0).0, outer_letters bytes h.1)
 
 inner_letters : (bytes : List ℕ) → Are is_inner bytes → Are is_letter bytes
 inner_letters [] h = tt
-inner_letters (b ∷ bytes) h = (and_left _ _ h.0, inner_letters bytes h.1)
+inner_letters (b ∷ bytes) h = ((and_parts _ _ h.0).0, inner_letters bytes h.1)
 
 uses_letters : (us : List UseDep) → AllByRecursion IsUseForm us → Are is_letter (uses_text us)
 uses_letters [] h = tt

@@ -1,8 +1,9 @@
 -- Why the run of a group was stopped, by what its calls said.
-use Rattle.std.proofs.Common.{◌≡◌, ◌⊎◌, ◌<◌, ◌++◌, ◌∙◌, ℕ, zero, suc, Bool, true, List, [], ◌∷◌, Result, Ok, Err, inl, inr, refl, ap, subst, sym, length, take, get_or, map, append_assoc, arith}
+use Rattle.std.proofs.Common.{◌≡◌, ◌⊎◌, ◌<◌, ◌++◌, ◌∙◌, ℕ, Bool, true, List, [], ◌∷◌, Result, Ok, Err, inl, inr, refl, ap, subst, sym, length, take, get_or, map, append_assoc, arith}
 use Rattle.std.specs.Prelude.{IfErr, replicate}
 use Rattle.std.specs.List.{AllByRecursion}
 use Rattle.std.proofs.lemmas.List.{get_or-set_same, length-append, length-map, length-replicate, length-set, length_push, map-append, take_more}
+use Rattle.basics.proofs.Each.{all-append}
 use Rattle.file_tree.specs.Disk.{Map}
 use Rattle.file_tree.specs.declared.fault.TreeFault.{TreeFault}
 use Rattle.file_tree.specs.declared.fault.TreeFault.TheVariants as trees
@@ -83,14 +84,6 @@ record_cause tells m b xs files g stops.Memory h = tt
 
 -- ---- files that are staged one after the other
 
-pub all_push : {A : Type 0} (P : A → Type 0) (xs : List A) (x : A) → AllByRecursion P xs → P x → AllByRecursion P (xs ++ x ∷ [])
-all_push P [] x all p = (p, tt)
-all_push P (y ∷ ys) x all p = (all.0, all_push P ys x all.1 p)
-
-pub all_both : {A : Type 0} (P : A → Type 0) (xs ys : List A) → AllByRecursion P xs → AllByRecursion P ys → AllByRecursion P (xs ++ ys)
-all_both P [] ys all more = more
-all_both P (x ∷ xs) ys all more = (all.0, all_both P xs ys all.1 more)
-
 pub front_push : (all done : List Entry) (e : Entry) → done ≡ take (length done) all → length done < length all → e ≡ get_or all (length done) e → done ++ e ∷ [] ≡ take (length (done ++ e ∷ [])) all
 front_push all done e front lt at =
     sym (ap (λ (n : ℕ). take n all) (length_push done e)
@@ -125,7 +118,7 @@ first_behind P Q xs ys all f = record {
   here = f.here;
   back = f.back;
   is = ap (λ l. xs ++ l) f.is ∙ sym (append_assoc xs f.front (f.here ∷ f.back));
-  before = all_both P xs f.front all f.before;
+  before = all-append P xs f.front all f.before;
   has = f.has;
 }
 
@@ -159,11 +152,6 @@ wished_on ws next g k folder before done e lt is here =
     ∙ (get_or-set_same ws g (wishes_at ws g ++ wish_for k folder e ∷ []) [] lt
     ∙ (ap (λ (l : List Wish). l ++ wish_for k folder e ∷ []) here
     ∙ (append_assoc before (wishes_for k folder done) (wish_for k folder e ∷ []) ∙ ap (λ (l : List Wish). before ++ l) (sym (map-append (wish_for k folder) done (e ∷ []))))))
-
-pub unwished : (n g : ℕ) → wishes_at (replicate n []) g ≡ []
-unwished zero g = refl
-unwished (suc n) zero = refl
-unwished (suc n) (suc g) = unwished n g
 
 pub rows_there : (ws : List (List Wish)) (n g : ℕ) → ws ≡ replicate n [] → g < n → g < length ws
 rows_there ws n g is lt = subst (λ (m : ℕ). g < m) (sym (ap length is ∙ length-replicate n [])) lt

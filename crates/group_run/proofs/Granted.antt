@@ -2,7 +2,7 @@
 use Rattle.std.proofs.Common.{◌≡◌, ◌∙◌, ℕ, Bool, true, false, List, [], ◌∷◌, Some, None, inl, inr, refl, ap, subst}
 use Rattle.std.specs.Prelude.{IsTrue, cond}
 use Rattle.std.specs.List.{AllByRecursion}
-use Rattle.std.proofs.lemmas.Bool.{cases_eq}
+use Rattle.std.proofs.lemmas.Bool.{both_ways, cases_eq}
 use Rattle.basics.specs.Members.{Has}
 use Rattle.file_tree.specs.Disk.{Disk, Map}
 use Rattle.journal.specs.Group.{Group, with_groups}
@@ -37,12 +37,9 @@ either a g f at alone sealed rests h = elim (cases_eq h g) [
   | inr other ↦ (ap (λ (s : Standing). f s.phase) (alone h other) ∙ rests)
 ]
 
-both_ways : (b : Bool) → b ≡ true → b ≡ false → ⊥
-both_ways b t f = cc (t, f)
-
 pub book_kept : {T S : Type 0} (a : Account T S) (g : ℕ) → IsAt a.keeping g phases.Sealed → IsAlone g a → IsBooked a.keeping a.events a.wishes a.opened_book a.book → IsUnclaimed a.opened_book a.book
 book_kept a g at alone booked =
-    let none = none_there (groups_of done_by a.events) (λ h there. both_ways (is_over (standing_at a h).phase) (booked.over h there) (either a g is_over at alone refl refl h)) in
+    let none = none_there (groups_of done_by a.events) (λ h there. both_ways (is_over (standing_at a h).phase) (either a g is_over at alone refl refl h) (booked.over h there)) in
     record {
       owners = λ q. booked.owners q ∙ ap (λ (l : List ℕ). settled_by (parts_of a.keeping a.wishes) l q (owner_in a.opened_book.owned q)) none;
       claims = λ h. booked.claims h ∙ ap (λ (b : Bool). cond b (Some (parts_of a.keeping a.wishes h)) None) (either a g is_live at alone refl refl h);
@@ -50,8 +47,8 @@ book_kept a g at alone booked =
 
 pub outside_kept : {T S : Type 0} (a : Account T S) (g : ℕ) (opening : Map) (d : Disk) → IsAt a.keeping g phases.Sealed → IsAlone g a → IsInOrder opening (machine_of a.keeping) d → IsOutside opening d.holds
 outside_kept a g opening d at alone order q out =
-    let none = none_there (machine_of a.keeping).roll.order (λ x there. both_ways (is_settled (standing_at a x.content.group).phase) (order.listed.only x there).0 (either a g is_settled at alone refl refl x.content.group)) in
-    (tree_kept opening (machine_of a.keeping) d order q out (λ h works. absurd (both_ways (is_working (standing_at a h).phase) works (either a g is_working at alone refl refl h)))).reads
+    let none = none_there (machine_of a.keeping).roll.order (λ x there. both_ways (is_settled (standing_at a x.content.group).phase) (either a g is_settled at alone refl refl x.content.group) (order.listed.only x there).0) in
+    (tree_kept opening (machine_of a.keeping) d order q out (λ h works. absurd (both_ways (is_working (standing_at a h).phase) (either a g is_working at alone refl refl h) works))).reads
     ∙ ap (λ (l : List Group). with_groups l q (opening q)) none
 
 pub granted : {T S : Type 0} (a : Account T S) (files : Files) (g : ℕ) (opening : Map) (d : Disk) → IsAt a.keeping g phases.Sealed → HasBuilt files g a → IsBooked a.keeping a.events a.wishes a.opened_book a.book → IsInOrder opening (machine_of a.keeping) d

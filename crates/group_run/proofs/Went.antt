@@ -6,27 +6,15 @@ use Rattle.file_tree.specs.Disk.{Map}
 use Rattle.journal.specs.Group.{Group}
 use Rattle.merge_core.specs.Event.{Abandon, Acknowledge, Begin, Claim, CloseGate, Event, OpenGate, PlacePath, PutRecord, PutStage, PutToken, RemovePath, SyncClosed, SyncGate, SyncPlaced, SyncSealed, answered, begun, done}
 use Rattle.merge_core.specs.Order.{IsListed}
-use Rattle.merge_core.specs.Phase.{Phase, Idle, Building, Recorded, Marked, Sealed, Claimed, GatePut, Open, Placed, GateTaken, Done, Told, Abandoned, Redo, Redone, Odd, Emptied, is_settled, may_end, was_opened}
-use Rattle.merge_core.specs.Roll.{Machine, Roll, Standing, Stands, committed, group_at, group_of, phase_at, set}
+use Rattle.merge_core.specs.Phase.{Phase, Idle, Building, Recorded, Marked, Sealed, Claimed, GatePut, Open, Placed, GateTaken, Done, Told, Abandoned, Redo, Redone, Odd, Emptied, may_end, was_opened}
+use Rattle.merge_core.specs.Roll.{Machine, Roll, Standing, Stands, committed, group_at, phase_at, set}
 use Rattle.merge_core.specs.Trail.{Entry, machine_after}
 use Rattle.merge_core.proofs.Standings.{by_group}
+use Rattle.merge_core.proofs.Stays.{Stays, on_stays, shut_stays, stays_then}
+use Rattle.merge_core.proofs.Images.{settled_opened}
 use Rattle.merge_site.specs.Site.{StoodDuring}
 use Rattle.group_run.specs.Applied.{AreOf, Recovers, number}
 use Rattle.group_run.specs.Working.{AreInTurn, IsInTurn}
-
--- a group whose gate was opened in the one roll is the same in the other, opened there too
-abbrev pub Stays : Roll → Roll → Type 0
-Stays r r' = (h : ℕ) → was_opened (phase_at r h) ≡ true → (was_opened (phase_at r' h) ≡ true) × (group_at r' h ≡ group_at r h)
-
-stays_then : (a b c : Roll) → Stays a b → Stays b c → Stays a c
-stays_then a b c first second h o = let one = first h o in let two = second h one.0 in (two.0, two.1 ∙ one.1)
-
--- one standing changes, of a group whose gate was not opened, or by its phase alone
-stays_set : (r : Roll) (g : ℕ) (s : Standing) → (was_opened (phase_at r g) ≡ true → (was_opened s.phase ≡ true) × (group_of g s ≡ group_at r g)) → Stays r (set r g s)
-stays_set r g s here h = by_group (λ i x. was_opened (phase_at r i) ≡ true → (was_opened x.phase ≡ true) × (group_of i x ≡ group_at r i)) r g s here (λ i ne o. (o, refl)) h
-
-shut_set : (r : Roll) (g : ℕ) (p : Phase) (s : Standing) → phase_at r g ≡ p → was_opened p ≡ false → Stays r (set r g s)
-shut_set r g p s phase shut = stays_set r g s (λ o. absurd (cc (ap was_opened phase, shut, o)))
 
 pub not_opened : (p : Phase) → may_end p ≡ true → was_opened p ≡ false
 not_opened Idle e = refl
@@ -48,35 +36,35 @@ not_opened Odd e = refl
 not_opened Emptied e = absurd (cc e)
 
 stays_done : (m : Machine) (e : Event) → IsInTurn m e → Stays m.roll (done m e).roll
-stays_done m (Begin g) a = shut_set m.roll g Idle _ a refl
-stays_done m (PutStage g p o) a = shut_set m.roll g Building _ a refl
-stays_done m (PutRecord g removals) a = shut_set m.roll g Building _ a refl
-stays_done m (PutToken g) a = shut_set m.roll g Recorded _ a refl
-stays_done m (SyncSealed g) a = shut_set m.roll g Marked _ a refl
-stays_done m (Claim g) a = shut_set m.roll g Sealed _ a refl
-stays_done m (OpenGate g) a = shut_set m.roll g Claimed _ a refl
-stays_done m (SyncGate g) a = stays_set m.roll g _ (λ o. (refl, refl))
-stays_done m (PlacePath g) a = stays_set m.roll g _ (λ o. (o, refl))
-stays_done m (RemovePath g) a = stays_set m.roll g _ (λ o. (o, refl))
-stays_done m (SyncPlaced g) a = stays_set m.roll g _ (λ o. (refl, refl))
-stays_done m (CloseGate g) a = stays_set m.roll g _ (λ o. (refl, refl))
-stays_done m (SyncClosed g) a = stays_set m.roll g _ (λ o. (refl, refl))
-stays_done m (Acknowledge g) a = stays_set m.roll g _ (λ o. (refl, refl))
-stays_done m (Abandon g) a = shut_set m.roll g (phase_at m.roll g) _ refl (not_opened (phase_at m.roll g) a)
+stays_done m (Begin g) a = shut_stays m.roll g _ m.roll.order Idle a refl
+stays_done m (PutStage g p o) a = shut_stays m.roll g _ m.roll.order Building a refl
+stays_done m (PutRecord g removals) a = shut_stays m.roll g _ m.roll.order Building a refl
+stays_done m (PutToken g) a = shut_stays m.roll g _ m.roll.order Recorded a refl
+stays_done m (SyncSealed g) a = shut_stays m.roll g _ m.roll.order Marked a refl
+stays_done m (Claim g) a = shut_stays m.roll g _ m.roll.order Sealed a refl
+stays_done m (OpenGate g) a = shut_stays m.roll g _ m.roll.order Claimed a refl
+stays_done m (SyncGate g) a = on_stays m.roll g _ m.roll.order (λ o. (refl, refl))
+stays_done m (PlacePath g) a = on_stays m.roll g _ m.roll.order (λ o. (o, refl))
+stays_done m (RemovePath g) a = on_stays m.roll g _ m.roll.order (λ o. (o, refl))
+stays_done m (SyncPlaced g) a = on_stays m.roll g _ m.roll.order (λ o. (refl, refl))
+stays_done m (CloseGate g) a = on_stays m.roll g _ m.roll.order (λ o. (refl, refl))
+stays_done m (SyncClosed g) a = on_stays m.roll g _ m.roll.order (λ o. (refl, refl))
+stays_done m (Acknowledge g) a = on_stays m.roll g _ m.roll.order (λ o. (refl, refl))
+stays_done m (Abandon g) a = shut_stays m.roll g _ m.roll.order (phase_at m.roll g) refl (not_opened (phase_at m.roll g) a)
 
 stays_begun : (m : Machine) (e : Event) → IsInTurn m e → Stays m.roll (begun m e).roll
 stays_begun m (Begin g) a = λ h o. (o, refl)
-stays_begun m (PutStage g p o) a = stays_set m.roll g _ (λ o. (o, refl))
-stays_begun m (PutRecord g removals) a = stays_set m.roll g _ (λ o. (o, refl))
-stays_begun m (PutToken g) a = stays_set m.roll g _ (λ o. (o, refl))
+stays_begun m (PutStage g p o) a = on_stays m.roll g _ m.roll.order (λ o. (o, refl))
+stays_begun m (PutRecord g removals) a = on_stays m.roll g _ m.roll.order (λ o. (o, refl))
+stays_begun m (PutToken g) a = on_stays m.roll g _ m.roll.order (λ o. (o, refl))
 stays_begun m (SyncSealed g) a = λ h o. (o, refl)
 stays_begun m (Claim g) a = λ h o. (o, refl)
-stays_begun m (OpenGate g) a = shut_set m.roll g Claimed _ a refl
+stays_begun m (OpenGate g) a = shut_stays m.roll g _ m.roll.order Claimed a refl
 stays_begun m (SyncGate g) a = λ h o. (o, refl)
-stays_begun m (PlacePath g) a = stays_set m.roll g _ (λ o. (o, refl))
-stays_begun m (RemovePath g) a = stays_set m.roll g _ (λ o. (o, refl))
+stays_begun m (PlacePath g) a = on_stays m.roll g _ m.roll.order (λ o. (o, refl))
+stays_begun m (RemovePath g) a = on_stays m.roll g _ m.roll.order (λ o. (o, refl))
 stays_begun m (SyncPlaced g) a = λ h o. (o, refl)
-stays_begun m (CloseGate g) a = stays_set m.roll g _ (λ o. (refl, refl))
+stays_begun m (CloseGate g) a = on_stays m.roll g _ m.roll.order (λ o. (refl, refl))
 stays_begun m (SyncClosed g) a = λ h o. (o, refl)
 stays_begun m (Acknowledge g) a = λ h o. (o, refl)
 stays_begun m (Abandon g) a = λ h o. (o, refl)
@@ -165,25 +153,6 @@ stands_recovers opening r c listed stands = record {
       subst (λ (i : ℕ). Has (map number (committed r c)) i) k.2 (has_number (committed r c) (group_at r (number k.0)) stood);
   is = stands.recovers;
 }
-
-settled_opened : (p : Phase) → is_settled p ≡ true → was_opened p ≡ true
-settled_opened Idle e = absurd (cc e)
-settled_opened Building e = absurd (cc e)
-settled_opened Recorded e = absurd (cc e)
-settled_opened Marked e = absurd (cc e)
-settled_opened Sealed e = absurd (cc e)
-settled_opened Claimed e = absurd (cc e)
-settled_opened GatePut e = refl
-settled_opened Open e = refl
-settled_opened Placed e = refl
-settled_opened GateTaken e = refl
-settled_opened Done e = refl
-settled_opened Told e = refl
-settled_opened Abandoned e = absurd (cc e)
-settled_opened Redo e = refl
-settled_opened Redone e = refl
-settled_opened Odd e = absurd (cc e)
-settled_opened Emptied e = refl
 
 pub order_opened : (r : Roll) → IsListed r → AreOf (IsOpened r) r.order
 order_opened r listed x has = let is = listed.only x has in record { opened = settled_opened (phase_at r (number x)) is.0; is = is.1 }

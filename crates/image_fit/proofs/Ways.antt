@@ -2,12 +2,12 @@
 use Rattle.std.proofs.Common.{◌≡◌, ◌<◌, ◌+◌, ◌==◌, ℕ, zero, suc, true, List, [], ◌∷◌, ◌++◌, length, take, drop, get_or, Some, ap, sym, ◌∙◌, subst, inl, inr, arith}
 use Rattle.std.specs.Prelude.{bytes_eq, slice_get}
 use Rattle.std.specs.List.{AllByRecursion}
-use Rattle.std.proofs.lemmas.Bool.{cases_lt, eq-eqb}
+use Rattle.std.proofs.lemmas.Bool.{and_from, cases_lt, eq-eqb}
 use Rattle.std.proofs.lemmas.Slice.Eq.{bytes_eq-Decides}
 use Rattle.std.proofs.lemmas.List.{length-take-le}
+use Rattle.std.proofs.lemmas.Option.{slice_get_read}
 use Rattle.file_tree.specs.Disk.{Map}
 use Rattle.file_tree.specs.Paths.{is_below}
-use Rattle.merge_record.proofs.Steps.{and_both}
 use Rattle.image_fit.specs.Images.{HoldsPart, IsFirst}
 
 -- no part before this place holds anything
@@ -18,7 +18,7 @@ NoneBefore m path at = (k : ℕ) → k < at → HoldsPart m path k → ⊥
 pub part_is_above : (path : List ℕ) (at : ℕ) → at < length path → get_or path at 0 ≡ 47 → is_below (take at path) path ≡ true
 part_is_above path at within slash =
     let n : length (take at path) ≡ at = length-take-le at path (omega (arith, within)) in
-    and_both (bytes_eq (take at path) (take (length (take at path)) path)) (get_or path (length (take at path)) 0 == 47)
+    and_from (bytes_eq (take at path) (take (length (take at path)) path)) (get_or path (length (take at path)) 0 == 47)
     ((bytes_eq-Decides (take at path) (take (length (take at path)) path)).1 (sym (ap (λ (k : ℕ). take k path) n)))
     (eq-eqb (get_or path (length (take at path)) 0) 47 (ap (λ (k : ℕ). get_or path k 0) n ∙ slash))
 
@@ -29,11 +29,6 @@ none_more m path at none here k lt = elim (cases_lt k at) [
   | inr ge ↦ (let same : k ≡ at = omega (arith, lt, ge) in λ holds. here (subst (λ (n : ℕ). HoldsPart m path n) same holds))
 ]
 
-got : {A : Type 0} (xs : List A) (n : ℕ) (x : A) → n < length xs → x ≡ get_or xs n x → slice_get xs n ≡ Some x
-got [] n x within is = absurd (omega (arith, within))
-got (y ∷ xs) zero x within is = ap (λ z. Some z) (sym is)
-got (y ∷ xs) (suc n) x within is = got xs n x (omega (arith, within)) is
-
 split_at : {A : Type 0} (xs : List A) (n : ℕ) (x : A) → slice_get xs n ≡ Some x → xs ≡ take n xs ++ x ∷ drop (suc n) xs
 split_at [] n x there = absurd (cc there)
 split_at (y ∷ xs) zero x there = let same : y ≡ x = (let f : Some y ≡ Some x = there in cc) in ap (λ z. z ∷ xs) same
@@ -41,4 +36,4 @@ split_at (y ∷ xs) (suc n) x there = ap (λ l. y ∷ l) (split_at xs n x there)
 
 -- the element at this place is the first
 pub first_at : {A : Type 0} (P Q : A → Type 0) (xs : List A) (n : ℕ) (x : A) → n < length xs → x ≡ get_or xs n x → AllByRecursion P (take n xs) → Q x → IsFirst P Q xs
-first_at P Q xs n x within is all has = let there = got xs n x within is in record { front = take n xs; here = x; back = drop (suc n) xs; is = split_at xs n x there; before = all; has = has }
+first_at P Q xs n x within is all has = let there = slice_get_read xs (length xs) n x refl within is in record { front = take n xs; here = x; back = drop (suc n) xs; is = split_at xs n x there; before = all; has = has }

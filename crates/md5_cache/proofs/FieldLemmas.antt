@@ -1,6 +1,7 @@
 -- The values of an entry's fields.
 use Rattle.std.proofs.Common.{◌≡◌, ◌≢◌, ◌∙◌, ◌+◌, ◌<◌, ◌≤◌, ℕ, suc, Bool, true, false, cond, List, [], ◌∷◌, ◌++◌, Option, Some, None, length, take, drop, get_or, ap, arith, inl, inr, refl, subst, sym}
 use Rattle.std.specs.Prelude.{IsTrue, MatchOption, bytes_eq, codes, is_some}
+use Rattle.basics.proofs.Each.{all-push}
 use Rattle.slot_value.specs.Reading.{SaysNone}
 use Rattle.slot_value.specs.Slots.{IsSlotValue}
 use Rattle.slot_value.specs.declared.value.SlotValue.{SlotValue}
@@ -13,7 +14,6 @@ use Rattle.md5_cache.specs.FieldFaults.{HasNoOther, IsFirstBad, IsOther}
 use Rattle.md5_cache.specs.Fields.{AreFields, IsGood, IsInForm, field_of, first_absent, value_under}
 use Rattle.md5_cache.specs.declared.field.Field.{Field as Kind}
 use Rattle.md5_cache.specs.declared.pair.Pair.{Pair}
-use Rattle.md5_cache.proofs.Lines.{all_push}
 
 here : (pairs : List Pair) (place : ℕ) (d : Pair) (key : List ℕ) → place < length pairs → value_under (drop place pairs) key ≡ cond (bytes_eq (get_or pairs place d).key key) (Some (get_or pairs place d).value) (value_under (drop (suc place) pairs) key)
 here pairs place d key within = ap (λ (l : List Pair). value_under l key) (drop-cons pairs place d within)
@@ -39,7 +39,7 @@ value_none pairs place key past before = sym before ∙ ap (λ (l : List Pair). 
 
 pub good_next : (pairs : List Pair) (place : ℕ) (d item : Pair) → place < length pairs → item ≡ get_or pairs place d → AllByRecursion IsGood (take place pairs) → IsGood item → AllByRecursion IsGood (take (place + 1) pairs)
 good_next pairs place d item within is before good =
-    subst (AllByRecursion IsGood) (sym (take_more pairs place d within)) (all_push IsGood (take place pairs) (get_or pairs place d) before (subst IsGood is good))
+    subst (AllByRecursion IsGood) (sym (take_more pairs place d within)) (all-push IsGood (take place pairs) (get_or pairs place d) before (subst IsGood is good))
 
 pub bad_here : (pairs : List Pair) (place : ℕ) (d item : Pair) → place < length pairs → item ≡ get_or pairs place d → AllByRecursion IsGood (take place pairs) → (IsGood item → ⊥) → IsFirstBad pairs item.key
 bad_here pairs place d item within is before bad =

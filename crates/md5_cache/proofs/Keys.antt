@@ -10,7 +10,7 @@ use Rattle.std.proofs.lemmas.List.{map-append, take_more, take-append-drop}
 use Rattle.std.proofs.Math.Seq.{drop-cons}
 use Rattle.std.proofs.lemmas.Slice.Eq.{bytes_eq-Decides}
 use Rattle.basics.specs.Members.{AreDistinct, Has}
-use Rattle.basics.proofs.Membership.{distinct-apart, has-append_cases, has-append_left, has-append_right}
+use Rattle.basics.proofs.Membership.{distinct-apart, distinct-push, has-append_cases, has-append_left, has-append_right}
 use Rattle.md5_cache.specs.PairFaults.{IsFirstRepeated}
 use Rattle.md5_cache.specs.Pairs.{keys_of}
 use Rattle.md5_cache.specs.declared.pair.Pair.{Pair}
@@ -55,16 +55,6 @@ module _ (old new : Seen) (key : List ℕ) (place : Unit {0}) (after : (q : List
   pub seen_more : HasSeen new (keys ++ (key ∷ []))
   seen_more q = (to_list q, from_list q)
 
-pub distinct_push : (xs : List (List ℕ)) (x : List ℕ) → AreDistinct xs → (Has xs x → ⊥) → AreDistinct (xs ++ (x ∷ []))
-distinct_push [] x d new = ((λ h. h), tt)
-distinct_push (y ∷ ys) x d new = (
-  (λ h. elim (has-append_cases ys (x ∷ []) y h) [
-    | inl l ↦ d.0 l
-    | inr r ↦ elim r [ inl e ↦ new (inl (sym e)) | inr none ↦ none ]
-  ]),
-  distinct_push ys x d.1 (λ h. new (inr h)),
-)
-
 pub no_repeated : (keys : List (List ℕ)) (key : List ℕ) → AreDistinct keys → IsFirstRepeated keys key → ⊥
 no_repeated keys key d r = distinct-apart r.front (key ∷ r.rest) key (subst AreDistinct r.place d) r.again (inl refl)
 
@@ -91,5 +81,5 @@ seen_next pairs place d item old new within is before fresh after =
     let next : keys_of (take place pairs) ++ (item.key ∷ []) ≡ keys_of (take (place + 1) pairs) =
     ap (λ (p : Pair). keys_of (take place pairs) ++ (p.key ∷ [])) is ∙ sym (next_key pairs place d within) in (
       subst (HasSeen new) next (after (keys_of (take place pairs)) before.0),
-      subst AreDistinct next (distinct_push (keys_of (take place pairs)) item.key before.1 (λ h. false≢true (sym fresh ∙ (before.0 item.key).1 h))),
+      subst AreDistinct next (distinct-push (keys_of (take place pairs)) item.key before.1 (λ h. false≢true (sym fresh ∙ (before.0 item.key).1 h))),
     )

@@ -6,6 +6,7 @@ use Rattle.std.proofs.lemmas.List.{map-append, take_all, take_more, take-append-
 use Rattle.std.proofs.Math.Seq.{drop-cons}
 use Rattle.std.proofs.lemmas.Bool.{eqb-true, false≢true}
 use Rattle.std.proofs.lemmas.List.{length-take-le}
+use Rattle.basics.proofs.Each.{all-push}
 use Rattle.config_text.specs.Lines.{line_number}
 use Rattle.md5_cache.specs.PairFaults.{LacksEqualsAt, LinesFault}
 use Rattle.md5_cache.specs.Pairs.{HasEquals, IsSplit, is_equals, pair_of, without_empty_end}
@@ -22,10 +23,6 @@ pub ends_full : (front : List (List ℕ)) (b : ℕ) (last : List ℕ) → withou
 ends_full [] b last = refl
 ends_full (x ∷ []) b last = refl
 ends_full (x ∷ y ∷ ys) b last = ap (λ l. x ∷ l) (ends_full (y ∷ ys) b last)
-
-pub all_push : {A : Type 0} (P : A → Type 0) (xs : List A) (x : A) → AllByRecursion P xs → P x → AllByRecursion P (xs ++ (x ∷ []))
-all_push P [] x each p = (p, tt)
-all_push P (y ∷ ys) x each p = (each.0, all_push P ys x each.1 p)
 
 abbrev pub Texts : Type 0
 Texts = List (Bor (List ℕ))
@@ -48,10 +45,6 @@ up_to lines place within = omega arith
 length_now : (ls : Texts) → length (now_of ls) ≡ length ls
 length_now [] = refl
 length_now (x ∷ ls) = ap suc (length_now ls)
-
-pub no_items : {A : Type 0} (xs : List A) → length xs ≡ 0 → xs ≡ []
-no_items [] e = refl
-no_items (x ∷ xs) e = absurd (omega (arith, e))
 
 count_to : (lines : Texts) (place : ℕ) → place < length lines → length (now_of (take place lines)) ≡ place
 count_to lines place within = length_now (take place lines) ∙ length-take-le place lines (up_to lines place within)
@@ -82,7 +75,7 @@ pushed lines place d items now key v k w within split keys values is before =
           ∙ (ap (λ p. map pair_of (now_of (take place lines)) ++ (p ∷ [])) same
           ∙ (sym (map-append pair_of (now_of (take place lines)) ((get_or lines place d).now ∷ []))
           ∙ ap (λ l. map pair_of l) (sym (next_line lines place d within))))),
-      subst (AllByRecursion HasEquals) (sym (next_line lines place d within)) (all_push HasEquals (now_of (take place lines)) (get_or lines place d).now before.1 split.has),
+      subst (AllByRecursion HasEquals) (sym (next_line lines place d within)) (all-push HasEquals (now_of (take place lines)) (get_or lines place d).now before.1 split.has),
     )
 
 pub all_lines : (lines : Texts) (place : ℕ) (items : List Pair) → length lines ≤ place → (items ≡ map pair_of (now_of (take place lines))) × AllByRecursion HasEquals (now_of (take place lines)) → (items ≡ map pair_of (now_of lines)) × AllByRecursion HasEquals (now_of lines)

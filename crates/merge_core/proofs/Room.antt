@@ -1,6 +1,6 @@
 -- The order has room for each group.
 use Rattle.std.proofs.Common.{◌≡◌, ◌<◌, ◌≤◌, ◌+◌, ◌*◌, ◌&&◌, ◌==◌, ℕ, suc, Bool, true, false, cond, length, List, sym, subst, ap, ◌∙◌, arith}
-use Rattle.std.proofs.lemmas.Bool.{false≢true}
+use Rattle.std.proofs.lemmas.Bool.{and_parts, false≢true}
 use Rattle.std.proofs.lemmas.List.{length-set}
 use Rattle.std.proofs.lemmas.List.Elements.{All-from_get_or}
 use Rattle.std.proofs.lemmas.List.Sums.{sum_by-le, sum_by-set}
@@ -47,13 +47,9 @@ open_if_enters steps.SyncClosed p e h = absurd (false≢true e)
 open_if_enters steps.Acknowledge p e h = absurd (false≢true e)
 open_if_enters steps.Abandon p e h = absurd (false≢true e)
 
-second : (a b : Bool) → a && b ≡ true → b ≡ true
-second true b e = e
-second false b e = absurd (false≢true e)
-
 pub room_for : (xs : List Standing) (g n m : ℕ) (s : Step) (ok b : Bool) → g < length xs → IsPhaseFor s (standing_in xs g).phase → n ≤ sum_by settled_behind xs → length xs ≤ m → b ≡ (ok && enters s) → b ≡ true → n < m
 room_for xs g n m s ok b lt phase le most is true_b =
-    let at_open : (standing_in xs g).phase ≡ pure.Open = open_if_enters s (standing_in xs g).phase (second ok (enters s) (sym is ∙ true_b)) phase in
+    let at_open : (standing_in xs g).phase ≡ pure.Open = open_if_enters s (standing_in xs g).phase (and_parts ok (enters s) (sym is ∙ true_b)).1 phase in
     omega (arith, most, order_fits xs g n lt at_open le)
 
 none_if_ends : (p : pure.Phase) → pure.may_end p ≡ true → cond (pure.is_settled p) 1 0 + 0 ≤ 0

@@ -1,7 +1,7 @@
 -- A verdict in words: a group that is judged good is in form, and one that is in form is judged good.
 use Rattle.std.proofs.Common.{◌≡◌, ◌⊎◌, ◌+◌, ◌&&◌, ◌||◌, ℕ, zero, suc, Bool, true, false, not, cond, eqb, List, [], ◌∷◌, length, Option, Some, None, Result, Ok, Err, refl, sym, ap, subst, ◌∙◌, inl, inr, arith, eq-eqb}
 use Rattle.std.specs.Prelude.{bytes_eq, slice_get}
-use Rattle.std.proofs.lemmas.Bool.{eqb-true, or_cases, or_left, or_right}
+use Rattle.std.proofs.lemmas.Bool.{and_from, and_parts, eqb-true, or_cases, or_left, or_right}
 use Rattle.std.proofs.lemmas.Slice.Eq.{bytes_eq-Decides}
 use Rattle.basics.specs.Members.{AreDistinct, Has}
 use Rattle.md5.specs.Md5.{md5}
@@ -17,9 +17,7 @@ use Rattle.merge_record.specs.declared.fault.JudgeFault.{JudgeFault}
 use Rattle.merge_record.specs.declared.fault.JudgeFault.TheVariants as faults
 use Rattle.merge_record.specs.declared.fault.RecordFault.{RecordFault}
 use Rattle.merge_record.specs.declared.record.Placement.{Placement}
-use Rattle.merge_record.proofs.Steps.{and_both}
 use Rattle.merge_record.proofs.Verdicts.{fine, judged_ok, paths_pass}
-use Rattle.merge_record.proofs.Whole.{and_true}
 
 -- ---- membership as a test and as a fact
 
@@ -54,7 +52,7 @@ pub are_free-words : (taken paths : List (List ℕ)) → are_free taken paths �
 unfolding are_free
 are_free-words taken [] h = record { distinct = tt; outside = λ q has. absurd has; apart = λ q has. absurd has }
 are_free-words taken (p ∷ ps) h =
-    let both = and_true (is_free taken p) (are_free (p ∷ taken) ps) h in
+    let both = and_parts (is_free taken p) (are_free (p ∷ taken) ps) h in
     let one = nor (meets_jobs p) (is_in taken p) both.0 in
     let rest = are_free-words (p ∷ taken) ps both.1 in
     record {
@@ -78,7 +76,7 @@ are_free-if taken (p ∷ ps) h =
       outside = λ q has. h.outside q (inr has);
       apart = λ q has was. elim was [ inl e ↦ h.distinct.0 (subst (λ (x : List ℕ). Has ps x) (sym e) has) | inr k ↦ h.apart q (inr has) k ];
     } in
-    and_both (is_free taken p) (are_free (p ∷ taken) ps) one (are_free-if (p ∷ taken) ps rest)
+    and_from (is_free taken p) (are_free (p ∷ taken) ps) one (are_free-if (p ∷ taken) ps rest)
 
 -- ---- stages in words
 
@@ -97,16 +95,16 @@ pub is_staged-words : (x : Option Thing) (p : Placement) → is_staged x p ≡ t
 unfolding is_staged
 is_staged-words None p h = absurd cc
 is_staged-words (Some o) p h =
-    let a = and_true (eqb (byte_of o.kind) (byte_of p.kind)) (eqb (length o.bytes) p.length && bytes_eq (md5 o.bytes) p.md5) h in
-    let b = and_true (eqb (length o.bytes) p.length) (bytes_eq (md5 o.bytes) p.md5) a.1 in
+    let a = and_parts (eqb (byte_of o.kind) (byte_of p.kind)) (eqb (length o.bytes) p.length && bytes_eq (md5 o.bytes) p.md5) h in
+    let b = and_parts (eqb (length o.bytes) p.length) (bytes_eq (md5 o.bytes) p.md5) a.1 in
     record { object = o; there = refl; kind = same_kind o.kind p.kind (eqb-true _ _ a.0); size = eqb-true _ _ b.0; digest = (bytes_eq-Decides (md5 o.bytes) p.md5).0 b.1 }
 
 pub is_staged-if : (x : Option Thing) (p : Placement) → IsStaged x p → is_staged x p ≡ true
 unfolding is_staged
 is_staged-if x p h =
     let o = h.object in
-    rw h.there (and_both (eqb (byte_of o.kind) (byte_of p.kind)) (eqb (length o.bytes) p.length && bytes_eq (md5 o.bytes) p.md5) (eq-eqb _ _ (ap byte_of h.kind))
-    (and_both (eqb (length o.bytes) p.length) (bytes_eq (md5 o.bytes) p.md5) (eq-eqb _ _ h.size) ((bytes_eq-Decides (md5 o.bytes) p.md5).1 h.digest)))
+    rw h.there (and_from (eqb (byte_of o.kind) (byte_of p.kind)) (eqb (length o.bytes) p.length && bytes_eq (md5 o.bytes) p.md5) (eq-eqb _ _ (ap byte_of h.kind))
+    (and_from (eqb (length o.bytes) p.length) (bytes_eq (md5 o.bytes) p.md5) (eq-eqb _ _ h.size) ((bytes_eq-Decides (md5 o.bytes) p.md5).1 h.digest)))
 
 chosen_ok : {A : Type 0} (b : Bool) (r : Result A JudgeFault) (e : JudgeFault) (x : A) → cond b r (Err e) ≡ Ok x → (b ≡ true) × (r ≡ Ok x)
 chosen_ok true r e x h = (refl, h)
@@ -169,7 +167,7 @@ judged_words c taken g r h =
     let d = bind_ok (stages_judged c g 0 a.0.placements) (λ staged. Ok a.0) r b.2 in
     let same : a.0 ≡ r = same_content a.0 r d.2 in
     let p = chosen_ok (eqb a.0.group g && are_free taken (footprint a.0)) (Ok tt) (faults.BadRecord g) b.0 b.1 in
-    let q = and_true (eqb a.0.group g) (are_free taken (footprint a.0)) p.0 in
+    let q = and_parts (eqb a.0.group g) (are_free taken (footprint a.0)) p.0 in
     let free = are_free-words taken (footprint a.0) q.1 in
     subst (λ (x : Content). IsInForm c taken g x) same (record {
       reads = read_ok g (record_in (c (record_path g))) a.0 a.1;
@@ -185,7 +183,7 @@ pub free_if_passed : (taken : List (List ℕ)) (g : ℕ) (r : Content) → paths
 unfolding paths_judged
 free_if_passed taken g r h =
     let p = chosen_ok (eqb r.group g && are_free taken (footprint r)) fine (faults.BadRecord g) tt h in
-    (and_true (eqb r.group g) (are_free taken (footprint r)) p.0).1
+    (and_parts (eqb r.group g) (are_free taken (footprint r)) p.0).1
 
 pub judged_if : (c : Map) (taken : List (List ℕ)) (g : ℕ) (r : Content) → IsInForm c taken g r → judged c taken g ≡ Ok r
 unfolding record_read

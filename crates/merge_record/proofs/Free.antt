@@ -10,6 +10,9 @@ use Rattle.std.proofs.lemmas.Bool.Decides.{same_from_decides}
 use Rattle.std.proofs.lemmas.Slice.Eq.{bytes_eq-Decides}
 use Rattle.std.proofs.lemmas.List.{take_more, drop_all, take_all}
 use Rattle.std.proofs.Math.Seq.{drop-cons}
+use Rattle.std.proofs.Math.Bool.{or_comm}
+use Rattle.std.proofs.lemmas.List.Folds.{list_any-append}
+use Rattle.basics.proofs.Tests.{or-assoc}
 use Rattle.merge_record.specs.declared.record.Placement.{Placement}
 use Rattle.merge_record.specs.Judging.{path_of, HasSame, are_free, is_free, is_in}
 
@@ -106,19 +109,8 @@ path_at_map (x ∷ ps) (suc i) p lt at = path_at_map ps i p (omega arith) at
 
 -- ---- the footprint of a record
 
-or_assoc : (a b c : Bool) → (a || b) || c ≡ a || (b || c)
-or_assoc true b c = refl
-or_assoc false b c = refl
-
-or_comm : (a b : Bool) → a || b ≡ b || a
-or_comm true true = refl
-or_comm true false = refl
-or_comm false true = refl
-or_comm false false = refl
-
-is_in-append : (xs ys : List (List ℕ)) (q : List ℕ) → is_in (xs ++ ys) q ≡ is_in xs q || is_in ys q
-is_in-append [] ys q = refl
-is_in-append (x ∷ xs) ys q = rw (is_in-append xs ys q) (sym (or_assoc (bytes_eq q x) (is_in xs q) (is_in ys q)))
+pub is_in-append : (xs ys : List (List ℕ)) (q : List ℕ) → is_in (xs ++ ys) q ≡ (is_in xs q || is_in ys q)
+is_in-append xs ys q = list_any-append (λ p. bytes_eq q p) xs ys
 
 pub has_same-swap : (a b : List (List ℕ)) → HasSame (a ++ b) (b ++ a)
 has_same-swap a b q = is_in-append a b q ∙ or_comm (is_in a q) (is_in b q) ∙ sym (is_in-append b a q)
@@ -129,7 +121,7 @@ both_walks old mid new xs ys first second q =
     second q ∙ is_in-append ys mid q
     ∙ ap (λ (b : Bool). is_in ys q || b) (first q ∙ is_in-append xs old q)
     ∙ or_swap (is_in ys q) (is_in xs q) (is_in old q)
-    ∙ sym (or_assoc (is_in xs q) (is_in ys q) (is_in old q))
+    ∙ sym (or-assoc (is_in xs q) (is_in ys q) (is_in old q))
     ∙ ap (λ (b : Bool). b || is_in old q) (sym (is_in-append xs ys q))
     ∙ sym (is_in-append (xs ++ ys) old q)
 

@@ -4,7 +4,7 @@ use Rattle.std.specs.Prelude.{codes, bytes_eq}
 use Rattle.std.specs.List.{AllByRecursion}
 use Rattle.std.proofs.Math.Nat.{mod-lt}
 use Rattle.std.proofs.Math.Seq.{drop-cons}
-use Rattle.std.proofs.lemmas.Bool.{eqb-true, lt-ltb, ltb-true, ne_eqb}
+use Rattle.std.proofs.lemmas.Bool.{and_parts, eqb-true, lt-ltb, ltb-true, ne_eqb}
 use Rattle.std.proofs.lemmas.List.Sums.{take_while-cons}
 use Rattle.std.proofs.lemmas.Slice.Eq.{bytes_eq-Decides}
 use Rattle.std.proofs.lemmas.List.{append-nil, length-append}
@@ -16,7 +16,6 @@ use Rattle.merge_record.specs.Spelling.{number_text}
 use Rattle.merge_record.proofs.Naming.{length-digits, length-folder}
 use Rattle.merge_record.proofs.Numbers.{IsBytes-number_text}
 use Rattle.merge_record.proofs.Steps.{IsBytes, IsBytes-rest}
-use Rattle.merge_record.proofs.Whole.{and_true}
 use Rattle.basics.proofs.Texts.{bytes_eq-apart}
 
 -- bytes above the full stop, with something between two slashes and behind the last; `fresh` where a part begins
@@ -36,8 +35,8 @@ not_and false b h e = absurd cc
 
 good_cons : (fresh : Bool) (b : ℕ) (bs : List ℕ) → is_good fresh (b ∷ bs) ≡ true → Bytes fresh b bs
 good_cons fresh b bs h =
-    let a = and_true (ltb 46 b) (not (fresh && eqb b 47) && is_good (eqb b 47) bs) h in
-    let d = and_true (not (fresh && eqb b 47)) (is_good (eqb b 47) bs) a.1 in
+    let a = and_parts (ltb 46 b) (not (fresh && eqb b 47) && is_good (eqb b 47) bs) h in
+    let d = and_parts (not (fresh && eqb b 47)) (is_good (eqb b 47) bs) a.1 in
     record { high = ltb-true 46 b a.0; part = not_and fresh (eqb b 47) d.0; rest = d.1 }
 
 -- lists whose first bytes lie on both sides of a bound

@@ -1,5 +1,5 @@
 -- Steps of a reading that may fail, and the tests on the way.
-use Rattle.std.proofs.Common.{◌≡◌, ◌++◌, ◌+◌, ◌<◌, ◌&&◌, ℕ, suc, Bool, true, false, cond, List, ◌∷◌, get_or, take, drop, Result, Ok, Err, refl, sym, ap, ◌∙◌, append_assoc, arith, inl, inr}
+use Rattle.std.proofs.Common.{◌≡◌, ◌++◌, ◌+◌, ◌<◌, ℕ, suc, Bool, true, false, cond, List, ◌∷◌, get_or, take, drop, Result, Ok, Err, refl, sym, ap, ◌∙◌, append_assoc, arith, inl, inr}
 use Rattle.std.specs.Str.{is_utf8, IsUtf8}
 use Rattle.std.proofs.lemmas.Bool.{cases_lt}
 use Rattle.std.proofs.lemmas.List.{get_or-drop, get_or-take, get_or_past, length-take}
@@ -67,16 +67,3 @@ not_utf8 false bytes e h = refl
 
 pub is_utf8-false : (bytes : List ℕ) → (IsUtf8 bytes → ⊥) → is_utf8 bytes ≡ false
 is_utf8-false bytes h = not_utf8 (is_utf8 bytes) bytes refl h
-
-pub and_both : (a b : Bool) → a ≡ true → b ≡ true → a && b ≡ true
-and_both true true p q = refl
-and_both true false p q = absurd cc
-and_both false b p q = absurd cc
-
-pub and_left : (a b : Bool) → a ≡ false → a && b ≡ false
-and_left true b p = absurd cc
-and_left false b p = refl
-
-pub and_right : (a b : Bool) → b ≡ false → a && b ≡ false
-and_right true b p = p
-and_right false b p = refl

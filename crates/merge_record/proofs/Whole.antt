@@ -3,7 +3,7 @@ use Rattle.std.proofs.Common.{◌≡◌, ℕ, zero, suc, ◌+◌, ◌-◌, ◌^�
 use Rattle.std.specs.Prelude.{IfOk}
 use Rattle.std.specs.List.{flat_map, AllByRecursion}
 use Rattle.std.specs.Str.{is_utf8}
-use Rattle.std.proofs.lemmas.Bool.{eqb-true, ltb-false, le-ltb, leb-true}
+use Rattle.std.proofs.lemmas.Bool.{eqb-true, ltb-false, le-ltb, leb-true, and_parts}
 use Rattle.std.proofs.lemmas.List.{append-nil, nil_from_length, take_at, drop_at, take-append-drop, length-append, length-take}
 use Rattle.std.proofs.lemmas.List.Concat.{flat_map-cons}
 use Rattle.file_tree.specs.Paths.{is_path, most_bytes}
@@ -19,16 +19,12 @@ use Rattle.merge_record.specs.declared.record.Placement.{Placement}
 use Rattle.merge_record.proofs.Numbers.{number_takes, number_again}
 use Rattle.merge_record.proofs.Steps.{IsBytes, IsBytes-drop, IsBytes-rest, Reads, Takes, Takes-then, bind_is, bind_ok, guard_ok, ok_is, passed_ok}
 
-pub and_true : (a b : Bool) → a && b ≡ true → (a ≡ true) × (b ≡ true)
-and_true true b h = (refl, h)
-and_true false b h = absurd cc
-
 -- a path has at most 4,095 bytes
 pub is_path-short : (path : List ℕ) → IsPathText path → length path < 256 ^ 2
 unfolding is_path
 is_path-short path h =
-    let p = (and_true _ _ h).1 in
-    let q = (and_true _ _ (and_true _ _ p).1).0 in
+    let p = (and_parts _ _ h).1 in
+    let q = (and_parts _ _ (and_parts _ _ p).1).0 in
     let le : length path ≤ most_bytes = leb-true _ _ q in
     omega arith
 

@@ -1,18 +1,19 @@
 -- The book goes along with the groups' events.
-use Rattle.std.proofs.Common.{◌≡◌, ◌⊎◌, ◌<◌, ◌++◌, ◌||◌, ◌==◌, ◌∷◌, ◌∙◌, ℕ, zero, suc, Bool, true, false, not, cond, List, [], Option, Some, None, ap, inl, inr, refl, subst, sym, length, map, is_some, append_assoc}
+use Rattle.std.proofs.Common.{◌≡◌, ◌⊎◌, ◌<◌, ◌++◌, ◌||◌, ◌==◌, ◌∷◌, ◌∙◌, ℕ, zero, suc, Bool, true, false, not, cond, List, [], Option, Some, None, ap, inl, inr, refl, subst, sym, length, map, is_some, append_assoc, append-nil}
 use Rattle.std.specs.Prelude.{bytes_eq, replicate, slice_set}
-use Rattle.std.proofs.lemmas.List.{get_or-set_same}
-use Rattle.std.proofs.lemmas.Bool.{cases_Bool, cases_eq, cond-false, cond-true, eq-eqb, false≢true, ne_eqb, or_left, or_right, true≢false}
+use Rattle.std.proofs.lemmas.List.{get_or-set_same, map_push}
+use Rattle.std.proofs.lemmas.Bool.{cases_Bool, cases_eq, cond-false, cond-true, eq-eqb, false≢true, ne_eqb, or_left, or_parts, or_right}
+use Rattle.std.proofs.Math.Bool.{or_comm}
 use Rattle.basics.specs.Members.{Has}
 use Rattle.file_tree.specs.Thing.{Thing}
 use Rattle.merge_record.specs.Judging.{are_free, is_in, path_of}
 use Rattle.merge_record.specs.declared.record.OwnerKey.{OwnerKey}
 use Rattle.merge_record.specs.declared.record.Placement.{Placement}
+use Rattle.merge_record.proofs.Free.{is_in-append}
 use Rattle.owner_book.specs.Book as books
 use Rattle.owner_book.specs.Book.{AreDisjoint, Book, ChangesClaim, HasOwnersOf, HasSettled, IsClaimedBy, Parts, claim_in, has, is_wished, key_in, owner_in, settled_owner}
 use Rattle.owner_book.specs.declared.wish.Wish.{Wish}
 use Rattle.journal.specs.Group.{covers}
-use Rattle.journal.proofs.Changes.{is_in-append}
 use Rattle.merge_core.specs.Core.{standing_in}
 use Rattle.merge_core.specs.Event.{Abandon, Acknowledge, Admits, Begin, Claim, CloseGate, Event, OpenGate, PlacePath, PutRecord, PutStage, PutToken, RemovePath, SyncClosed, SyncGate, SyncPlaced, SyncSealed, answered}
 use Rattle.merge_core.specs.Keeping.{Keeping, at_rest, machine_of}
@@ -63,10 +64,6 @@ quiet_end Redone e = absurd (false≢true e)
 quiet_end Odd e = absurd (false≢true e)
 quiet_end Emptied e = absurd (false≢true e)
 
-or_none : (a b : Bool) → a || b ≡ false → (a ≡ false) × (b ≡ false)
-or_none true b e = absurd (true≢false e)
-or_none false b e = (refl, e)
-
 module _ (m : Machine) (fresh : (h : ℕ) → phase_at m.roll h ≡ Idle → (m.roll.standing h).placements ≡ []) where
   same_as : (h : ℕ) → IsBookedAs m.roll h (m.roll.standing h)
   same_as h = record { placements = refl; live = refl; removals = λ e. refl; over = λ e. e }
@@ -77,7 +74,7 @@ module _ (m : Machine) (fresh : (h : ℕ) → phase_at m.roll h ≡ Idle → (m.
   -- a group that claims nothing and isn't over, before and behind
   rests_as : (g : ℕ) (s : Standing) (p : Phase) → phase_at m.roll g ≡ p → is_live p || is_over p ≡ false → s.placements ≡ (m.roll.standing g).placements → is_live s.phase ≡ false → IsBookedAs m.roll g s
   rests_as g s p at rests placements live =
-      let none = or_none (is_live p) (is_over p) rests in
+      let none = or_parts (is_live p) (is_over p) rests in
       record {
         placements = placements;
         live = live ∙ (sym none.0 ∙ ap is_live (sym at));
@@ -129,10 +126,7 @@ module _ (m : Machine) (fresh : (h : ℕ) → phase_at m.roll h ≡ Idle → (m.
 -- ---- lists of groups
 
 pub groups_push : (f : Event → Bool → List ℕ) (es : List trails.Entry) (e : Event) (ok : Bool) → groups_of f (es ++ (e, ok) ∷ []) ≡ groups_of f es ++ f e ok
-groups_push f [] e ok = append_none (f e ok) where
-  append_none : (xs : List ℕ) → xs ++ [] ≡ xs
-  append_none [] = refl
-  append_none (x ∷ xs) = ap (λ l. x ∷ l) (append_none xs)
+groups_push f [] e ok = append-nil (f e ok)
 groups_push f (x ∷ es) e ok = ap (λ (l : List ℕ). f x.0 x.1 ++ l) (groups_push f es e ok) ∙ sym (append_assoc (f x.0 x.1) (groups_of f es) (f e ok))
 
 none_done : (e : Event) (ok : Bool) → keeps_book e ok ≡ true → done_by e ok ≡ []
@@ -153,12 +147,8 @@ none_done (CloseGate g) ok keeps = refl
 none_done (Acknowledge g) ok keeps = refl
 none_done (Abandon g) ok keeps = refl
 
-append_nothing : (xs : List ℕ) → xs ++ [] ≡ xs
-append_nothing [] = refl
-append_nothing (x ∷ xs) = ap (λ l. x ∷ l) (append_nothing xs)
-
 done_same : (es : List trails.Entry) (e : Event) (ok : Bool) → done_by e ok ≡ [] → groups_of done_by (es ++ (e, ok) ∷ []) ≡ groups_of done_by es
-done_same es e ok none = groups_push done_by es e ok ∙ (ap (λ (l : List ℕ). groups_of done_by es ++ l) none ∙ append_nothing (groups_of done_by es))
+done_same es e ok none = groups_push done_by es e ok ∙ (ap (λ (l : List ℕ). groups_of done_by es ++ l) none ∙ append-nil (groups_of done_by es))
 
 -- ---- settled claims
 
@@ -218,10 +208,6 @@ pub set_count : (ws : List (List Wish)) (g : ℕ) (w : List Wish) → length (sl
 set_count [] g w = refl
 set_count (x ∷ ws) zero w = refl
 set_count (x ∷ ws) (suc g) w = ap suc (set_count ws g w)
-
-map_push : {A B : Type 0} (f : A → B) (xs : List A) (x : A) → map f (xs ++ x ∷ []) ≡ map f xs ++ f x ∷ []
-map_push f [] x = refl
-map_push f (y ∷ xs) x = ap (λ l. f y ∷ l) (map_push f xs x)
 
 -- what the standings of a stage are to the book: those of other groups are as they were
 pub record IsStagedAs (k : Keeping) (g : ℕ) (p : Placement) (h : ℕ) (x : Standing) : Type 0 where
@@ -375,10 +361,10 @@ booked_settle k k' es es' ws o b b' g booked taken goes count log settles change
 
 -- ---- a site that was just opened
 
-at_none : (n g : ℕ) → wishes_at (replicate n []) g ≡ []
-at_none zero g = refl
-at_none (suc n) zero = refl
-at_none (suc n) (suc g) = at_none n g
+pub unwished : (n g : ℕ) → wishes_at (replicate n []) g ≡ []
+unwished zero g = refl
+unwished (suc n) zero = refl
+unwished (suc n) (suc g) = unwished n g
 
 -- ---- what a claim takes is apart in the machine, too
 
@@ -390,18 +376,12 @@ wished_path : (ws : List Wish) (q : List ℕ) → is_wished ws q ≡ is_in (map 
 wished_path [] q = refl
 wished_path (w ∷ ws) q = is_key (bytes_eq q w.path) w.owner (key_in ws q) (is_in (map books.path_of ws) q) (wished_path ws q)
 
-or_swap : (a b : Bool) → a || b ≡ b || a
-or_swap true true = refl
-or_swap true false = refl
-or_swap false true = refl
-or_swap false false = refl
-
 -- a group has the paths of its claim
 has_covered : (k : Keeping) (ws : List (List Wish)) (h : ℕ) (q : List ℕ) → map books.path_of (wishes_at ws h) ≡ map path_of (standing_in k.standings h).placements → covers (group_at (machine_of k).roll h) q ≡ true → has (parts_of k ws h) q ≡ true
 has_covered k ws h q paths covered =
     let s = standing_in k.standings h in
     ap (λ (b : Bool). b || is_in s.removals q) (wished_path (wishes_at ws h) q ∙ ap (λ (l : List (List ℕ)). is_in l q) paths)
-    ∙ (or_swap (is_in (map path_of s.placements) q) (is_in s.removals q) ∙ (sym (is_in-append s.removals (map path_of s.placements) q) ∙ covered))
+    ∙ (or_comm (is_in (map path_of s.placements) q) (is_in s.removals q) ∙ (sym (is_in-append s.removals (map path_of s.placements) q) ∙ covered))
 
 pub claim_apart : (k : Keeping) (es : List trails.Entry) (ws : List (List Wish)) (o b b' : Book) (g : ℕ) → IsBooked k es ws o b → (standing_in k.standings g).phase ≡ Sealed → ChangesClaim b b' g (Some (parts_of k ws g)) → AreDisjoint b'
     → are_free [] (record_paths (standing_in k.standings g).removals (wishes_at ws g)) ≡ true → IsApart (machine_of k).roll g
@@ -430,7 +410,7 @@ opened_booked k n ws b rest none unclaimed =
       rows = ap length none ∙ (replicate_count n [] ∙ (sym (replicate_count n resting) ∙ ap (λ (x : Keeping). length x.standings) (sym rest)));
       paths = λ g.
           ap (λ (l : List (List Wish)). map books.path_of (wishes_at l g)) none
-          ∙ (ap (map books.path_of) (at_none n g) ∙ ap (λ (s : Standing). map path_of s.placements) (sym (each g)));
+          ∙ (ap (map books.path_of) (unwished n g) ∙ ap (λ (s : Standing). map path_of s.placements) (sym (each g)));
       claims = λ g.
           ap (λ (cs : List (ℕ × Parts)). claim_in cs g) unclaimed
           ∙ sym (cond-false (is_live (standing_in k.standings g).phase) _ _ (ap (λ (s : Standing). is_live s.phase) (each g)));

@@ -1,11 +1,10 @@
 -- What a machine in order reads: the token, and the stages, which are no paths of a group.
 use Rattle.std.proofs.Common.{◌≡◌, ◌⊎◌, ◌<◌, ◌∷◌, ◌^◌, ◌∙◌, ℕ, zero, suc, true, false, List, [], Option, Some, None, ap, inl, inr, refl, subst, sym, length, map, arith}
 use Rattle.std.specs.Prelude.{IsSome, cond, slice_get, slice_index_or}
-use Rattle.basics.specs.Members.{Has}
-use Rattle.basics.proofs.Membership.{has-append_right, has-map}
+use Rattle.basics.proofs.Membership.{has-append_right, has-map, has-slice_get}
+use Rattle.basics.proofs.Tests.{some-IsSome}
 use Rattle.file_tree.specs.Disk.{Disk, Map}
 use Rattle.file_tree.specs.Paths.{is_below}
-use Rattle.file_tree.specs.Thing.{Thing}
 use Rattle.journal.specs.Group.{covers, token}
 use Rattle.journal.proofs.Changes.{staged_at}
 use Rattle.merge_record.proofs.Form.{in_if_has}
@@ -18,22 +17,13 @@ use Rattle.merge_core.specs.Phase.{Claimed, Open, Phase, has_token, is_working}
 use Rattle.merge_core.specs.Roll.{Machine, group_at, phase_at, some_file}
 use Rattle.merge_core.proofs.Paths.{below_and_not, file_below, target_outside}
 
--- what a list has at a place is in it
-has_at : {A : Type 0} (xs : List A) (i : ℕ) (x : A) → slice_get xs i ≡ Some x → Has xs x
-has_at [] i x e = absurd (cc e)
-has_at (y ∷ xs) zero x e = inl (cc e)
-has_at (y ∷ xs) (suc i) x e = inr (has_at xs i x e)
-
-is_there : (x : Option Thing) (o : Thing) → x ≡ Some o → IsSome x
-is_there x o e = subst (λ (y : Option Thing). IsSome y) (sym e) refl
-
 abbrev some_of : {A : Type 0} → A → Option A
 some_of x = Some x
 
 -- the token of a claimed group stands there
 pub token_there : (opening : Map) (m : Machine) (d : Disk) (g : ℕ) → IsInOrder opening m d → m.stopped ≡ false → g < 2 ^ 32 → phase_at m.roll g ≡ Claimed → IsSome (d.holds (token_path g))
 token_there opening m d g order going small phase =
-    is_there (d.holds (token_path g)) token (order.reads going g (token_path g) (Some token) (inl (record {
+    some-IsSome (d.holds (token_path g)) token (order.reads going g (token_path g) (Some token) (inl (record {
       small = small;
       part = Token;
       path = refl;
@@ -45,7 +35,7 @@ pub stage_there : (opening : Map) (m : Machine) (d : Disk) (g i : ℕ) (p : Plac
     → IsSome (d.holds (stage_path g i))
 stage_there opening m d g i p order going small at =
     let s = staged_at (m.roll.standing g).placements (m.roll.standing g).objects i p (order.firm.sound.staged g) at in
-    is_there (d.holds (stage_path g i)) s.0 (order.reads going g (stage_path g i) (Some s.0) (inl (record {
+    some-IsSome (d.holds (stage_path g i)) s.0 (order.reads going g (stage_path g i) (Some s.0) (inl (record {
       small = small;
       part = Stage i;
       path = refl;
@@ -57,7 +47,7 @@ pub stage_differs : (opening : Map) (m : Machine) (d : Disk) (g i : ℕ) (p : Pl
     → stage_path g i ≡ p.path → ⊥
 stage_differs opening m d g i p order phase at same =
     let s = m.roll.standing g in
-    let has = has-append_right s.removals (map path_of s.placements) p.path (has-map path_of s.placements p (has_at s.placements i p at)) in
+    let has = has-append_right s.removals (map path_of s.placements) p.path (has-map path_of s.placements p (has-slice_get s.placements i p at)) in
     let covered : covers (group_at m.roll g) p.path ≡ true = in_if_has (footprint (group_at m.roll g).content) p.path has in
     let out = target_outside opening m.roll g p.path order.firm.sound (ap is_working phase) covered in
     below_and_not p.path (subst (λ (q : List ℕ). is_below jobs q ≡ true) same (file_below g (Stage i))) out

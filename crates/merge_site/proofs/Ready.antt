@@ -1,6 +1,7 @@
 -- Which groups may begin.
 use Rattle.std.proofs.Common.{◌≡◌, ◌<◌, ◌≤◌, ◌∷◌, ◌∙◌, ℕ, zero, suc, Bool, false, List, [], Some, ap, refl, sym, length, arith}
 use Rattle.std.specs.Prelude.{IsTrue, slice_get, slice_index_or}
+use Rattle.std.proofs.lemmas.Option.{slice_get_within}
 use Rattle.merge_core.specs.Keeping.{Keeping}
 use Rattle.merge_core.specs.Phase.{Idle}
 use Rattle.merge_site.specs.declared.group.SiteGroup.{SiteGroup}
@@ -26,13 +27,8 @@ not_ready k xs g y hs told there after same fails ready =
     let all = ap (are_told k) (after ∙ ap (λ (x : SiteGroup). x.after.items) here) ∙ ready.told in
     absurd (cc (sym fails ∙ (same ∙ all)))
 
-is_within : {A : Type 0} (xs : List A) (g : ℕ) (x : A) → slice_get xs g ≡ Some x → g < length xs
-is_within [] g x e = absurd (cc e)
-is_within (y ∷ xs) zero x e = omega arith
-is_within (y ∷ xs) (suc g) x e = let less = is_within xs g x e in omega (arith, less)
-
 -- none is ready where none of the groups that there are is
 pub none_ready : (k : Keeping) (xs : List SiteGroup) (n : ℕ) → length xs ≤ n → ((h : ℕ) → h < n → IsReady k xs h → ⊥) → (g : ℕ) → IsReady k xs g → ⊥
 none_ready k xs n all none g ready =
-    let less = is_within xs g ready.group ready.there in
+    let less = slice_get_within xs g ready.group ready.there in
     none g (omega (arith, less, all)) ready

@@ -1,18 +1,14 @@
 -- Packages that change their places stay as consistent as they are.
-use Rattle.std.proofs.Common.{◌≡◌, ◌∙◌, ◌<◌, ◌+◌, ◌||◌, ℕ, zero, suc, Bool, true, false, List, [], ◌∷◌, length, get_or, map, inl, inr, refl, ap, sym, subst, arith}
-use Rattle.std.specs.Prelude.{bytes_eq}
+use Rattle.std.proofs.Common.{◌≡◌, ◌∙◌, ◌<◌, ◌+◌, ◌||◌, ℕ, zero, suc, Bool, true, false, List, [], ◌∷◌, length, get_or, map, refl, ap, sym, subst, arith}
 use Rattle.std.specs.Cmp.{IsTotalOrder}
-use Rattle.std.specs.List.{AllByRecursion, IsDistinct, list_any}
+use Rattle.std.specs.List.{list_any}
 use Rattle.std.specs.List.Sorted.{IsPermutation, IsSortedBy}
 use Rattle.std.proofs.lemmas.Cmp.{nat_list_cmp_total, on_total, then_total}
 use Rattle.std.proofs.lemmas.List.{length-map}
-use Rattle.std.proofs.lemmas.List.Sorted.{Contains-permutation, IsPermutation-map, IsPermutation-sym, list_any-IsPermutation}
-use Rattle.std.proofs.lemmas.Map.Keys.{IsDistinct-IsPermutation}
-use Rattle.std.proofs.lemmas.Slice.Eq.{bytes_eq-Decides}
+use Rattle.std.proofs.lemmas.List.Sorted.{IsPermutation-map, IsPermutation-sym, list_any-IsPermutation}
 use Rattle.version_text.specs.Grammar.{spelling}
-use Rattle.basics.specs.Members.{AreDistinct, Has}
-use Rattle.basics.proofs.Membership.{contains-from_has, has-from_contains}
-use Rattle.basics.proofs.Texts.{bytes_eq-apart, bytes_eq-swap}
+use Rattle.basics.specs.Members.{Has}
+use Rattle.basics.proofs.Permutations.{distinct-moved, has-moved}
 use Rattle.pms_names.specs.Flags.{has}
 use Rattle.dep_atom.specs.Match.{value_matches}
 use Rattle.dep_atom.specs.Values.{AtomValue}
@@ -45,31 +41,6 @@ sorted_through {A} {B} f lt (x ∷ xs) sorted k d low less =
     read_through (z ∷ ys) zero e y lt' = refl
     read_through (z ∷ ys) (suc i) e y lt' = read_through ys i e y (omega (arith, lt'))
 
-moved : {A : Type 0} (xs ys : List A) (x : A) → IsPermutation xs ys → Has xs x → Has ys x
-moved xs ys x perm there = has-from_contains ys x (Contains-permutation xs ys x perm (contains-from_has xs x there))
-
-others_differ : (x : List ℕ) (xs : List (List ℕ)) → (Has xs x → ⊥) → AllByRecursion (λ y. bytes_eq x y ≡ false) xs
-others_differ x [] none = tt
-others_differ x (y ∷ ys) none = (bytes_eq-apart x y (λ e. none (inl (sym e))), others_differ x ys (λ there. none (inr there)))
-
-all_differ : (xs : List (List ℕ)) → AreDistinct xs → IsDistinct bytes_eq xs
-unfolding IsDistinct
-all_differ [] d = tt
-all_differ (x ∷ xs) d = (others_differ x xs d.0, all_differ xs d.1)
-
-none_same : (x : List ℕ) (xs : List (List ℕ)) → AllByRecursion (λ y. bytes_eq x y ≡ false) xs → Has xs x → ⊥
-none_same x [] all there = absurd there
-none_same x (y ∷ ys) all (inl e) = cc ((bytes_eq-Decides x y).1 (sym e), all.0)
-none_same x (y ∷ ys) all (inr there) = none_same x ys all.1 there
-
-distinct_if : (xs : List (List ℕ)) → IsDistinct bytes_eq xs → AreDistinct xs
-unfolding IsDistinct
-distinct_if [] d = tt
-distinct_if (x ∷ xs) d = (none_same x xs d.0, distinct_if xs d.1)
-
-distinct_moved : (xs ys : List (List ℕ)) → IsPermutation xs ys → AreDistinct xs → AreDistinct ys
-distinct_moved xs ys perm d = distinct_if ys (IsDistinct-IsPermutation bytes_eq bytes_eq-swap xs ys perm (all_differ xs d))
-
 module _ (ps qs : List Package) (perm : IsPermutation ps qs) where
   same_fact : (asker : List (List ℕ)) (a : AtomValue) → is_fact (facts_of ps) asker a ≡ is_fact (facts_of qs) asker a
   same_fact asker a = ap (λ (b : Bool). is_block a || b) (list_any-IsPermutation (λ f. value_matches a f asker) (facts_of ps) (facts_of qs) (IsPermutation-map (λ (p : Package). p.facts) ps qs perm))
@@ -78,11 +49,11 @@ module _ (ps qs : List Package) (perm : IsPermutation ps qs) where
   same_met p = ap (λ (fact : AtomValue → Bool). all_hold kind fact (has p.facts.enabled) (tree_of Rdepend p)) (λ i a. same_fact p.facts.enabled a i)
 
   back : (p : Package) → Has qs p → Has ps p
-  back p there = moved qs ps p (IsPermutation-sym ps qs perm) there
+  back p there = has-moved qs ps p (IsPermutation-sym ps qs perm) there
 
   pub consistent_moved : AreConsistent ps → AreConsistent qs
   consistent_moved h = record {
-    apart = distinct_moved (lines_of ps) (lines_of qs) (IsPermutation-map (λ (p : Package). line_of p.facts) ps qs perm) h.apart;
+    apart = distinct-moved (lines_of ps) (lines_of qs) (IsPermutation-map (λ (p : Package). line_of p.facts) ps qs perm) h.apart;
     required = λ p there. h.required p (back p there);
     unblocked = λ p q hp hq. h.unblocked p q (back p hp) (back q hq);
     runtime = λ p there. sym (same_met p) ∙ h.runtime p (back p there);

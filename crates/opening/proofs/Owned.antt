@@ -7,7 +7,8 @@ use Rattle.std.proofs.lemmas.Bool.{cases_Bool, cond-false, cond-true}
 use Rattle.std.proofs.lemmas.List.{length-take, take_more}
 use Rattle.std.proofs.lemmas.Slice.Eq.{bytes_eq-Decides}
 use Rattle.basics.specs.Members.{Has}
-use Rattle.basics.proofs.Texts.{bytes_eq-apart, bytes_eq-same}
+use Rattle.basics.proofs.Texts.{bytes_eq-apart, bytes_eq-same, not_less}
+use Rattle.basics.proofs.Tests.{none_is_not_some}
 use Rattle.pms_names.specs.Flags.{IsRising, byte_order}
 use Rattle.file_tree.specs.Disk.{Map}
 use Rattle.merge_record.specs.Judging.{is_in}
@@ -17,7 +18,7 @@ use Rattle.owner_book.specs.Book.{Book, owner_among, owner_in}
 use Rattle.database_law.specs.Database.{IsCounted, IsDatabase, IsOf, IsTidy, folder, folder_name}
 use Rattle.database_law.specs.Packages.{Installed, id_of, paths}
 use Rattle.database_law.specs.Step.{Owns}
-use Rattle.database_law.proofs.Places.{all_less, cases_option, counted_dropped, counted_of, none_is_not_some, not_less, one_of_rising, path_free}
+use Rattle.database_law.proofs.Places.{all_less, cases_option, counted_dropped, counted_of, one_of_rising, path_free}
 use Rattle.opening.proofs.Below.{one_name}
 use Rattle.claim_law.specs.Owners.{OwnersAre}
 use Rattle.run_law.specs.Openings.{AreOwners, key_among, key_at, place_of}

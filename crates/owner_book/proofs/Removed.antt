@@ -1,10 +1,11 @@
 -- What the index says of a removal, and books with the same look-ups.
-use Rattle.std.proofs.Common.{◌≡◌, ◌<◌, ◌+◌, ◌==◌, ◌∷◌, ℕ, zero, suc, length, [], Bool, true, cond, List, take, get_or, refl, sym, ap, ◌∙◌, subst, Option, Some, None, not, is_some, inl, inr, slice_get, arith}
+use Rattle.std.proofs.Common.{◌≡◌, ◌<◌, ◌+◌, ◌==◌, ℕ, length, Bool, true, cond, List, take, get_or, refl, sym, ap, ◌∙◌, subst, Option, Some, None, not, is_some, inl, inr}
 use Rattle.std.specs.Prelude.{bytes_eq}
 use Rattle.std.proofs.lemmas.Bool.{and_parts, cases_eq, cond-false, cond-true, eq-eqb, false≢true, ne_eqb, or_cases}
 use Rattle.std.proofs.lemmas.Cmp.{nat_cmp_total}
 use Rattle.std.proofs.lemmas.Map.Lookups.{exact_unsigned}
 use Rattle.std.proofs.lemmas.Slice.Eq.{bytes_eq-Decides}
+use Rattle.std.proofs.lemmas.Option.{slice_get_read}
 use Rattle.merge_record.specs.declared.record.OwnerKey.{OwnerKey}
 use Rattle.merge_record.specs.Judging.{is_in}
 use Rattle.owner_book.specs.declared.index.Slot.{Slot}
@@ -132,11 +133,6 @@ released_back es cs b was mid new g c view owners claims indexed none owned clai
 pub indexed_view : (es : Slots) (cs : List (ℕ × Parts)) (v : Book) → IsBook es cs → book_of es cs ≡ v → IsIndexed v
 indexed_view es cs v b view = record { slots = es; claims = cs; fits = b; is = sym view }
 
-item_there : {A : Type 0} (xs : List A) (i : ℕ) (x : A) → i < length xs → x ≡ get_or xs i x → slice_get xs i ≡ Some x
-item_there [] i x lt is = absurd (omega (arith, lt))
-item_there (y ∷ xs) zero x lt is = ap (λ z. Some z) (sym is)
-item_there (y ∷ xs) (suc i) x lt is = item_there xs i x (omega (arith, lt)) is
-
 pub first_kept_at : (b : Book) (dying : OwnerKey → Bool) (ps : List (List ℕ)) (i : ℕ) (p q : List ℕ) → i < length ps → p ≡ get_or ps i p → q ≡ p → AreRemovable b dying (take i ps) → (MayRemove b dying p → ⊥) → IsFirstKept b dying ps q
 first_kept_at b dying ps i p q lt is same all kept =
-    subst (λ (x : List ℕ). IsFirstKept b dying ps x) (sym same) (record { at = i; there = item_there ps i p lt is; before = all; kept = kept })
+    subst (λ (x : List ℕ). IsFirstKept b dying ps x) (sym same) (record { at = i; there = slice_get_read ps (length ps) i p refl lt is; before = all; kept = kept })

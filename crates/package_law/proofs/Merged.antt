@@ -24,10 +24,9 @@ use Rattle.database_law.specs.Database.{Holds, IsDatabase, IsKept, IsOf, folder}
 use Rattle.database_law.specs.Fields.{Field, Folder, Reads, Says, contents, name_of, text_of}
 use Rattle.database_law.specs.Packages.{Installed, id_of, paths}
 use Rattle.database_law.specs.Step.{Change, GroupKeepsDatabase, IsAfter, Puts, Removes, put}
-use Rattle.database_law.proofs.Places.{counted_below, counted_of}
+use Rattle.database_law.proofs.Places.{counted_below, counted_of, text_there}
 use Rattle.commit_law.specs.Claims.{MayCome}
 use Rattle.claim_law.specs.Granted.{GrantedClaimsAreGood, IsTaken}
-use Rattle.claim_law.proofs.Granted.{text_there}
 use Rattle.claim_law.specs.Owners.{IsWishOf, OwnersAre, Tells, Wishes}
 use Rattle.group_run.specs.Granted.{MayMerge, wishes_for, wishes_in}
 use Rattle.group_run.specs.Working.{all_in, placing}

@@ -4,6 +4,7 @@ use Rattle.std.specs.List.{AllByRecursion}
 use Rattle.std.proofs.lemmas.List.{map-append}
 use Rattle.basics.specs.Members.{AreDistinct, Has}
 use Rattle.basics.proofs.Membership.{has-append_left}
+use Rattle.basics.proofs.Each.{all_by_has, all_has}
 use Rattle.dep_atom.specs.declared.package.Facts.{Facts}
 use Rattle.file_tree.specs.Disk.{Map}
 use Rattle.file_tree.specs.declared.objects.Entry.{Entry}
@@ -31,7 +32,6 @@ use Rattle.package_law.specs.Records.{IsPlain, IsRecordable, RecordsAreReadBack,
 use Rattle.package_law.proofs.LetIn as wished
 use Rattle.package_law.proofs.Merged.{may_come}
 use Rattle.package_law.proofs.Places.{distinct_front}
-use Rattle.package_law.proofs.Records.{all_by_has, all_has}
 use Rattle.package_law.proofs.Runs.{no_groups, none_told, some_groups}
 
 module _ (merged : MergedPackagesAreKept) (back : RecordsAreReadBack) (good : GrantedClaimsAreGood) (keep : GroupsKeepDatabase) (some : SomeAfter)

@@ -6,6 +6,7 @@ use Rattle.std.proofs.lemmas.List.{map-append}
 use Rattle.basics.specs.Members.{AreDistinct, Has}
 use Rattle.basics.proofs.Membership.{has-append_cases, has-append_left, has-append_right, has-map, has-map_back}
 use Rattle.basics.proofs.Texts.{bytes_eq-apart, bytes_eq-same}
+use Rattle.basics.proofs.Tests.{none_is_not_some}
 use Rattle.file_tree.specs.Thing.{Thing}
 use Rattle.file_tree.specs.declared.objects.Entry.{Entry}
 use Rattle.image_fit.specs.Images.{path_of}
@@ -17,7 +18,6 @@ use Rattle.merge_record.specs.declared.record.OwnerKey.{OwnerKey}
 use Rattle.merge_record.proofs.Form.{false_if_absent, has_if_in, in_if_has}
 use Rattle.merge_site.specs.Staging.{placement_of}
 use Rattle.database_law.specs.Step.{put}
-use Rattle.database_law.proofs.Places.{none_is_not_some}
 use Rattle.group_run.specs.Granted.{wishes_for}
 use Rattle.group_run.specs.Working.{object_of, placing}
 use Rattle.owner_book.specs.Book as books

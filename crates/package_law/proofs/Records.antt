@@ -1,25 +1,21 @@
 -- What is written of a package is read back as the package.
-use Rattle.std.proofs.Common.{◌≡◌, ◌∙◌, ◌++◌, ◌&&◌, ℕ, arith, true, false, not, List, [], ◌∷◌, Option, Some, None, inl, inr, refl, ap, append_assoc, codes, eq-eqb, eqb, map, subst, sym}
-use Rattle.std.specs.Prelude.{IsSome, bytes_eq, if◌then◌else◌, slice_index, unwrap_or}
-use Rattle.std.specs.List.{AllByRecursion, IsDistinct, flat_map}
-use Rattle.std.specs.List.Sorted.{IsPermutation, IsStrictlySortedBy}
-use Rattle.std.proofs.lemmas.Bool.{cases_Bool}
-use Rattle.std.proofs.lemmas.List.Sorted.{Contains-permutation, IsPermutation-map, IsPermutation-sym}
-use Rattle.std.proofs.lemmas.Map.Keys.{IsDistinct-IsPermutation}
-use Rattle.std.proofs.lemmas.Slice.Eq.{bytes_eq-Decides}
+use Rattle.std.proofs.Common.{◌≡◌, ◌∙◌, ◌++◌, ℕ, arith, true, false, List, [], ◌∷◌, Option, Some, None, inl, inr, refl, ap, append_assoc, codes, eq-eqb, eqb, map, subst, sym}
+use Rattle.std.specs.Prelude.{IsSome, slice_index, unwrap_or}
+use Rattle.std.specs.List.{AllByRecursion, flat_map}
+use Rattle.std.specs.List.Sorted.{IsStrictlySortedBy}
+use Rattle.std.proofs.lemmas.List.Sorted.{IsPermutation-map, IsPermutation-sym}
 use Rattle.hex.specs.Hex.{encode_lower}
 use Rattle.md5.specs.Md5.{md5}
-use Rattle.basics.specs.Blanks.{is_blank}
 use Rattle.basics.specs.Members.{AreDistinct, Has}
-use Rattle.basics.proofs.Membership.{contains-from_has, has-from_contains, has-map, has-map_back}
-use Rattle.basics.proofs.Texts.{bytes_eq-apart, bytes_eq-swap}
+use Rattle.basics.proofs.Membership.{has-map, has-map_back}
+use Rattle.basics.proofs.Permutations.{distinct-moved, has-moved}
+use Rattle.basics.proofs.Each.{all_has}
 use Rattle.pms_names.specs.Names.{IsName}
 use Rattle.pms_names.specs.declared.kind.Kind.TheVariants as names
 use Rattle.dep_atom.specs.declared.package.Facts.{Facts}
 use Rattle.dep_atom.specs.declared.package.PackageId.{PackageId}
-use Rattle.dep_atom.proofs.Plain.{ArePlain, plain_differs, plain_name}
 use Rattle.dep_group.specs.Trees.{no_trees}
-use Rattle.dep_group.specs.Words.{is_word, texts, words_of}
+use Rattle.dep_group.specs.Words.{texts, words_of}
 use Rattle.dep_group.proofs.WordLemmas.{words-word_blank}
 use Rattle.dep_tree.specs.Texts as dependencies
 use Rattle.required_use.specs.Texts as expressions
@@ -43,6 +39,7 @@ use Rattle.contents_text.specs.declared.owned.Owned.{Owned}
 use Rattle.database_law.specs.Database.{Holds, IsOf, folder}
 use Rattle.database_law.specs.Fields.{AreFlags, AreSlots, Field, Reads, Says, all_bound, contents, eapi, field_text, file_of, flags, is_needed, known, name_of, needs, required, slots, text_of}
 use Rattle.database_law.specs.Packages.{Installed}
+use Rattle.database_law.proofs.Words.{slot_word}
 use Rattle.package_law.specs.Packages.{IsRecorded, held_by}
 use Rattle.package_law.specs.Records.{IsPlain, IsRecordable, RecordsAreReadBack, content_by, needing_nothing, owned_of}
 use Rattle.package_law.proofs.Digests.{is_digest}
@@ -50,43 +47,9 @@ use Rattle.package_law.proofs.Places.{held_at, held_none}
 
 -- ---- lists
 
-pub all_has : {A : Type 0} (P : A → Type 0) (xs : List A) (x : A) → AllByRecursion P xs → Has xs x → P x
-all_has P [] x all has = absurd has
-all_has P (y ∷ ys) x all (inl e) = subst P e all.0
-all_has P (y ∷ ys) x all (inr has) = all_has P ys x all.1 has
-
-pub all_by_has : {A : Type 0} (P : A → Type 0) (xs : List A) → ((x : A) → Has xs x → P x) → AllByRecursion P xs
-all_by_has P [] each = tt
-all_by_has P (x ∷ xs) each = (each x (inl refl), all_by_has P xs (λ y has. each y (inr has)))
-
 all_mapped : {A B : Type 0} (P : B → Type 0) (f : A → B) (xs : List A) → ((x : A) → Has xs x → P (f x)) → AllByRecursion P (map f xs)
 all_mapped P f [] each = tt
 all_mapped P f (x ∷ xs) each = (each x (inl refl), all_mapped P f xs (λ y has. each y (inr has)))
-
-moved : {A : Type 0} (xs ys : List A) (x : A) → IsPermutation xs ys → Has xs x → Has ys x
-moved xs ys x perm has = has-from_contains ys x (Contains-permutation xs ys x perm (contains-from_has xs x has))
-
-others_differ : (x : List ℕ) (xs : List (List ℕ)) → (Has xs x → ⊥) → AllByRecursion (λ y. bytes_eq x y ≡ false) xs
-others_differ x [] none = tt
-others_differ x (y ∷ ys) none = (bytes_eq-apart x y (λ e. none (inl (sym e))), others_differ x ys (λ has. none (inr has)))
-
-all_differ : (xs : List (List ℕ)) → AreDistinct xs → IsDistinct bytes_eq xs
-unfolding IsDistinct
-all_differ [] d = tt
-all_differ (x ∷ xs) d = (others_differ x xs d.0, all_differ xs d.1)
-
-none_same : (x : List ℕ) (xs : List (List ℕ)) → AllByRecursion (λ y. bytes_eq x y ≡ false) xs → Has xs x → ⊥
-none_same x [] all has = absurd has
-none_same x (y ∷ ys) all (inl e) = cc ((bytes_eq-Decides x y).1 (sym e), all.0)
-none_same x (y ∷ ys) all (inr has) = none_same x ys all.1 has
-
-distinct_if : (xs : List (List ℕ)) → IsDistinct bytes_eq xs → AreDistinct xs
-unfolding IsDistinct
-distinct_if [] d = tt
-distinct_if (x ∷ xs) d = (none_same x xs d.0, distinct_if xs d.1)
-
-pub distinct_moved : (xs ys : List (List ℕ)) → IsPermutation xs ys → AreDistinct xs → AreDistinct ys
-distinct_moved xs ys perm d = distinct_if ys (IsDistinct-IsPermutation bytes_eq bytes_eq-swap xs ys perm (all_differ xs d))
 
 -- ---- CONTENTS
 
@@ -128,32 +91,6 @@ content_held kinds.Exec bytes = (record { kind = kinds.Exec; bytes = bytes }, re
 content_held kinds.Link bytes = refl
 
 -- ---- SLOT
-
--- no byte of the text is a blank
-abbrev AreSolid : List ℕ → Type 0
-AreSolid bytes = AllByRecursion (λ b. is_blank b ≡ false) bytes
-
-plain_solid : (bytes : List ℕ) → ArePlain bytes → AreSolid bytes
-plain_solid [] h = tt
-plain_solid (b ∷ bs) h = (rw (plain_differs b 32 refl h.0, plain_differs b 9 refl h.0, plain_differs b 10 refl h.0, plain_differs b 13 refl h.0) refl, plain_solid bs h.1)
-
-solid-append : (xs ys : List ℕ) → AreSolid xs → AreSolid ys → AreSolid (xs ++ ys)
-solid-append [] ys h k = k
-solid-append (x ∷ xs) ys h k = (h.0, solid-append xs ys h.1 k)
-
-solid_word : (b : ℕ) (bs : List ℕ) → AreSolid (b ∷ bs) → is_word (b ∷ bs) ≡ true
-solid_word b [] h = ap not h.0
-solid_word b (c ∷ bs) h = ap (λ x. not x && is_word (c ∷ bs)) h.0 ∙ solid_word c bs h.1
-
-slot_word : (slot subslot : List ℕ) → IsName names.Slot slot → IsName names.Slot subslot → is_word (slot_text slot subslot) ≡ true
-slot_word [] subslot is also = absurd (omega (arith, is.spelled.sized.some))
-slot_word (b ∷ bs) subslot is also =
-    let solid = plain_solid (b ∷ bs) (plain_name names.Slot (b ∷ bs) is) in
-    let more = plain_solid subslot (plain_name names.Slot subslot also) in
-    elim (cases_Bool (bytes_eq (b ∷ bs) subslot)) [
-      | inl e ↦ (ap (λ x. is_word (if x then b ∷ bs else (b ∷ bs) ++ (47 ∷ subslot))) e ∙ solid_word b bs solid)
-      | inr e ↦ (ap (λ x. is_word (if x then b ∷ bs else (b ∷ bs) ++ (47 ∷ subslot))) e ∙ solid_word b (bs ++ (47 ∷ subslot)) (solid-append (b ∷ bs) (47 ∷ subslot) solid (refl, more)))
-    ]
 
 slot_read : (slot subslot : List ℕ) → IsName names.Slot slot → IsName names.Slot subslot → AreSlots (words_of (slot_text slot subslot ++ (10 ∷ []))) slot subslot
 slot_read slot subslot is also = record {
@@ -274,16 +211,16 @@ records_read_back back f files is good distinct filed =
     let told = filed.1 in
     let image = files.image.items in
     let owned = map owned_of told.sorted in
-    let each = λ (e : Entry) (has : Has told.sorted e). all_has IsRecordable image e good (moved told.sorted image e (IsPermutation-sym image told.sorted told.all) has) in
-    let apart = subst (λ (l : List (List ℕ)). AreDistinct l) (sym (same_paths told.sorted)) (distinct_moved (map images.path_of image) (map images.path_of told.sorted) (IsPermutation-map images.path_of image told.sorted told.all) distinct) in
+    let each = λ (e : Entry) (has : Has told.sorted e). all_has IsRecordable image e good (has-moved told.sorted image e (IsPermutation-sym image told.sorted told.all) has) in
+    let apart = subst (λ (l : List (List ℕ)). AreDistinct l) (sym (same_paths told.sorted)) (distinct-moved (map images.path_of image) (map images.path_of told.sorted) (IsPermutation-map images.path_of image told.sorted told.all) distinct) in
     let tells = subst (λ (t : List ℕ). TellsOwned t owned) (sym (told.spelled ∙ same_contents told.sorted)) (back owned (all_mapped IsOwnable owned_of told.sorted (λ e has. ownable e (each e has))) apart) in (
       record { package_is = needing_nothing f; owned = owned },
       record {
         id = is.id;
         owned = λ o has.
             let k = has-map_back owned_of told.sorted o has in
-            (k.0, moved told.sorted image k.0 (IsPermutation-sym image told.sorted told.all) k.1, subst (λ (x : Owned). IsRecorded k.0 x) k.2 (record { path = refl; content = content_held k.0.object.kind k.0.object.bytes }));
-        recorded = λ e has. has-map path_of owned (owned_of e) (has-map owned_of told.sorted e (moved image told.sorted e told.all has));
+            (k.0, has-moved told.sorted image k.0 (IsPermutation-sym image told.sorted told.all) k.1, subst (λ (x : Owned). IsRecorded k.0 x) k.2 (record { path = refl; content = content_held k.0.object.kind k.0.object.bytes }));
+        recorded = λ e has. has-map path_of owned (owned_of e) (has-map owned_of told.sorted e (has-moved image told.sorted e told.all has));
         inside = λ e has. inside f text e (subst (λ (l : List Entry). Has l e) filed.2 has);
         says = subst (λ (l : List Entry). Says (folder (held_by l) f.id) (record { package_is = needing_nothing f; owned = owned })) (sym filed.2) (says f text owned is tells);
       },

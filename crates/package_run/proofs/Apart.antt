@@ -1,7 +1,7 @@
 -- The paths that a book takes for a package are different, and none meets the journal.
 use Rattle.std.proofs.Common.{◌≡◌, ◌∙◌, ◌||◌, ℕ, suc, Bool, true, false, List, [], ◌∷◌, ◌++◌, map, take, Some, inl, inr, refl, ap, sym, subst, append_assoc, append-nil}
 use Rattle.std.specs.Prelude.{bytes_eq, codes, is_some, slice_get}
-use Rattle.std.proofs.lemmas.Bool.{cases_Bool, cond-false, cond-true, or_from}
+use Rattle.std.proofs.lemmas.Bool.{cases_Bool, cond-false, cond-true, false_from_ne_true, or_from, or_parts}
 use Rattle.std.proofs.lemmas.List.{map-append}
 use Rattle.std.proofs.lemmas.Option.{slice_get_within}
 use Rattle.std.proofs.lemmas.Slice.Eq.{bytes_eq-Decides}
@@ -34,22 +34,14 @@ record_meets_none : (id : PackageId) (name : List ℕ) → meets_jobs (record_pa
 unfolding record_path
 record_meets_none id name = refl
 
-not_true : (b : Bool) → (b ≡ true → ⊥) → b ≡ false
-not_true true h = absurd (h refl)
-not_true false h = refl
-
-neither : (a b : Bool) → (a || b) ≡ false → (a ≡ false) × (b ≡ false)
-neither true b h = absurd (cc h)
-neither false b h = (refl, h)
-
 -- a path that isn't reserved doesn't meet the journal
 outside_if_unreserved : (p : List ℕ) → is_reserved p ≡ false → meets_jobs p ≡ false
 outside_if_unreserved p free =
-    let state = (neither (touches database p) (touches own_files p) free).1 in
+    let state = (or_parts (touches database p) (touches own_files p) free).1 in
     let equal : bytes_eq p jobs ≡ true → ⊥ = λ e. cc (below_touches own_files p (subst (λ (x : List ℕ). is_below own_files x ≡ true) (sym ((bytes_eq-Decides p jobs).0 e)) jobs_are_own), state) in
     let under : is_below jobs p ≡ true → ⊥ = λ e. cc (below_touches own_files p (below_further own_files jobs p jobs_are_own e), state) in
     let over : is_below p jobs ≡ true → ⊥ = λ e. cc (above_one_touch own_files p jobs jobs_are_own e, state) in
-    or_from (bytes_eq p jobs) (is_below jobs p || is_below p jobs) (not_true (bytes_eq p jobs) equal) (or_from (is_below jobs p) (is_below p jobs) (not_true (is_below jobs p) under) (not_true (is_below p jobs) over))
+    or_from (bytes_eq p jobs) (is_below jobs p || is_below p jobs) (false_from_ne_true (bytes_eq p jobs) equal) (or_from (is_below jobs p) (is_below p jobs) (false_from_ne_true (is_below jobs p) under) (false_from_ne_true (is_below p jobs) over))
 
 wished : (ws : List Wish) (q : List ℕ) → Has (map path_of ws) q → is_wished ws q ≡ true
 wished [] q has = absurd has

@@ -4,10 +4,11 @@ use Rattle.std.specs.BTreeSet.{insert_key}
 use Rattle.std.specs.declared.cmp.Ordering.TheVariants.{Less}
 use Rattle.basics.specs.Members.{AreDistinct, Has}
 use Rattle.basics.proofs.Membership.{has-append_cases, has-append_left, has-append_right}
+use Rattle.basics.proofs.Texts.{not_less}
 use Rattle.pms_names.specs.Flags.{IsRising, byte_order}
 use Rattle.path_overlap.specs.Indexes.{IsLesser, IsSeen, Seen}
 use Rattle.path_overlap.specs.Overlaps.{IsFirst, StandsTwice}
-use Rattle.path_overlap.proofs.Sets.{is_there, less_further, not_less, was_there}
+use Rattle.path_overlap.proofs.Sets.{is_there, less_further, was_there}
 
 -- of distinct paths none stands twice
 pub none_twice : (ps : List (List ℕ)) (s : List ℕ) → AreDistinct ps → StandsTwice ps s → ⊥

@@ -11,14 +11,14 @@ use Rattle.std.proofs.lemmas.Map.Views.{btree_set_contains_iff}
 use Rattle.std.proofs.lemmas.Option.{MatchOption-at_none}
 use Rattle.basics.specs.Members.{AreDistinct, Has}
 use Rattle.basics.proofs.Membership.{contains-from_has, has-append_cases, has-append_right, has-from_contains}
-use Rattle.basics.proofs.Texts.{less_one_way}
+use Rattle.basics.proofs.Texts.{less_one_way, not_less}
 use Rattle.pms_names.specs.Flags.{IsRising, byte_order}
 use Rattle.file_tree.specs.Paths.{is_below}
 use Rattle.owner_book.specs.Near.{IsLast, IsNext}
 use Rattle.owner_book.proofs.Order.{at_most_begins, begins_below, folder, none_below_last, none_below_next}
 use Rattle.path_overlap.specs.Indexes.{IsSeen, Seen}
 use Rattle.path_overlap.specs.Overlaps.{AreApart, IsFirst, IsOver, IsUnder, StandsTwice}
-use Rattle.path_overlap.proofs.Sets.{behind_later, not_greater, not_less}
+use Rattle.path_overlap.proofs.Sets.{behind_later, not_greater}
 
 one_text : (x y : List ℕ) → byte_order x y ≡ Equal → x ≡ y
 one_text x y e = same_text x y (sym (texts_ties x y ∙ ap is_eq e))

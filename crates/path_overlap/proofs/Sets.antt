@@ -2,31 +2,19 @@
 use Rattle.std.proofs.Common.{◌≡◌, ◌⊎◌, ◌∙◌, ℕ, true, false, List, [], ◌∷◌, ◌++◌, refl, ap, sym, subst, inl, inr}
 use Rattle.std.specs.BTreeSet.{insert_key}
 use Rattle.std.specs.Cmp.Lexicographic.{same_text, texts_ties}
-use Rattle.std.specs.List.{AllByRecursion}
 use Rattle.std.specs.List.Sorted.{IsStrictlySortedBy}
 use Rattle.std.specs.Ordering.{is_eq, is_gt, is_lt, match_ordering, ordering_reverse}
 use Rattle.std.specs.declared.cmp.Ordering.{Ordering}
 use Rattle.std.specs.declared.cmp.Ordering.TheVariants.{Less, Equal, Greater}
-use Rattle.std.proofs.lemmas.Cmp.{nat_list_cmp_total, tied_itself}
+use Rattle.std.proofs.lemmas.Cmp.{nat_list_cmp_total}
 use Rattle.basics.specs.Members.{Has}
-use Rattle.basics.proofs.Texts.{less_one_way}
+use Rattle.basics.proofs.Orderings.{ordering_cases}
+use Rattle.basics.proofs.Each.{all_has}
 use Rattle.pms_names.specs.Flags.{IsRising, byte_order}
-
-less_or : (o : Ordering) → (o ≡ Less) ⊎ ((o ≡ Equal) ⊎ (o ≡ Greater))
-less_or Less = inl refl
-less_or Equal = inr (inl refl)
-less_or Greater = inr (inr refl)
-
--- no text is before itself
-pub not_less : (x y : List ℕ) → x ≡ y → byte_order x y ≡ Less → ⊥
-not_less x y e less =
-    let same : byte_order x x ≡ Equal = tied_itself nat_list_cmp_total x in
-    let h : Equal ≡ Less = sym same ∙ (ap (byte_order x) e ∙ less) in
-    cc
 
 -- of two texts one is before the other, or they are one
 pub text_cases : (x y : List ℕ) → (byte_order x y ≡ Less) ⊎ ((x ≡ y) ⊎ (byte_order y x ≡ Less))
-text_cases x y = elim (less_or (byte_order x y)) [
+text_cases x y = elim (ordering_cases (byte_order x y)) [
   | inl e ↦ inl e
   | inr (inl e) ↦ inr (inl (same_text x y (sym (texts_ties x y ∙ ap is_eq e))))
   | inr (inr e) ↦ inr (inr (nat_list_cmp_total.antisymm y x ∙ ap ordering_reverse e))
@@ -57,7 +45,7 @@ module _ (k : List ℕ) where
   pub was_there : (xs : List (List ℕ)) (t : List ℕ) → Has (with xs) t → (k ≡ t) ⊎ Has xs t
   was_there [] t (inl e) = inl e
   was_there [] t (inr none) = absurd none
-  was_there (x ∷ xs) t has = elim (less_or (byte_order k x)) [
+  was_there (x ∷ xs) t has = elim (ordering_cases (byte_order k x)) [
     | inl e ↦ subst (λ (l : List (List ℕ)). Has l t) (step x xs Less e) has
     | inr (inl e) ↦ inr (subst (λ (l : List (List ℕ)). Has l t) (step x xs Equal e) has)
     | inr (inr e) ↦ (
@@ -69,7 +57,7 @@ module _ (k : List ℕ) where
   pub is_there : (xs : List (List ℕ)) (t : List ℕ) → (k ≡ t) ⊎ Has xs t → Has (with xs) t
   is_there [] t (inl e) = inl e
   is_there [] t (inr none) = absurd none
-  is_there (x ∷ xs) t has = elim (less_or (byte_order k x)) [
+  is_there (x ∷ xs) t has = elim (ordering_cases (byte_order k x)) [
     | inl e ↦ subst (λ (l : List (List ℕ)). Has l t) (sym (step x xs Less e)) has
     | inr (inl e) ↦ (
         let same : k ≡ x = same_text k x (sym (texts_ties k x ∙ ap is_eq e)) in
@@ -81,35 +69,11 @@ module _ (k : List ℕ) where
     ])
   ]
 
-less_than : (x : List ℕ) (ys : List (List ℕ)) (r : List ℕ) → AllByRecursion (λ y. byte_order x y ≡ Less) ys → Has ys r → byte_order x r ≡ Less
-less_than x [] r all has = absurd has
-less_than x (y ∷ ys) r all (inl e) = subst (λ (z : List ℕ). byte_order x z ≡ Less) e all.0
-less_than x (y ∷ ys) r all (inr has) = less_than x ys r all.1 has
-
 -- what stands behind a text of a rising list is greater
 pub behind_later : (front : List (List ℕ)) (x : List ℕ) (behind : List (List ℕ)) (t : List ℕ) → IsRising (front ++ (x ∷ behind)) → Has behind t → byte_order x t ≡ Less
 unfolding IsStrictlySortedBy
-behind_later [] x behind t rising has = less_than x behind t rising.0 has
+behind_later [] x behind t rising has = all_has (λ (z : List ℕ). byte_order x z ≡ Less) behind t rising.0 has
 behind_later (y ∷ front) x behind t rising has = behind_later front x behind t rising.1 has
-
--- two rising lists with the same members are one
-pub same_rising : (xs ys : List (List ℕ)) → IsRising xs → IsRising ys → ((t : List ℕ) → Has xs t → Has ys t) → ((t : List ℕ) → Has ys t → Has xs t) → xs ≡ ys
-unfolding IsStrictlySortedBy
-same_rising [] [] a b h k = refl
-same_rising [] (y ∷ ys) a b h k = absurd (k y (inl refl))
-same_rising (x ∷ xs) [] a b h k = absurd (h x (inl refl))
-same_rising (x ∷ xs) (y ∷ ys) a b h k =
-    let heads : x ≡ y = elim (h x (inl refl)) [
-      | inl e ↦ sym e
-      | inr in-ys ↦ elim (k y (inl refl)) [
-        | inl e ↦ e
-        | inr in-xs ↦ absurd (less_one_way y x (less_than y ys x b.0 in-ys) (less_than x xs y a.0 in-xs))
-      ]
-    ] in
-    let tails = same_rising xs ys a.1 b.1
-    (λ t has. elim (h t (inr has)) [ inr later ↦ later | inl e ↦ absurd (not_less x t (heads ∙ e) (less_than x xs t a.0 has)) ])
-    (λ t has. elim (k t (inr has)) [ inr later ↦ later | inl e ↦ absurd (not_less y t (sym heads ∙ e) (less_than y ys t b.0 has)) ]) in
-    ap (λ (z : List ℕ). z ∷ xs) heads ∙ ap (λ (zs : List (List ℕ)). y ∷ zs) tails
 
 is_lt_less : (o : Ordering) → is_lt o ≡ true → o ≡ Less
 is_lt_less Less h = refl

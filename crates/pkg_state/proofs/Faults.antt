@@ -2,6 +2,7 @@
 use Rattle.std.proofs.Common.{◌≡◌, ◌⊎◌, ◌∙◌, ◌&&◌, Bool, true, false, cond, not, List, Option, Some, None, refl, ap, sym, subst, inl, inr}
 use Rattle.std.specs.List.{find, list_any}
 use Rattle.std.proofs.lemmas.Bool.{and_from, and_parts, both_ways, cases_Bool, not-false, not-true}
+use Rattle.std.proofs.lemmas.Option.{same_Some}
 use Rattle.basics.specs.Members.{Has}
 use Rattle.dep_atom.specs.declared.package.PackageId.{PackageId}
 use Rattle.pkg_state.specs.Package.{Package}
@@ -85,13 +86,10 @@ fault_is ps p (Runtime one missing) w =
     ∙ (ap (λ (b : Bool). cond b None (Some (Runtime p.facts.id (lacking_leaf (facts_of ps) Rdepend p)))) w.3
     ∙ (let one_is = sym w.0 in let leaf_is = sym w.4 in λ i. Some (Runtime (one_is i) (leaf_is i)))))
 
-some_same : {A : Type 0} (x y : A) → Some x ≡ Some y → x ≡ y
-some_same x y e = cc e
-
 one_wrong : (ps : List Package) (a b : Fault) → IsFirstWrong ps a → IsFirstWrong ps b → a ≡ b
 one_wrong ps a b v w =
-    let same : v.one ≡ w.one = some_same v.one w.one (sym v.first ∙ w.first) in
-    some_same a b (sym (fault_is ps w.one a (subst (λ (p : Package). IsWrong ps p a) same v.why)) ∙ fault_is ps w.one b w.why)
+    let same : v.one ≡ w.one = same_Some v.one w.one (sym v.first ∙ w.first) in
+    same_Some a b (sym (fault_is ps w.one a (subst (λ (p : Package). IsWrong ps p a) same v.why)) ∙ fault_is ps w.one b w.why)
 
 -- a fault is of two on one line, or of a package that isn't right
 data Sort (ps : List Package) (a : Fault) : Type 0 where

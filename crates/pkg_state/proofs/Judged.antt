@@ -2,7 +2,7 @@
 use Rattle.std.proofs.Common.{◌≡◌, ◌&&◌, Bool, true, false, not, List, Option, Some, None, refl}
 use Rattle.std.specs.Prelude.{IfErr, IfSome, MatchResult, OnOk, Result, Ok, Err}
 use Rattle.std.specs.List.{find}
-use Rattle.std.proofs.lemmas.Bool.{both_ways, false≢true, not-true}
+use Rattle.std.proofs.lemmas.Bool.{both_ways, false_from_ne_true, false≢true, not-true}
 use Rattle.pkg_state.specs.Package.{Package}
 use Rattle.pkg_state.specs.Consistent.{AreApart, AreConsistent, blocks, facts_of, fits_required, is_blocked, is_met}
 use Rattle.pkg_state.specs.Fault.{Fault, IsFirstFault, IsTold, IsWrong, is_right, told}
@@ -20,12 +20,8 @@ not_right true true false e = absurd (false≢true e)
 not_right true false c e = absurd (false≢true e)
 not_right false b c e = absurd (false≢true e)
 
-false_if_not : (b : Bool) → (b ≡ true → ⊥) → b ≡ false
-false_if_not true h = absurd (h refl)
-false_if_not false h = refl
-
 pub wrong_is_not_right : (ps : List Package) (p : Package) (a : Fault) → IsWrong ps p a → is_right ps p ≡ false
-wrong_is_not_right ps p a w = false_if_not (is_right ps p) (λ e.
+wrong_is_not_right ps p a w = false_from_ne_true (is_right ps p) (λ e.
     let parts = not_right (fits_required p) (not (is_blocked ps p)) (is_met (facts_of ps) Rdepend p) e in
     clash a w parts.0 parts.1 parts.2) where
       clash : (a : Fault) → IsWrong ps p a → fits_required p ≡ true → not (is_blocked ps p) ≡ true → is_met (facts_of ps) Rdepend p ≡ true → ⊥

@@ -27,7 +27,7 @@ use Rattle.pkg_state.specs.declared.class.Class.TheVariants.{Pdepend, Rdepend}
 use Rattle.pkg_state.proofs.Lists.{any_map, any_of_kind, find_map, find_of_kind}
 
 -- the parts of a match that name the package
-same_package : (a : AtomValue) (f : Facts) (asker : List (List ℕ)) → value_matches a f asker ≡ true → bytes_eq a.name.«package» f.id.name.«package» ≡ true
+pub same_package : (a : AtomValue) (f : Facts) (asker : List (List ℕ)) → value_matches a f asker ≡ true → bytes_eq a.name.«package» f.id.name.«package» ≡ true
 same_package a f asker e =
     let rest : Bool = accepts_version a.op a.star a.version f.id.version && (accepts_slot a.slot f.slot f.subslot && list_all (accepts_use f.iuse f.enabled asker) a.uses) in
     let name = (and_parts (same_name a.name f.id.name) rest e).0 in

@@ -1,15 +1,17 @@
 -- A state is what it has on each line.
 use Rattle.std.proofs.Common.{◌≡◌, ◌∙◌, ℕ, Bool, true, false, cond, List, [], ◌∷◌, Some, None, refl, ap, sym, subst, inl, inr}
 use Rattle.std.specs.Prelude.{bytes_eq}
-use Rattle.std.specs.Cmp.Lexicographic.{nat_list_cmp_total, nat_list_eq_equiv, slice_cmp}
+use Rattle.std.specs.Cmp.Lexicographic.{nat_list_eq_equiv, slice_cmp}
 use Rattle.std.specs.List.{AllByRecursion}
 use Rattle.std.specs.List.Sorted.{IsStrictlySortedBy}
-use Rattle.std.specs.Ordering.{is_eq, nat_cmp, ordering_reverse}
-use Rattle.std.specs.declared.cmp.Ordering.TheVariants.{Greater, Less}
+use Rattle.std.specs.Ordering.{is_eq, nat_cmp}
+use Rattle.std.specs.declared.cmp.Ordering.TheVariants.{Less}
 use Rattle.std.proofs.lemmas.Bool.{cases_Bool}
 use Rattle.std.proofs.lemmas.Map.Text.{is_eq-slice_cmp}
 use Rattle.std.proofs.lemmas.Slice.Eq.{bytes_eq-Decides}
+use Rattle.std.proofs.lemmas.Option.{same_Some}
 use Rattle.basics.specs.Members.{Has}
+use Rattle.basics.proofs.Texts.{bytes_eq-same, less_one_way}
 use Rattle.pkg_state.specs.Package.{Package, line_of, lines_of}
 use Rattle.pkg_state.specs.State.{IsState, on_line}
 use Rattle.pkg_state.proofs.Lists.{found_passes, not_found, any_none}
@@ -31,22 +33,11 @@ differs x y less = sym (is_eq-slice_cmp x y) ∙ ap is_eq less
 nothing_below : (x : List ℕ) (ps : List Package) → Above x ps → on_line ps x ≡ None
 nothing_below x ps above = not_found (λ p. bytes_eq x (line p)) ps (any_none (λ p. bytes_eq x (line p)) ps (λ p has. differs x (line p) (above_has x ps p above has)))
 
-itself : (x : List ℕ) → bytes_eq x x ≡ true
-itself x = (bytes_eq-Decides x x).1 refl
-
-some_same : {A : Type 0} (x y : A) → Some x ≡ Some y → x ≡ y
-some_same x y e = cc e
-
 first_is : (p : Package) (ps : List Package) (x : List ℕ) → bytes_eq x (line p) ≡ true → on_line (p ∷ ps) x ≡ Some p
 first_is p ps x e = ap (λ (b : Bool). cond b (Some p) (on_line ps x)) e
 
 first_is_not : (p : Package) (ps : List Package) (x : List ℕ) → bytes_eq x (line p) ≡ false → on_line (p ∷ ps) x ≡ on_line ps x
 first_is_not p ps x e = ap (λ (b : Bool). cond b (Some p) (on_line ps x)) e
-
-no_less : (x y : List ℕ) → slice_cmp nat_cmp x y ≡ Less → slice_cmp nat_cmp y x ≡ Less → ⊥
-no_less x y a b =
-    let r : Less ≡ Greater = sym a ∙ (nat_list_cmp_total.antisymm x y ∙ ap ordering_reverse b) in
-    absurd (cc r)
 
 cons : {p q : Package} {ps qs : List Package} → p ≡ q → ps ≡ qs → p ∷ ps ≡ q ∷ qs
 cons e h i = e i ∷ h i
@@ -58,15 +49,15 @@ later p ps q above h e = above_has (line p) ps q above (found_passes (λ r. byte
 pub one : (ps qs : List Package) → IsState ps → IsState qs → ((x : List ℕ) → on_line ps x ≡ on_line qs x) → ps ≡ qs
 unfolding IsStrictlySortedBy
 one [] [] a b h = refl
-one [] (q ∷ qs) a b h = absurd (let r : None ≡ Some q = h (line q) ∙ first_is q qs (line q) (itself (line q)) in cc r)
-one (p ∷ ps) [] a b h = absurd (let r : None ≡ Some p = sym (h (line p)) ∙ first_is p ps (line p) (itself (line p)) in cc r)
+one [] (q ∷ qs) a b h = absurd (let r : None ≡ Some q = h (line q) ∙ first_is q qs (line q) (bytes_eq-same (line q)) in cc r)
+one (p ∷ ps) [] a b h = absurd (let r : None ≡ Some p = sym (h (line p)) ∙ first_is p ps (line p) (bytes_eq-same (line p)) in cc r)
 one (p ∷ ps) (q ∷ qs) a b h = elim (cases_Bool (bytes_eq (line p) (line q))) [
-  | inr n ↦ absurd (no_less (line p) (line q)
-      (later p ps q a.0 (h (line q) ∙ first_is q qs (line q) (itself (line q))) (nat_list_eq_equiv.symm (line q) (line p) ∙ n))
-      (later q qs p b.0 (sym (h (line p)) ∙ first_is p ps (line p) (itself (line p))) n))
+  | inr n ↦ absurd (less_one_way (line p) (line q)
+      (later p ps q a.0 (h (line q) ∙ first_is q qs (line q) (bytes_eq-same (line q))) (nat_list_eq_equiv.symm (line q) (line p) ∙ n))
+      (later q qs p b.0 (sym (h (line p)) ∙ first_is p ps (line p) (bytes_eq-same (line p))) n))
   | inl y ↦ (
       let lines : line p ≡ line q = (bytes_eq-Decides (line p) (line q)).0 y in
-      let same : p ≡ q = some_same p q (sym (first_is p ps (line p) (itself (line p))) ∙ (h (line p) ∙ first_is q qs (line p) y)) in
+      let same : p ≡ q = same_Some p q (sym (first_is p ps (line p) (bytes_eq-same (line p))) ∙ (h (line p) ∙ first_is q qs (line p) y)) in
       cons same (one ps qs a.1 b.1 (λ x. elim (cases_Bool (bytes_eq x (line p))) [
         | inl e ↦ (
             let at : line p ≡ x = sym ((bytes_eq-Decides x (line p)).0 e) in

@@ -1,9 +1,9 @@
 -- Where no rule refuses, the plan is accepted, and the other way round.
 use Rattle.std.proofs.Common.{◌≡◌, ◌⊎◌, ◌≤◌, ◌+◌, ◌-◌, ◌∙◌, ◌||◌, ◌↔◌, ℕ, Bool, true, false, List, [], ◌∷◌, Option, None, bytes_eq, filter, inl, inr, refl, sym, ap, subst, arith}
-use Rattle.std.proofs.lemmas.Bool.{cases_Bool, cases_eq}
+use Rattle.std.proofs.lemmas.Bool.{both_ways, cases_Bool, cases_eq, false_from_ne_true, true_from_ne_false}
 use Rattle.std.proofs.lemmas.Slice.Eq.{bytes_eq-Decides}
 use Rattle.basics.specs.Members.{AreDistinct, Has}
-use Rattle.basics.proofs.Membership.{has-map, has-map_back}
+use Rattle.basics.proofs.Membership.{has-filter, has-filter_back, has-map, has-map_back}
 use Rattle.dep_atom.specs.declared.package.Facts.{Facts}
 use Rattle.dep_atom.specs.Match.{value_matches}
 use Rattle.dep_atom.specs.Values.{AtomValue}
@@ -20,7 +20,7 @@ use Rattle.plan_law.specs.Plans.{Group, Removal, clears, group_at, no_group}
 use Rattle.plan_law.specs.Lives.{Enters, IsCleared, IsLife, Life, Meets, Moment, commit, never, opening, stretch_of, until}
 use Rattle.plan_law.specs.Accepted.{AreLeft, IsAccepted, IsFirmThrough}
 use Rattle.plan_law.specs.Sound.{bars, is_of_build}
-use Rattle.plan_law.proofs.Members.{filtered, kept, passes_some, some_passes}
+use Rattle.plan_law.proofs.Members.{passes_some, some_passes}
 use Rattle.plan_law.proofs.There.{some_life}
 use Rattle.plan_check.specs.Lives.{lives}
 use Rattle.plan_check.specs.PackageRules.{built_rule, finished_rule, if_left, is_never, left_of, package_rule, plan_rule, required_rule, unbarred_rule}
@@ -30,17 +30,6 @@ use Rattle.plan_check.specs.Verdicts.{demand, each_from, refuse}
 use Rattle.plan_check.proofs.AllLives.{has_lives}
 use Rattle.plan_check.proofs.Clears.{Stands, all_stand, rest_stands, stands_here}
 use Rattle.plan_check.proofs.Trying.{each_none, each_passed}
-
-true_if : (b : Bool) → ¬ (b ≡ false) → b ≡ true
-true_if true h = refl
-true_if false h = absurd (h refl)
-
-false_if : (b : Bool) → ¬ (b ≡ true) → b ≡ false
-false_if true h = absurd (h refl)
-false_if false h = refl
-
-not_both : (b : Bool) → b ≡ true → b ≡ false → ⊥
-not_both b h k = let t : true ≡ false = sym h ∙ k in cc t
 
 module _ {E : Type 0} (plan : List Group) (J : ℕ → Group → Option E → Type 0) where
   -- the rule lets pass at each place of the plan
@@ -66,7 +55,7 @@ module _ (ps qs : List Package) (same : (p : Package) → Has ps p ↔ Has qs p)
   same_match : (asker : List (List ℕ)) (a : AtomValue) → some_match (facts_of ps) asker a ≡ some_match (facts_of qs) asker a
   same_match asker a = elim (cases_Bool (some_match (facts_of ps) asker a)) [
     | inl y ↦ y ∙ sym (one_way asker a ps qs (λ p. (same p).0) y)
-    | inr n ↦ n ∙ sym (false_if (some_match (facts_of qs) asker a) (λ e. not_both (some_match (facts_of ps) asker a) (one_way asker a qs ps (λ p. (same p).1) e) n))
+    | inr n ↦ n ∙ sym (false_from_ne_true (some_match (facts_of qs) asker a) (λ e. both_ways (some_match (facts_of ps) asker a) n (one_way asker a qs ps (λ p. (same p).1) e)))
   ]
 
   pub same_met : (class : Class) (p : Package) → is_met (facts_of ps) class p ≡ is_met (facts_of qs) class p
@@ -86,7 +75,7 @@ module _ (plan : List Group) (start : List Package) where
   same_line : (a b : List ℕ) → ¬ (¬ (a ≡ b)) → a ≡ b
   same_line a b h = elim (cases_Bool (bytes_eq a b)) [
     | inl y ↦ (bytes_eq-Decides a b).0 y
-    | inr n ↦ absurd (h (λ e. not_both (bytes_eq a b) ((bytes_eq-Decides a b).1 e) n))
+    | inr n ↦ absurd (h (λ e. both_ways (bytes_eq a b) n ((bytes_eq-Decides a b).1 e)))
   ]
 
   never_is : (m : Moment) → is_never m ≡ true → m ≡ never
@@ -101,11 +90,11 @@ module _ (plan : List Group) (start : List Package) where
   pub left_are : AreLeft plan start (left_of plan start)
   left_are p = (
     (λ h. let k = has-map_back (λ (x : Life). x.package_is) (filter (λ (x : Life). is_never x.death) xs) p h in
-        let m = filtered (λ (x : Life). is_never x.death) xs k.0 k.1 in
+        let m = has-filter_back (λ (x : Life). is_never x.death) xs k.0 k.1 in
         (k.0, (has_lives plan start k.0).0 m.0, never_is k.0.death m.1, k.2)),
     (λ x. subst (λ (q : Package). Has (left_of plan start) q) x.3
         (has-map (λ (y : Life). y.package_is) (filter (λ (y : Life). is_never y.death) xs) x.0
-        (kept (λ (y : Life). is_never y.death) xs x.0 (listed x.0 x.1) (is_never_at x.0.death x.2)))),
+        (has-filter (λ (y : Life). is_never y.death) xs x.0 (listed x.0 x.1) (is_never_at x.0.death x.2)))),
   )
 
   finally : (ps : List Package) → AreLeft plan start ps → (p : Package) → Has ps p ↔ Has (left_of plan start) p
@@ -149,12 +138,12 @@ module _ (plan : List Group) (start : List Package) where
     not_one_version x y isx isy = each_passed xs (λ (y : Life). refuse (AreOneVersion plan x y) (refused.Occupied (number_of x.birth) x.package_is.facts.id y.package_is.facts.id)) (each_passed xs (versions_of plan start) h.1.1.1.1.0 x (listed x isx)) y (listed y isy)
 
     unblocked : (x y : Life) → IsLife plan start x → IsLife plan start y → Meets plan (stretch_of x) y → blocks x.package_is y.package_is ≡ false
-    unblocked x y isx isy meets = false_if (blocks x.package_is y.package_is) (λ e.
+    unblocked x y isx isy meets = false_from_ne_true (blocks x.package_is y.package_is) (λ e.
         each_passed xs (λ (y : Life). refuse (Meets plan (stretch_of x) y × (blocks x.package_is y.package_is ≡ true)) (refused.Blocked x.package_is.facts.id y.package_is.facts.id))
         (package_passed x isx).1.1.0 y (listed y isy) (meets, e))
 
     unbarred : (g : ℕ) (p : Package) (y : Life) → Has (group_at plan g).additions p → IsLife plan start y → Meets plan (until g) y → bars p y.package_is ≡ false
-    unbarred g p y has is meets = false_if (bars p y.package_is) (λ e.
+    unbarred g p y has is meets = false_from_ne_true (bars p y.package_is) (λ e.
         each_passed xs (λ (y : Life). refuse (Meets plan (until g) y × (bars p y.package_is ≡ true)) (refused.Barred (g + 1) p.facts.id y.package_is.facts.id))
         (addition_passed g p has).1.1.1.1.0 y (listed y is) (meets, e))
 
@@ -180,17 +169,17 @@ module _ (plan : List Group) (start : List Package) where
     finished g p ps has left there =
         let x = (left p).0 there in
         same_met ps (left_of plan start) (finally ps left) Pdepend p
-        ∙ true_if (is_met (facts_of (left_of plan start)) Pdepend p) (stays_met g p x.0.package_is x.0.birth x.0.death has x.1 x.2 x.3)
+        ∙ true_from_ne_false (is_met (facts_of (left_of plan start)) Pdepend p) (stays_met g p x.0.package_is x.0.birth x.0.death has x.1 x.2 x.3)
 
     pub accepted : IsAccepted plan start
     accepted = record {
       ordered = h.0;
       present = present;
-      vacant = λ g p x has is stands twin. true_if (clears (group_at plan g) (line_of p.facts)) (λ off. not_crowded g p x has is (record { stands = stands; twin = twin; stays = off }));
+      vacant = λ g p x has is stands twin. true_from_ne_false (clears (group_at plan g) (line_of p.facts)) (λ off. not_crowded g p x has is (record { stands = stands; twin = twin; stays = off }));
       single = single;
       versions = λ x y isx isy meets same. same_line (line_of x.package_is.facts) (line_of y.package_is.facts) (λ apart. not_one_version x y isx isy (record { meets = meets; same = same; apart = apart }));
       consistent = h.1.1.1.1.1.0;
-      required = λ g p has. true_if (fits_required p) (addition_passed g p has).1.0;
+      required = λ g p has. true_from_ne_false (fits_required p) (addition_passed g p has).1.0;
       lasting = λ x is. (package_passed x is).1.0;
       unblocked = unblocked;
       unbarred = unbarred;
@@ -205,12 +194,12 @@ module _ (plan : List Group) (start : List Package) where
 
     required_none : (p : Package) (b d : Moment) → Enters plan start b p → required_rule (record { package_is = p; birth = b; death = d }) None
     required_none p opening d e = tt
-    required_none p (commit g) d e = λ off. not_both (fits_required p) (ok.required g p e) off
+    required_none p (commit g) d e = λ off. both_ways (fits_required p) off (ok.required g p e)
     required_none p never d e = tt
 
     unbarred_none : (p : Package) (b d : Moment) → Enters plan start b p → unbarred_rule plan start (record { package_is = p; birth = b; death = d }) None
     unbarred_none p opening d e = tt
-    unbarred_none p (commit g) d e = each_none xs (λ (y : Life). refuse (Meets plan (until g) y × (bars p y.package_is ≡ true)) (refused.Barred (g + 1) p.facts.id y.package_is.facts.id)) (λ y h k. not_both (bars p y.package_is) k.1 (ok.unbarred g p y e (is_life y h) k.0))
+    unbarred_none p (commit g) d e = each_none xs (λ (y : Life). refuse (Meets plan (until g) y × (bars p y.package_is ≡ true)) (refused.Barred (g + 1) p.facts.id y.package_is.facts.id)) (λ y h k. both_ways (bars p y.package_is) (ok.unbarred g p y e (is_life y h) k.0) k.1)
     unbarred_none p never d e = tt
 
     built_none : (p : Package) (b d : Moment) → Enters plan start b p → built_rule plan start (record { package_is = p; birth = b; death = d }) None
@@ -221,8 +210,7 @@ module _ (plan : List Group) (start : List Package) where
     final_none : (g : ℕ) (p : Package) (d : Moment) → IsLife plan start (record { package_is = p; birth = commit g; death = d }) → if_left d (refuse (NotMet p) (refused.Final p.facts.id (lacking_leaf (facts_of (left_of plan start)) Pdepend p))) None
     final_none g p opening is = tt
     final_none g p (commit k) is = tt
-    final_none g p never is = λ off. not_both (is_met (facts_of (left_of plan start)) Pdepend p)
-        (ok.finished g p (left_of plan start) is.enters left_are ((left_are p).1 (record { package_is = p; birth = commit g; death = never }, is, refl, refl))) off
+    final_none g p never is = λ off. both_ways (is_met (facts_of (left_of plan start)) Pdepend p) off (ok.finished g p (left_of plan start) is.enters left_are ((left_are p).1 (record { package_is = p; birth = commit g; death = never }, is, refl, refl)))
 
     finished_none : (p : Package) (b d : Moment) → IsLife plan start (record { package_is = p; birth = b; death = d }) → finished_rule plan start (record { package_is = p; birth = b; death = d }) None
     finished_none p opening d is = tt
@@ -235,7 +223,7 @@ module _ (plan : List Group) (start : List Package) where
       (
         ok.lasting x is,
         (
-          each_none xs (λ (y : Life). refuse (Meets plan (stretch_of x) y × (blocks x.package_is y.package_is ≡ true)) (refused.Blocked x.package_is.facts.id y.package_is.facts.id)) (λ y h k. not_both (blocks x.package_is y.package_is) k.1 (ok.unblocked x y is (is_life y h) k.0)),
+          each_none xs (λ (y : Life). refuse (Meets plan (stretch_of x) y × (blocks x.package_is y.package_is ≡ true)) (refused.Blocked x.package_is.facts.id y.package_is.facts.id)) (λ y h k. both_ways (blocks x.package_is y.package_is) (ok.unblocked x y is (is_life y h) k.0) k.1),
           (
             unbarred_none x.package_is x.birth x.death is.enters,
             (built_none x.package_is x.birth x.death is.enters, finished_none x.package_is x.birth x.death is),
@@ -250,7 +238,7 @@ module _ (plan : List Group) (start : List Package) where
       (
         from_none plan (present_at plan start) plan 0 (all_stand plan) (λ g. each_none (group_at plan g).removals (λ (r : Removal). demand (IsPresent plan start g r) (refused.Absent (g + 1) r.id)) (λ r h. ok.present g r h)),
         (
-          from_none plan (vacant_at plan start) plan 0 (all_stand plan) (λ g. each_none (group_at plan g).additions (vacant_of plan start g) (λ p hp. each_none xs (λ (y : Life). refuse (Crowds (group_at plan g) g p y) (refused.Occupied (g + 1) p.facts.id y.package_is.facts.id)) (λ y hy k. not_both (clears (group_at plan g) (line_of p.facts)) (ok.vacant g p y hp (is_life y hy) k.stands k.twin) k.stays))),
+          from_none plan (vacant_at plan start) plan 0 (all_stand plan) (λ g. each_none (group_at plan g).additions (vacant_of plan start g) (λ p hp. each_none xs (λ (y : Life). refuse (Crowds (group_at plan g) g p y) (refused.Occupied (g + 1) p.facts.id y.package_is.facts.id)) (λ y hy k. both_ways (clears (group_at plan g) (line_of p.facts)) k.stays (ok.vacant g p y hp (is_life y hy) k.stands k.twin)))),
           (
             from_none plan apart_rule plan 0 (all_stand plan) ok.single,
             (

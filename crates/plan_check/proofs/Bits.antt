@@ -1,5 +1,5 @@
 -- Setting and joining the bits of a row of words.
-use Rattle.std.proofs.Common.{◌≡◌, ◌≢◌, ◌⊎◌, ◌<◌, ◌≤◌, ◌*◌, ◌/◌, ◌%◌, ◌^◌, ◌∙◌, ◌||◌, ℕ, zero, suc, max, Bool, true, false, List, length, get_or, nat_eq, refl, ap, sym, inl, inr, arith, eq-eqb}
+use Rattle.std.proofs.Common.{◌≡◌, ◌≢◌, ◌<◌, ◌≤◌, ◌*◌, ◌/◌, ◌%◌, ◌^◌, ◌∙◌, ◌||◌, ℕ, zero, suc, max, Bool, true, false, List, length, get_or, nat_eq, refl, ap, sym, inl, inr, arith, eq-eqb}
 use Rattle.std.proofs.Common.{set, w64}
 use Rattle.std.specs.Prelude.{bit_or}
 use Rattle.std.specs.Int.{bit_at}
@@ -8,7 +8,8 @@ use Rattle.std.proofs.lemmas.List.{get_or-set_other, get_or_past}
 use Rattle.std.proofs.lemmas.Grind.{get_or-set_at}
 use Rattle.std.proofs.lemmas.Bool.{cases_lt}
 use Rattle.std.proofs.lemmas.Bool.Decides.{nat_tests}
-use Rattle.std.proofs.lemmas.Nat.Bits.{bit_at_or, bit_at_set_same, bit_at_set_other, bit_at-zero}
+use Rattle.std.proofs.lemmas.Nat.Bits.{bit_at_or, bit_at_set_same, bit_at_set_other, bit_at-zero, bit_at-lt}
+use Rattle.basics.proofs.Tests.{or-false}
 use Rattle.plan_check.specs.Reaching.{has_bit}
 
 pub eq_true : (a b : ℕ) → nat_eq a b ≡ true → a ≡ b
@@ -26,27 +27,17 @@ one_of (suc zero) (suc zero) h k = refl
 one_of (suc zero) (suc (suc y)) h k = absurd (omega (arith, k))
 one_of (suc (suc x)) y h k = absurd (omega (arith, h))
 
-bit_small : (n i : ℕ) → bit_at n i < 2
-bit_small n i = mod-lt (n / 2 ^ i) (omega arith)
-
 pub or_bit : (a b i : ℕ) → nat_eq (bit_at (bit_or a b) i) 1 ≡ (nat_eq (bit_at a i) 1 || nat_eq (bit_at b i) 1)
-or_bit a b i = ap (λ x. nat_eq x 1) (bit_at_or a b i) ∙ one_of (bit_at a i) (bit_at b i) (bit_small a i) (bit_small b i)
-
-or_false : (b : Bool) → b ≡ (b || false)
-or_false true = refl
-or_false false = refl
+or_bit a b i = ap (λ x. nat_eq x 1) (bit_at_or a b i) ∙ one_of (bit_at a i) (bit_at b i) (bit_at-lt a i) (bit_at-lt b i)
 
 pub past_bit : (words : List ℕ) (k : ℕ) → length words ≤ k / 64 → has_bit words k ≡ false
 past_bit words k h = ap (λ w. nat_eq (bit_at w (k % 64)) 1) (get_or_past words (k / 64) 0 h) ∙ ap (λ x. nat_eq x 1) (bit_at-zero (k % 64))
 
-below_or : (a b : ℕ) → (a < b) ⊎ (b ≤ a)
-below_or a b = cases_lt a b
-
 -- a row that was joined with another
 pub joined_bits : (old other new : List ℕ) → ((j : ℕ) → j < length other → get_or new j 0 ≡ bit_or (get_or old j 0) (get_or other j 0)) → ((j : ℕ) → length other ≤ j → get_or new j 0 ≡ get_or old j 0) → (k : ℕ) → has_bit new k ≡ (has_bit old k || has_bit other k)
-joined_bits old other new below past k = elim (below_or (k / 64) (length other)) [
+joined_bits old other new below past k = elim (cases_lt (k / 64) (length other)) [
   | inl h ↦ ap (λ w. nat_eq (bit_at w (k % 64)) 1) (below (k / 64) h) ∙ or_bit (get_or old (k / 64) 0) (get_or other (k / 64) 0) (k % 64)
-  | inr h ↦ ap (λ w. nat_eq (bit_at w (k % 64)) 1) (past (k / 64) h) ∙ (or_false (has_bit old k) ∙ ap (λ b. has_bit old k || b) (sym (past_bit other k h)))
+  | inr h ↦ ap (λ w. nat_eq (bit_at w (k % 64)) 1) (past (k / 64) h) ∙ (sym (or-false (has_bit old k)) ∙ ap (λ b. has_bit old k || b) (sym (past_bit other k h)))
 ]
 
 not_eq : (a b : ℕ) → (a ≡ b → ⊥) → (c : Bool) → nat_eq a b ≡ c → nat_eq a b ≡ false

@@ -1,7 +1,7 @@
 -- Where nothing of a block's name is kept out, nothing is.
-use Rattle.std.proofs.Common.{◌≡◌, ◌⊎◌, ◌||◌, Bool, true, false, List, [], ◌∷◌, None, inl, inr, refl, map}
+use Rattle.std.proofs.Common.{◌≡◌, true, List, [], ◌∷◌, None, inl, inr, map}
 use Rattle.std.specs.List.{list_any}
-use Rattle.std.proofs.lemmas.Bool.{and_parts}
+use Rattle.std.proofs.lemmas.Bool.{and_parts, or_cases}
 use Rattle.basics.specs.Members.{Has}
 use Rattle.dep_atom.specs.Match.{value_matches}
 use Rattle.dep_atom.specs.Values.{AtomValue, atom_value}
@@ -12,10 +12,6 @@ use Rattle.plan_check.specs.Kept.{AreClear, IsFirstKept, IsKept}
 use Rattle.plan_check.specs.Verdicts.{refuse}
 use Rattle.plan_check.specs.declared.blocked.Keeping.{Keeping}
 use Rattle.plan_check.proofs.Trying.{each_none}
-
-or_cases : (a b : Bool) → (a || b) ≡ true → (a ≡ true) ⊎ (b ≡ true)
-or_cases true b h = inl refl
-or_cases false b h = inr h
 
 module _ (plan : List Group) (xs : List Life) (k : Keeping) where
   matched : (atoms : List AtomValue) → AreClear plan xs k atoms → (y : Life) → Has xs y → list_any (λ a. value_matches a y.package_is.facts k.asker.now) atoms ≡ true → ¬ IsKept plan k y

@@ -1,8 +1,8 @@
 -- The first clearing of a line is a moment at which it is cleared, and the only one.
-use Rattle.std.proofs.Common.{◌≡◌, ◌≤◌, ◌+◌, ◌-◌, ◌∙◌, ℕ, suc, Bool, true, false, cond, List, [], ◌∷◌, inl, inr, refl, ap, arith}
-use Rattle.std.proofs.lemmas.Bool.{cases_eq}
+use Rattle.std.proofs.Common.{◌≡◌, ◌+◌, ◌-◌, ◌∙◌, ℕ, suc, Bool, true, false, cond, List, [], ◌∷◌, refl, ap, arith}
 use Rattle.plan_law.specs.Plans.{Group, clears, group_at}
 use Rattle.plan_law.specs.Lives.{IsCleared, Moment, commit, never, opening}
+use Rattle.plan_law.proofs.Cleared.{one_less}
 use Rattle.plan_check.specs.Lives.{clearing}
 
 -- these groups stand in the plan from a place on
@@ -19,21 +19,9 @@ pub stands_here : (plan : List Group) (from : ℕ) (group : Group) (rest : List 
 stands_here plan from group rest s = s from 0 (omega arith)
 
 module _ (plan : List Group) (line : List ℕ) where
-  not_here : (from h : ℕ) → clears (group_at plan from) line ≡ false → from ≤ h → clears (group_at plan h) line ≡ true → from + 1 ≤ h
-  not_here from h none le e = elim (cases_eq from h) [
-    | inl same ↦ absurd (let t : clears (group_at plan from) line ≡ true = ap (λ (n : ℕ). clears (group_at plan n) line) same ∙ e in cc (none, t))
-    | inr other ↦ omega (arith, other, le)
-  ]
-
-  -- where nothing is cleared at a place, the first is that from the next on
-  one_less : (from : ℕ) → clears (group_at plan from) line ≡ false → (m : Moment) → IsCleared plan (from + 1) line m → IsCleared plan from line m
-  one_less from none opening c = absurd c
-  one_less from none (commit g) c = (omega (arith, c.0), c.1, λ h le e. c.2 h (not_here from h none le e) e)
-  one_less from none never c = λ h le e. c h (not_here from h none le e) e
-
   clearing_step : (group : Group) (rest : List Group) (from : ℕ) (b : Bool) → group_at plan from ≡ group → clears group line ≡ b → IsCleared plan (from + 1) line (clearing rest (from + 1) line) → IsCleared plan from line (cond b (commit from) (clearing rest (from + 1) line))
   clearing_step group rest from true here e later = (omega arith, ap (λ (x : Group). clears x line) here ∙ e, λ h le k. le)
-  clearing_step group rest from false here e later = one_less from (ap (λ (x : Group). clears x line) here ∙ e) (clearing rest (from + 1) line) later
+  clearing_step group rest from false here e later = one_less plan line from (ap (λ (x : Group). clears x line) here ∙ e) (clearing rest (from + 1) line) later
 
   pub clearing_is : (rest : List Group) (from : ℕ) → Stands plan from rest → IsCleared plan from line (clearing rest from line)
   clearing_is [] from s = λ h le e. absurd (let none : clears (group_at plan h) line ≡ false = ap (λ (x : Group). clears x line) (s h (h - from) (omega (arith, le))) in cc (none, e))

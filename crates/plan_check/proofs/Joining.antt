@@ -1,5 +1,5 @@
 -- Whether lives lead all through a stretch, by what waits and what rests.
-use Rattle.std.proofs.Common.{◌≡◌, ◌⊎◌, List, [], ◌∷◌, ◌++◌, length, inl, inr, refl, subst, arith, length-append}
+use Rattle.std.proofs.Common.{◌≡◌, ◌⊎◌, List, [], ◌∷◌, ◌++◌, inl, inr, refl, subst, arith, length-append}
 use Rattle.basics.specs.Members.{Has}
 use Rattle.basics.proofs.Membership.{has-append_cases, has-append_left, has-append_right}
 use Rattle.plan_law.specs.Plans.{Group}
@@ -93,7 +93,3 @@ module _ (plan : List Group) (fits : List Life) (s : Stretch) where
 
   pub not_joined : (rest : List Life) → AreJoining plan fits s rest [] → ¬ AreJoined plan fits s
   not_joined rest j k = (arrives_done rest j k.last k.arrives).0 k.outlasts
-
-pub empty_is : {A : Type 0} (xs : List A) → length xs ≡ 0 → xs ≡ []
-empty_is [] h = refl
-empty_is (x ∷ xs) h = absurd (omega (arith, h))

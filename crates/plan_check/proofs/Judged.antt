@@ -1,5 +1,6 @@
 -- Steps that several answers of functions share.
-use Rattle.std.proofs.Common.{◌≡◌, ◌⊎◌, ◌↔◌, ◌<◌, ◌≤◌, ◌∷◌, ◌+◌, ℕ, zero, suc, List, [], Option, None, drop, get_or, length, Result, Ok, Err, IfOk, inl, inr, refl, sym, ap, subst, arith, rules, ◌∙◌, Vec, Global, Some}
+use Rattle.std.proofs.Common.{◌≡◌, ◌⊎◌, ◌↔◌, ◌<◌, ◌≤◌, ◌∷◌, ◌+◌, ℕ, zero, suc, List, [], Option, None, drop, get_or, length, inl, inr, refl, sym, ap, subst, arith, rules, ◌∙◌, Vec, Global, Some}
+use Rattle.basics.proofs.Lists.{at_drop}
 use Rattle.dep_tree.specs.View.{trees_view, view}
 use Rattle.dep_tree.specs.declared.tree.Node.{Node}
 use Rattle.dep_atom.specs.declared.atom.Atom.{Atom}
@@ -16,11 +17,6 @@ use Rattle.plan_check.specs.declared.life.Life.{Life}
 use Rattle.plan_check.specs.Stretches.{IsWithin}
 use Rattle.plan_check.specs.declared.life.Moment.{Moment}
 use Rattle.plan_check.specs.declared.life.Moment.TheVariants.{Commit}
-use Rattle.plan_check.proofs.Places.{at_drop}
-
-pub ok_more : {T E : Type 0} (r : Result T E) (P Q : T → Type 0) → ((x : T) → P x → Q x) → IfOk r P → IfOk r Q
-ok_more (Ok x) P Q more h = more x h
-ok_more (Err e) P Q more h = h
 
 -- a group that a moment names is there
 pub commit_within : (n g : ℕ) (m : Moment) → m ≡ Commit g → IsWithin n (moment_of m) → g < n

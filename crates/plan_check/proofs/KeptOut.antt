@@ -3,6 +3,7 @@ use Rattle.std.proofs.Common.{◌≡◌, ◌||◌, ◌&&◌, ◌+◌, ◌∙◌,
 use Rattle.std.specs.List.{list_any}
 use Rattle.std.specs.Option.{option_map}
 use Rattle.std.proofs.lemmas.List.Folds.{list_any-append}
+use Rattle.basics.proofs.Tests.{and-true}
 use Rattle.dep_atom.specs.Match.{value_matches}
 use Rattle.dep_atom.specs.Values.{AtomValue}
 use Rattle.dep_tree.specs.Grammar.{is_block}
@@ -25,10 +26,6 @@ any_filter : {A : Type 0} (k f : A → Bool) (xs : List A) → list_any f (filte
 any_filter k f [] = refl
 any_filter k f (x ∷ xs) = any_step f (k x) x (filter k xs) ∙ ap (λ (b : Bool). (k x && f x) || b) (any_filter k f xs)
 
-and_true : (b : Bool) → (b && true) ≡ b
-and_true true = refl
-and_true false = refl
-
 module _ (p q : Package) where
   abbrev f : AtomValue → Bool
   f a = value_matches a q.facts p.facts.enabled
@@ -47,7 +44,7 @@ module _ (p q : Package) where
 
   pub bars_kept : is_kept_out (barring_blocks p) p.facts.enabled None q ≡ bars p q
   bars_kept =
-      and_true (list_any f (barring_blocks p))
+      and-true (list_any f (barring_blocks p))
       ∙ joined (strong_blocks_in Rdepend p) _ _ _ (strongly Rdepend)
       (joined (strong_blocks_in Pdepend p) _ _ _ (strongly Pdepend)
       (joined (blocks_in Depend p) _ _ _ (in_class Depend)

@@ -6,10 +6,8 @@ use Rattle.std.proofs.lemmas.List.{get_or-map, length-map, map-append, take_more
 use Rattle.std.proofs.lemmas.List.Elements.{filter-append}
 use Rattle.std.proofs.lemmas.Slice.Eq.{bytes_eq-Decides}
 use Rattle.basics.specs.Members.{Has}
-use Rattle.basics.proofs.Membership.{has-append_cases, has-map}
-use Rattle.plan_law.proofs.Members.{filtered, kept}
+use Rattle.basics.proofs.Membership.{has-append_cases, has-at, has-filter, has-filter_back, has-map}
 use Rattle.plan_check.specs.Verdicts.{each}
-use Rattle.plan_check.proofs.Places.{has_at}
 use Rattle.plan_check.proofs.Trying.{Hears, of_kind}
 use Rattle.pkg_state.specs.Index.{listed, one_under}
 use Rattle.plan_law.specs.Lives as law
@@ -46,13 +44,13 @@ line_at xs lines i x line all lt is at_line =
 pub in_items : (key : law.Life → List ℕ) (xs : List law.Life) (lists : Lists) (text : List ℕ) (items : List Life) → AreKeyed key xs lists → items ≡ listed lists text → (y : law.Life) → Has (lives_of items) y ↔ (Has xs y × (text ≡ key y))
 in_items key xs lists text items are is y =
     let found : lives_of items ≡ keyed key text xs = ap lives_of is ∙ are text in (
-      (λ h. let k = filtered (λ (z : law.Life). bytes_eq text (key z)) xs y (subst (λ (ys : List law.Life). Has ys y) found h) in (k.0, (bytes_eq-Decides text (key y)).0 k.1)),
-      (λ h. subst (λ (ys : List law.Life). Has ys y) (sym found) (kept (λ (z : law.Life). bytes_eq text (key z)) xs y h.0 ((bytes_eq-Decides text (key y)).1 h.1))),
+      (λ h. let k = has-filter_back (λ (z : law.Life). bytes_eq text (key z)) xs y (subst (λ (ys : List law.Life). Has ys y) found h) in (k.0, (bytes_eq-Decides text (key y)).0 k.1)),
+      (λ h. subst (λ (ys : List law.Life). Has ys y) (sym found) (has-filter (λ (z : law.Life). bytes_eq text (key z)) xs y h.0 ((bytes_eq-Decides text (key y)).1 h.1))),
     )
 
 -- the item at a place is one of them
 pub item_at : (items : List Life) (i : ℕ) (x : Life) → i < length items → x ≡ get_or items i x → Has (lives_of items) (life_of x)
-item_at items i x lt is = has-map life_of items x (has_at items i x lt is)
+item_at items i x lt is = has-map life_of items x (has-at items i x lt is)
 
 -- where a rule lets pass what has another key, a look under the text is enough
 pub heard_all : {E : Type 0} (J : law.Life → Option E → Type 0) (key : law.Life → List ℕ) (xs : List law.Life) (lists : Lists) (text : List ℕ) (items : List Life) → AreKeyed key xs lists → items ≡ listed lists text

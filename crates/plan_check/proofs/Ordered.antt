@@ -3,7 +3,7 @@ use Rattle.std.proofs.Common.{◌≡◌, ◌⊎◌, ◌<◌, ◌≤◌, ◌+◌,
 use Rattle.std.proofs.lemmas.Bool.{cases_Bool, cases_order}
 use Rattle.std.proofs.lemmas.Slice.Eq.{bytes_eq-Decides}
 use Rattle.basics.specs.Members.{Has}
-use Rattle.basics.proofs.Membership.{has-append_cases, has-append_left, has-append_right, has-map, has-map_back}
+use Rattle.basics.proofs.Membership.{has-append_cases, has-append_left, has-append_right, has-at, has-map, has-map_back}
 use Rattle.pkg_state.specs.Package.{Package, line_of}
 use Rattle.plan_law.specs.Plans.{Group, Reaches, Removal, WaitsForEarlier, before, clears, group_at, itself, removed_line}
 use Rattle.plan_law.specs.Accepted.{Changes}
@@ -13,7 +13,6 @@ use Rattle.plan_law.proofs.Members.{passes_some, some_passes}
 use Rattle.plan_check.specs.Changes.{AreOrdered, changes_from, changes_of}
 use Rattle.plan_check.specs.Rules.{AreUnordered, line_rule}
 use Rattle.plan_check.proofs.Clears.{Stands, all_stand, rest_stands, stands_here}
-use Rattle.plan_check.proofs.Places.{has_at}
 
 abbrev pub Changed : Type 0
 Changed = List ℕ × ℕ
@@ -196,7 +195,7 @@ module _ (plan : List Group) (all : List Changed) (is_all : all ≡ changes_from
 
   module _ (i : ℕ) (l : List ℕ) (g : ℕ) (lt : i < length all) (is : (l, g) ≡ get_or all i (l, g)) where
     this_changes : Changes plan g l
-    this_changes = changes_at l g (has_at all i (l, g) lt is)
+    this_changes = changes_at l g (has-at all i (l, g) lt is)
 
     pub this_is_there : g < length plan
     this_is_there = is_there l g this_changes

@@ -1,8 +1,8 @@
 -- What reaches a group: itself, and what reaches those that it is after.
-use Rattle.std.proofs.Common.{◌≡◌, ◌⊎◌, ◌↔◌, ◌<◌, ◌||◌, ◌∙◌, ℕ, Bool, true, false, List, [], ◌∷◌, ◌++◌, length, get_or, nat_eq, inl, inr, refl, sym, ap, subst, eq-eqb, suc, arith, length-append}
+use Rattle.std.proofs.Common.{◌≡◌, ◌⊎◌, ◌↔◌, ◌<◌, ◌||◌, ◌∙◌, ℕ, Bool, true, false, List, [], ◌∷◌, ◌++◌, length, get_or, nat_eq, inl, inr, refl, sym, ap, subst, eq-eqb, arith, length-append}
 use Rattle.std.proofs.Math.ListN.{get_or-append}
 use Rattle.std.proofs.Math.Seq.{get_or-append_seam}
-use Rattle.std.proofs.lemmas.Bool.{cases_lt}
+use Rattle.std.proofs.lemmas.Bool.{cases_lt, or_cases, or_left, or_right}
 use Rattle.basics.specs.Members.{Has}
 use Rattle.plan_law.specs.Plans.{Group, Reaches, before, group_at, itself}
 use Rattle.plan_check.specs.Reaching.{AreRows, has_bit, some_row}
@@ -19,26 +19,14 @@ fronted plan g h (before a b w p) = elim (fronted plan g a p) [
   | inr k ↦ inr (k.0, k.1, before a b w k.2)
 ]
 
-or_cases : (a b : Bool) → (a || b) ≡ true → (a ≡ true) ⊎ (b ≡ true)
-or_cases true b h = inl refl
-or_cases false b h = inr h
-
-or_first : (a b : Bool) → a ≡ true → (a || b) ≡ true
-or_first true b h = refl
-or_first false b h = cc
-
-or_second : (a b : Bool) → b ≡ true → (a || b) ≡ true
-or_second true b h = refl
-or_second false b h = h
-
 some_has : (rows : List (List ℕ)) (hs : List ℕ) (k : ℕ) → some_row rows hs k ≡ true → (h : ℕ) × Has hs h × (has_bit (get_or rows h []) k ≡ true)
 some_has rows [] k e = cc
 some_has rows (h ∷ hs) k e = elim (or_cases (has_bit (get_or rows h []) k) (some_row rows hs k) e) [ inl t ↦ (h, inl refl, t) | inr t ↦ let r = some_has rows hs k t in (r.0, inr r.1, r.2) ]
 
 has_some : (rows : List (List ℕ)) (hs : List ℕ) (k h : ℕ) → Has hs h → has_bit (get_or rows h []) k ≡ true → some_row rows hs k ≡ true
 has_some rows [] k h i e = absurd i
-has_some rows (x ∷ hs) k h (inl i) e = or_first (has_bit (get_or rows x []) k) (some_row rows hs k) (subst (λ n. has_bit (get_or rows n []) k ≡ true) (sym i) e)
-has_some rows (x ∷ hs) k h (inr i) e = or_second (has_bit (get_or rows x []) k) (some_row rows hs k) (has_some rows hs k h i e)
+has_some rows (x ∷ hs) k h (inl i) e = or_left (has_bit (get_or rows x []) k) (some_row rows hs k) (subst (λ n. has_bit (get_or rows n []) k ≡ true) (sym i) e)
+has_some rows (x ∷ hs) k h (inr i) e = or_right (has_bit (get_or rows x []) k) (some_row rows hs k) (has_some rows hs k h i e)
 
 -- the next row is right
 pub row_right : (plan : List Group) (width g : ℕ) (rows : List (List ℕ)) (row : List ℕ) → AreRows plan width rows → ((k : ℕ) → Has (group_at plan g).after k → k < length rows) → ((k : ℕ) → has_bit row k ≡ (some_row rows (group_at plan g).after k || nat_eq k g)) → (h : ℕ) → (has_bit row h ≡ true) ↔ Reaches plan g h
@@ -48,8 +36,8 @@ row_right plan width g rows row right below bits h = (
     | inr e ↦ subst (λ n. Reaches plan g n) (sym (eq_true h g e)) itself
   ],
   λ p. bits h ∙ elim (fronted plan g h p) [
-    | inl e ↦ or_second (some_row rows (group_at plan g).after h) (nat_eq h g) (eq-eqb h g e)
-    | inr k ↦ or_first (some_row rows (group_at plan g).after h) (nat_eq h g) (has_some rows (group_at plan g).after h k.0 k.1 ((right.marks k.0 h (below k.0 k.1)).1 k.2))
+    | inl e ↦ or_right (some_row rows (group_at plan g).after h) (nat_eq h g) (eq-eqb h g e)
+    | inr k ↦ or_left (some_row rows (group_at plan g).after h) (nat_eq h g) (has_some rows (group_at plan g).after h k.0 k.1 ((right.marks k.0 h (below k.0 k.1)).1 k.2))
   ],
 )
 
@@ -68,11 +56,6 @@ at_end rows row g within = elim (cases_lt g (length rows)) [
   | inl less ↦ inl (less, get_or-append rows (row ∷ []) [] g less)
   | inr past ↦ let e : g ≡ length rows = omega (arith, within, past, length-append rows (row ∷ [])) in inr (e, ap (λ n. get_or (rows ++ row ∷ []) n []) e ∙ get_or-append_seam rows row [] [])
 ]
-
-pub has_place : (xs : List ℕ) (x : ℕ) → Has xs x → (i : ℕ) × (i < length xs) × (get_or xs i 0 ≡ x)
-has_place [] x h = absurd h
-has_place (y ∷ xs) x (inl e) = (0, omega arith, e)
-has_place (y ∷ xs) x (inr h) = let r = has_place xs x h in (suc r.0, omega (arith, r.1), r.2)
 
 -- one right row more
 pub rows_pushed : (plan : List Group) (width : ℕ) (rows : List (List ℕ)) (row : List ℕ) → AreRows plan width rows → length row ≡ width → ((h : ℕ) → (has_bit row h ≡ true) ↔ Reaches plan (length rows) h) → AreRows plan width (rows ++ row ∷ [])

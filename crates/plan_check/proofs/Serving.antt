@@ -1,42 +1,29 @@
 -- The lives that are gathered by names are those that serve a chain.
-use Rattle.std.proofs.Common.{◌≡◌, ◌⊎◌, ◌||◌, ◌&&◌, ◌↔◌, ℕ, Bool, true, false, List, [], ◌∷◌, Result, Ok, Err, IfOk, IsTrue, bytes_eq, inl, inr, refl}
-use Rattle.std.specs.List.{list_all}
-use Rattle.std.proofs.lemmas.Bool.{and_parts, or_left, or_right}
+use Rattle.std.proofs.Common.{◌≡◌, ◌↔◌, ℕ, Bool, true, List, [], ◌∷◌, Result, Ok, Err, IfOk, IsTrue, bytes_eq, inl, inr}
+use Rattle.std.proofs.lemmas.Bool.{or_cases, or_left, or_right}
 use Rattle.basics.specs.Members.{Has}
-use Rattle.basics.proofs.Membership.{has-append_cases, has-append_left, has-append_right}
-use Rattle.dep_atom.specs.declared.package.Facts.{Facts}
-use Rattle.dep_atom.specs.Match.{accepts_slot, accepts_use, accepts_version, same_name, value_matches}
+use Rattle.basics.proofs.Membership.{has-append_cases, has-append_left, has-append_right, has-filter, has-filter_back}
+use Rattle.dep_atom.specs.Match.{value_matches}
 use Rattle.dep_atom.specs.Values.{AtomValue}
 use Rattle.pkg_state.specs.Package.{Package}
+use Rattle.pkg_state.proofs.Named.{same_package}
 use Rattle.plan_law.specs.Plans.{Group}
 use Rattle.plan_law.specs.Firm as firm
 use Rattle.plan_law.specs.Firm.{IsChained, Serves, is_wanted}
 use Rattle.plan_law.specs.Lives.{Life, Stretch}
-use Rattle.plan_law.proofs.Members.{filtered, kept}
 use Rattle.plan_check.specs.Chains.{AreJoined, Arrives, follows, starts}
 use Rattle.plan_check.specs.Gathered.{gathered, matching}
 use Rattle.plan_check.specs.Index.{keyed, name_key}
 use Rattle.plan_check.specs.Lives.{lives}
 use Rattle.plan_check.proofs.AllLives.{has_lives}
 
--- what an atom matches has its name
-pub of_name : (a : AtomValue) (f : Facts) (asker : List (List ℕ)) → value_matches a f asker ≡ true → bytes_eq a.name.«package» f.id.name.«package» ≡ true
-of_name a f asker e =
-    let rest : Bool = accepts_version a.op a.star a.version f.id.version && (accepts_slot a.slot f.slot f.subslot && list_all (accepts_use f.iuse f.enabled asker) a.uses) in
-    let name = (and_parts (same_name a.name f.id.name) rest e).0 in
-    (and_parts (bytes_eq a.name.category f.id.name.category) (bytes_eq a.name.«package» f.id.name.«package») name).1
-
 pub has_matching : (a : AtomValue) (asker : List (List ℕ)) (xs : List Life) (x : Life) → Has (matching a asker xs) x ↔ (Has xs x × (value_matches a x.package_is.facts asker ≡ true))
 has_matching a asker xs x = (
-  (λ h. let k = filtered (λ (y : Life). value_matches a y.package_is.facts asker) (keyed name_key a.name.«package» xs) x h in
-      ((filtered (λ (y : Life). bytes_eq a.name.«package» (name_key y)) xs x k.0).0, k.1)),
-  (λ h. kept (λ (y : Life). value_matches a y.package_is.facts asker) (keyed name_key a.name.«package» xs) x
-      (kept (λ (y : Life). bytes_eq a.name.«package» (name_key y)) xs x h.0 (of_name a x.package_is.facts asker h.1)) h.1),
+  (λ h. let k = has-filter_back (λ (y : Life). value_matches a y.package_is.facts asker) (keyed name_key a.name.«package» xs) x h in
+      ((has-filter_back (λ (y : Life). bytes_eq a.name.«package» (name_key y)) xs x k.0).0, k.1)),
+  (λ h. has-filter (λ (y : Life). value_matches a y.package_is.facts asker) (keyed name_key a.name.«package» xs) x
+      (has-filter (λ (y : Life). bytes_eq a.name.«package» (name_key y)) xs x h.0 (same_package a x.package_is.facts asker h.1)) h.1),
 )
-
-or_cases : (a b : Bool) → (a || b) ≡ true → (a ≡ true) ⊎ (b ≡ true)
-or_cases true b h = inl refl
-or_cases false b h = inr h
 
 pub gathered_in : (atoms : List AtomValue) (asker : List (List ℕ)) (xs : List Life) (x : Life) → Has (gathered atoms asker xs) x → Has xs x × (is_wanted atoms asker x.package_is ≡ true)
 gathered_in [] asker xs x h = absurd h

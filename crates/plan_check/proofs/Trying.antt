@@ -2,10 +2,10 @@
 use Rattle.std.proofs.Common.{◌≡◌, ◌<◌, ◌+◌, ℕ, Bool, true, false, cond, List, [], ◌∷◌, Option, None, Some, drop, filter, get_or, length, map, refl, subst, inl, inr}
 use Rattle.std.specs.Prelude.{Result, Ok, Err, IfSome}
 use Rattle.basics.specs.Members.{Has}
+use Rattle.basics.proofs.Lists.{at_drop}
 use Rattle.plan_check.specs.Refusals.{Refusal, Says, told}
 use Rattle.plan_check.specs.Verdicts.{both, each, each_from}
 use Rattle.plan_check.specs.declared.refusal.PlanRefused.{PlanRefused}
-use Rattle.plan_check.proofs.Places.{at_drop}
 
 pub both_passed : {E : Type 0} (J K : Option E → Type 0) → J None → (a : Option E) → K a → both J K a
 both_passed J K passed None k = (passed, k)

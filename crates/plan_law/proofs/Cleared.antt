@@ -36,7 +36,7 @@ module _ (plan : List Group) (line : List ℕ) where
   ]
 
   -- where nothing is cleared at a place, the first is that from the next on
-  one_less : (from : ℕ) → clears (group_at plan from) line ≡ false → (m : Moment) → IsCleared plan (from + 1) line m → IsCleared plan from line m
+  pub one_less : (from : ℕ) → clears (group_at plan from) line ≡ false → (m : Moment) → IsCleared plan (from + 1) line m → IsCleared plan from line m
   one_less from none opening c = absurd c
   one_less from none (commit g) c = (omega (arith, c.0), c.1, λ h le e. c.2 h (not_here from h none le e) e)
   one_less from none never c = λ h le e. c h (not_here from h none le e) e

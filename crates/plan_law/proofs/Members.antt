@@ -3,7 +3,7 @@ use Rattle.std.proofs.Common.{◌≡◌, ◌⊎◌, ◌||◌, ℕ, Bool, true, f
 use Rattle.std.specs.List.{list_any}
 use Rattle.std.proofs.lemmas.Bool.{cases_eq, or_left, or_right}
 use Rattle.basics.specs.Members.{AreDistinct, Has}
-use Rattle.basics.proofs.Membership.{has-append_cases, has-map, has-map_back}
+use Rattle.basics.proofs.Membership.{has-append_cases, has-filter_back, has-map, has-map_back}
 
 -- the number is a member, or not
 pub has_or_not : (xs : List ℕ) (n : ℕ) → Has xs n ⊎ (¬ Has xs n)
@@ -17,33 +17,6 @@ has_or_not (x ∷ xs) n = elim (cases_eq x n) [
 ]
 
 module _ {A : Type 0} (f : A → Bool) where
-  has_step : (b : Bool) (y : A) (ys : List A) (x : A) → Has (cond b (y ∷ filter f ys) (filter f ys)) x → ((b ≡ true) × (y ≡ x)) ⊎ Has (filter f ys) x
-  has_step true y ys x (inl e) = inl (refl, e)
-  has_step true y ys x (inr h) = inr h
-  has_step false y ys x h = inr h
-
-  -- what passes the test is a member that does
-  pub filtered : (xs : List A) (x : A) → Has (filter f xs) x → Has xs x × (f x ≡ true)
-  filtered [] x h = absurd h
-  filtered (y ∷ ys) x h = elim (has_step (f y) y ys x h) [
-    | inl e ↦ (inl e.1, ap f (sym e.1) ∙ e.0)
-    | inr later ↦ (let k = filtered ys x later in (inr k.0, k.1))
-  ]
-
-  kept_first : (b : Bool) (y : A) (ys : List A) → b ≡ true → Has (cond b (y ∷ ys) ys) y
-  kept_first true y ys e = inl refl
-  kept_first false y ys e = absurd (cc e)
-
-  kept_later : (b : Bool) (y : A) (ys : List A) (x : A) → Has ys x → Has (cond b (y ∷ ys) ys) x
-  kept_later true y ys x h = inr h
-  kept_later false y ys x h = h
-
-  -- a member that passes stays
-  pub kept : (xs : List A) (x : A) → Has xs x → f x ≡ true → Has (filter f xs) x
-  kept [] x h e = absurd h
-  kept (y ∷ ys) x (inl same) e = subst (λ (z : A). Has (filter f (y ∷ ys)) z) same (kept_first (f y) y (filter f ys) (ap f same ∙ e))
-  kept (y ∷ ys) x (inr h) e = kept_later (f y) y (filter f ys) x (kept ys x h e)
-
   any_step : (b : Bool) (y : A) (ys : List A) → f y ≡ b → (b || list_any f ys) ≡ true → (f y ≡ true) ⊎ (list_any f ys ≡ true)
   any_step true y ys e h = inl e
   any_step false y ys e h = inr h
@@ -65,7 +38,7 @@ module _ {A B : Type 0} (key : A → B) where
   first_differs : (f : A → Bool) (x : A) (xs : List A) → ¬ Has (map key xs) (key x) → ¬ Has (map key (filter f xs)) (key x)
   first_differs f x xs none h =
       let k = has-map_back key (filter f xs) (key x) h in
-      none (subst (λ (z : B). Has (map key xs) z) k.2 (has-map key xs k.0 (filtered f xs k.0 k.1).0))
+      none (subst (λ (z : B). Has (map key xs) z) k.2 (has-map key xs k.0 (has-filter_back f xs k.0 k.1).0))
 
   distinct_step : (b : Bool) (x : A) (ys : List A) → ¬ Has (map key ys) (key x) → AreDistinct (map key ys) → AreDistinct (map key (cond b (x ∷ ys) ys))
   distinct_step true x ys none d = (none, d)

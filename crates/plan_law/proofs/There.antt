@@ -1,8 +1,8 @@
 -- The packages after a run are those whose lives have begun and haven't ended.
-use Rattle.std.proofs.Common.{◌≡◌, ◌<◌, ◌≤◌, ◌+◌, ℕ, Bool, true, false, not, List, [], ◌∷◌, filter, inl, inr, refl, sym, ap, subst, arith, ◌∙◌}
-use Rattle.std.proofs.lemmas.Bool.{cases_Bool, cases_eq, cases_order}
+use Rattle.std.proofs.Common.{◌≡◌, ◌<◌, ◌≤◌, ◌+◌, ℕ, true, false, not, List, [], ◌∷◌, filter, inl, inr, refl, sym, ap, subst, arith, ◌∙◌}
+use Rattle.std.proofs.lemmas.Bool.{cases_Bool, cases_eq, cases_order, not-true}
 use Rattle.basics.specs.Members.{Has}
-use Rattle.basics.proofs.Membership.{has-append_cases, has-append_left, has-append_right}
+use Rattle.basics.proofs.Membership.{has-append_cases, has-append_left, has-append_right, has-filter, has-filter_back}
 use Rattle.pkg_state.specs.Consistent.{AreApart}
 use Rattle.pkg_state.specs.Package.{Package, line_of}
 use Rattle.plan_law.specs.Plans.{Group, GoesOn, Reaches, WaitsForEarlier, after, changed, clears, group_at}
@@ -10,7 +10,7 @@ use Rattle.plan_law.specs.Lives.{ComesBefore, Enters, IsCleared, IsLife, Life, M
 use Rattle.plan_law.specs.Accepted.{Changes, IsAccepted}
 use Rattle.plan_law.proofs.Cleared.{some_first}
 use Rattle.plan_law.proofs.Closed.{HasCome, IsAlive, IsClosed, not_behind, reached, reached_before}
-use Rattle.plan_law.proofs.Members.{distinct_filtered, distinct_joined, filtered, kept}
+use Rattle.plan_law.proofs.Members.{distinct_filtered, distinct_joined}
 
 abbrev pub line : Package → List ℕ
 line p = line_of p.facts
@@ -103,7 +103,7 @@ module _ (plan : List Group) (start : List Package) (f : WaitsForEarlier plan) (
         let x : Life = record { package_is = p; birth = b; death = d } in
         let there = t.all x is (record { born = born; stays = λ h. s (less_come d h) }) in
         has-append_right (group_at plan g).additions (filter (λ (q : Package). not (clears (group_at plan g) (line q))) ps) p
-        (kept (λ (q : Package). not (clears (group_at plan g) (line q))) ps p there (elim (cases_Bool (clears (group_at plan g) (line p))) [ inl e ↦ absurd (none e) | inr e ↦ ap not e ]))
+        (has-filter (λ (q : Package). not (clears (group_at plan g) (line q))) ps p there (elim (cases_Bool (clears (group_at plan g) (line p))) [ inl e ↦ absurd (none e) | inr e ↦ ap not e ]))
 
     there_after : (p : Package) (b d : Moment) → IsLife plan start (record { package_is = p; birth = b; death = d }) → HasCome (g ∷ done) b → ¬ HasCome (g ∷ done) d → Has (changed (group_at plan g) ps) p
     there_after p opening d is born s = stays_there p opening d is tt s (λ e. not_taken (line p) 0 d (omega arith) is.leaves s e)
@@ -124,14 +124,11 @@ module _ (plan : List Group) (start : List Package) (f : WaitsForEarlier plan) (
     alive_after p has = elim (has-append_cases (group_at plan g).additions (filter (λ (q : Package). not (clears (group_at plan g) (line q))) ps) p has) [
       | inl added ↦ (let k = some_life plan start p (commit g) added in
           (record { package_is = p; birth = commit g; death = k.0 }, k.1, refl, record { born = inl refl; stays = brought_stays (line p) k.0 (adds p added) k.1.leaves }))
-      | inr left ↦ (let m = filtered (λ (q : Package). not (clears (group_at plan g) (line q))) ps p left in
+      | inr left ↦ (let m = has-filter_back (λ (q : Package). not (clears (group_at plan g) (line q))) ps p left in
           let k = t.alive p m.0 in
-          let none : clears (group_at plan g) (line k.0.package_is) ≡ false = ap (λ (q : Package). clears (group_at plan g) (line q)) k.2 ∙ not_true (clears (group_at plan g) (line p)) m.1 in
+          let none : clears (group_at plan g) (line k.0.package_is) ≡ false = ap (λ (q : Package). clears (group_at plan g) (line q)) k.2 ∙ not-true (clears (group_at plan g) (line p)) m.1 in
           (k.0, k.1, k.2, record { born = less_come k.0.birth k.3.born; stays = left_stays (line k.0.package_is) (first_after k.0.birth) k.0.death none k.1.leaves k.3.stays }))
-    ] where
-      not_true : (b : Bool) → not b ≡ true → b ≡ false
-      not_true true e = absurd (cc e)
-      not_true false e = refl
+    ]
 
     born_before : (p : Package) (b : Moment) (l : List ℕ) → Enters plan start b p → HasCome done b → line p ≡ l → Changes plan g l → ComesBefore b g
     born_before p opening l e h same cg = tt
@@ -149,7 +146,7 @@ module _ (plan : List Group) (start : List Package) (f : WaitsForEarlier plan) (
     -- what it brings and what it leaves aren't on one line
     not_met : (p q : Package) → Has (group_at plan g).additions p → Has (filter (λ (q : Package). not (clears (group_at plan g) (line q))) ps) q → ¬ (line p ≡ line q)
     not_met p q hp hq e =
-        let m = filtered (λ (q : Package). not (clears (group_at plan g) (line q))) ps q hq in
+        let m = has-filter_back (λ (q : Package). not (clears (group_at plan g) (line q))) ps q hq in
         let k = t.alive q m.0 in
         let same : line k.0.package_is ≡ line p = ap line k.2 ∙ sym e in
         let stands : StandsBefore g k.0 = record {

@@ -1,6 +1,7 @@
 -- A package that comes as the offered one enters, field by field.
 use Rattle.std.proofs.Common.{◌≡◌, ◌∙◌, ◌||◌, ◌<◌, ◌≤◌, ◌+◌, ℕ, Bool, true, false, List, [], Option, None, Some, drop, get_or, length, refl, sym, ap, inl, inr}
 use Rattle.std.specs.Prelude.{bytes_eq}
+use Rattle.basics.proofs.Lists.{at_drop}
 use Rattle.pms_names.specs.Flags.{IsRising, has}
 use Rattle.dep_atom.specs.declared.package.Facts.{Facts}
 use Rattle.dep_tree.specs.Texts.{Dependencies}
@@ -9,7 +10,6 @@ use Rattle.pkg_state.specs.Package.{Package}
 use Rattle.plan_text.specs.Plans.{AdditionValue}
 use Rattle.plan_link.specs.Entering.{all_entered}
 use Rattle.plan_check.proofs.Judged.{drop_end}
-use Rattle.plan_check.proofs.Places.{at_drop}
 use Rattle.plan_link.specs.Offers.{AreOn, ComesAs, IsFirst, Names, with_flags}
 
 pub comes : (a : AdditionValue) (p : Package) (on : List (List ℕ)) (f : Facts) (r pd d b i : Dependencies) (q : Expressions) → AreOn a.enabled p.facts.enabled on

@@ -7,6 +7,7 @@ use Rattle.dep_group.specs.declared.token.Opener.{Opener}
 use Rattle.dep_tree.specs.Texts.{Dependencies}
 use Rattle.dep_tree.specs.View.{trees_view, view}
 use Rattle.dep_tree.specs.declared.tree.Node.{Node}
+use Rattle.dep_tree.proofs.CopyLemmas.{trees_view-map}
 use Rattle.database_law.specs.Fields.{without_equals}
 use Rattle.plan_check.proofs.Judged.{drop_end, trees_at}
 use Rattle.plan_link.specs.Entering.{all_entered, all_left, asks, bound_slot, entered, left, left_by, slot_with}
@@ -32,10 +33,6 @@ put_more (y ∷ xs) x ts = ap (tree y) (put_more xs x ts)
 put_end : (xs : List (Tree (Opener (List ℕ)) AtomValue)) → put xs no_trees ≡ trees_of xs
 put_end [] = refl
 put_end (x ∷ xs) = ap (tree x) (put_end xs)
-
-viewed : (ns : List Node) → trees_view ns ≡ trees_of (map view ns)
-viewed [] = refl
-viewed (n ∷ ns) = ap (tree (view n)) (viewed ns)
 
 -- of the nodes the first ones have entered, and these binds are left
 pub record AreEntering (on : List ℕ → Bool) (binds : List Bind) (nodes : List Node) (i : ℕ) (copies : List Node) (rest : List Bind) : Type 0 where
@@ -64,7 +61,7 @@ one_entered on binds nodes i copies rest behind node copy lt is so_far copied le
 
 pub all_copied : (on : List ℕ → Bool) (binds : List Bind) (nodes : List Node) (i : ℕ) (copies : List Node) (rest : List Bind) → length nodes ≤ i → AreEntering on binds nodes i copies rest → trees_view copies ≡ all_entered on binds (trees_view nodes)
 all_copied on binds nodes i copies rest le so_far =
-    viewed copies ∙ sym (put_end (map view copies))
+    trees_view-map copies ∙ sym (put_end (map view copies))
     ∙ ap (λ (ns : List Node). put (map view copies) (all_entered on rest (trees_view ns))) (sym (drop_end nodes i le))
     ∙ sym so_far.trees_are
 

@@ -1,8 +1,7 @@
 -- The plan of a text in form is in form.
 use Rattle.std.proofs.Common.{◌≡◌, ◌<◌, ◌≤◌, ◌+◌, ◌-◌, ◌&&◌, ℕ, zero, suc, true, List, [], ◌∷◌, length, map, subst, inl, inr, arith}
 use Rattle.std.specs.Prelude.{nat_lt}
-use Rattle.std.proofs.lemmas.Bool.Decides.{nat_tests}
-use Rattle.std.proofs.lemmas.Bool.{and_parts}
+use Rattle.std.proofs.lemmas.Bool.{and_parts, ltb-true}
 use Rattle.basics.specs.Members.{Has}
 use Rattle.basics.proofs.Membership.{has-map_back}
 use Rattle.pkg_state.specs.Package.{Package}
@@ -15,19 +14,16 @@ use Rattle.plan_check.specs.Form.{IsInForm}
 use Rattle.plan_link.specs.Linked.{IsLinked, IsLinkedGroup}
 use Rattle.plan_link.proofs.Pairs.{zip_length}
 
-below : (a b : ℕ) → nat_lt a b ≡ true → a < b
-below a b h = grind (arith, nat_tests)
-
 -- the numbers are above the one and below the other
 between : (low high : ℕ) (ns : List ℕ) (m : ℕ) → rise_between low high ns ≡ true → Has ns m → (low < m) × (m < high)
 between low high [] m h has = absurd has
 between low high (n ∷ ns) m h (inl e) =
     let ends_of = and_parts (nat_lt low n) (nat_lt n high) (and_parts (nat_lt low n && nat_lt n high) (rise_between n high ns) h).0 in
-    subst (λ (k : ℕ). (low < k) × (k < high)) e (below low n ends_of.0, below n high ends_of.1)
+    subst (λ (k : ℕ). (low < k) × (k < high)) e (ltb-true low n ends_of.0, ltb-true n high ends_of.1)
 between low high (n ∷ ns) m h (inr has) =
     let parts = and_parts (nat_lt low n && nat_lt n high) (rise_between n high ns) h in
     let ends_of = and_parts (nat_lt low n) (nat_lt n high) parts.0 in
-    let l : low < n = below low n ends_of.0 in
+    let l : low < n = ltb-true low n ends_of.0 in
     let later = between n high ns m parts.1 has in
     (omega (arith, l, later.0), later.1)
 

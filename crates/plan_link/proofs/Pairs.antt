@@ -1,7 +1,7 @@
 -- Lists whose items belong together place by place.
 use Rattle.std.proofs.Common.{◌≡◌, ◌<◌, ◌≤◌, ◌+◌, ◌∙◌, ℕ, zero, suc, List, [], ◌∷◌, ◌++◌, length, get_or, drop, take, map, refl, sym, ap, subst, arith, add-one}
 use Rattle.std.proofs.Math.Seq.{take-suc}
-use Rattle.std.proofs.lemmas.List.{get_or-map}
+use Rattle.std.proofs.lemmas.List.{get_or-map, take_all}
 use Rattle.std.specs.List.{AllZip}
 use Rattle.plan_check.proofs.Judged.{drop_end}
 
@@ -32,14 +32,8 @@ seen_end f [] i le = omega arith
 seen_end f (x ∷ xs) zero le = absurd (omega (arith, le))
 seen_end f (x ∷ xs) (suc i) le = let k = seen_end f xs i (omega (arith, le)) in omega (arith, k)
 
-take_end : {A : Type 0} (xs : List A) (i : ℕ) → length xs ≤ i → take i xs ≡ xs
-take_end [] zero le = refl
-take_end [] (suc i) le = refl
-take_end (x ∷ xs) zero le = absurd (omega (arith, le))
-take_end (x ∷ xs) (suc i) le = ap (λ (l : List _). x ∷ l) (take_end xs i (omega (arith, le)))
-
 pub zip_end : {A B C : Type 0} (R : B → C → Type 0) (f : A → B) (xs : List A) (ys : List C) (i : ℕ) → length xs ≤ i → AllZip R (take i (map f xs)) ys → AllZip R (map f xs) ys
-zip_end R f xs ys i le h = subst (λ (l : List _). AllZip R l ys) (take_end (map f xs) i (seen_end f xs i le)) h
+zip_end R f xs ys i le h = subst (λ (l : List _). AllZip R l ys) (take_all i (map f xs) (seen_end f xs i le)) h
 
 -- nothing is left of the list at its end
 pub seen_none : {A B : Type 0} (f : A → B) (xs : List A) (i : ℕ) → length xs ≤ i → drop i (map f xs) ≡ []

@@ -1,6 +1,8 @@
 -- What the rules of linking say, one addition after another.
-use Rattle.std.proofs.Common.{◌≡◌, ◌∙◌, ℕ, Bool, true, false, List, [], ◌∷◌, Option, None, Some, refl, sym, subst, inl, inr}
+use Rattle.std.proofs.Common.{◌≡◌, ◌∙◌, ℕ, true, List, [], ◌∷◌, Option, None, Some, refl, sym, subst, inl, inr}
 use Rattle.std.specs.Prelude.{◌≢◌, Result, Ok, Err, IfErr, IfSome}
+use Rattle.std.proofs.lemmas.Option.{none-some}
+use Rattle.std.proofs.lemmas.Bool.{true_from_ne_false}
 use Rattle.basics.specs.Members.{Has}
 use Rattle.pms_names.specs.Flags.{has}
 use Rattle.pkg_state.specs.Package.{Package}
@@ -20,11 +22,8 @@ first_once a (p ∷ ps) o r (inl h) (inr k) = absurd (k.0 h.0)
 first_once a (p ∷ ps) o r (inr h) (inl k) = absurd (h.0 k.0)
 first_once a (p ∷ ps) o r (inr h) (inr k) = first_once a ps o r h.1 k.1
 
-none_some : {A : Type 0} (x : A) → None ≡ Some x → ⊥
-none_some x e = absurd (cc e)
-
 found_clear : (g : ℕ) (a : AdditionValue) (o : Option Package) → IsClear (found_rule g a o)
-found_clear g a None e passed h = none_some _ passed
+found_clear g a None e passed h = none-some _ passed
 found_clear g a (Some p) e passed h = each_clear a.enabled (flag_rule g a p) (λ flag f ok no. ok no.0) e passed h
 
 addition_clear : (offered : List Package) (g : ℕ) (a : AdditionValue) → IsClear (addition_rule offered g a)
@@ -44,12 +43,8 @@ fine_if J (Ok x) clear says ok = tt
 fine_if J (Err e) clear says ok = fault_if J clear ok e says
 
 -- a flag that no rule refuses is known
-is_on : (b : Bool) → (b ≡ false → ⊥) → b ≡ true
-is_on true h = refl
-is_on false h = absurd (h refl)
-
 pub all_known : (g : ℕ) (a : AdditionValue) (p : Package) → each a.enabled (flag_rule g a p) None → (flag : List ℕ) → Has a.enabled flag → has p.facts.iuse flag ≡ true
-all_known g a p passed flag there = is_on (has p.facts.iuse flag) (each_passed a.enabled (flag_rule g a p) passed flag there)
+all_known g a p passed flag there = true_from_ne_false (has p.facts.iuse flag) (each_passed a.enabled (flag_rule g a p) passed flag there)
 
 -- the addition's package is found, and its flags are judged
 pub says_found : {T : Type 0} (offered : List Package) (g : ℕ) (a : AdditionValue) (p : Package) (r : Result T LinkFault) → IsFirst a offered (Some p) → Says (each a.enabled (flag_rule g a p)) r → Says (addition_rule offered g a) r

@@ -3,7 +3,7 @@ use Rattle.std.proofs.Common.{◌≡◌, ◌∙◌, ◌+◌, ◌<◌, ◌≤◌,
 use Rattle.std.specs.Prelude.{nat_lt}
 use Rattle.std.specs.List.{AllByRecursion, flat_map}
 use Rattle.std.specs.Cmp.Derive.{both_true}
-use Rattle.std.proofs.lemmas.Bool.{and_parts}
+use Rattle.std.proofs.lemmas.Bool.{and_parts, eq-eqb, lt-ltb, ltb-true}
 use Rattle.dep_atom.specs.declared.slot.Bind.{Bind}
 use Rattle.plan_text.specs.Lines.{LineValue, line_of}
 use Rattle.plan_text.specs.Numbers.{IsNumber, rise_between}
@@ -15,7 +15,7 @@ use Rattle.plan_text.specs.declared.kind.Kind.TheVariants as kinds
 use Rattle.plan_text.specs.declared.plan.Removal.{Removal}
 use Rattle.plan_text.specs.declared.standing.Place.{Place}
 use Rattle.plan_text.specs.declared.standing.Place.TheVariants as places
-use Rattle.plan_text.proofs.Runs.{AreInForm, addition_text, all_both, all_left, all_right, below, ends-append, group_place, group_rises, inside_ends, inside_runs, is_below, may_end_if, may_end_of, removal_text, runs-append, same_number}
+use Rattle.plan_text.proofs.Runs.{AreInForm, addition_text, all_both, all_left, all_right, ends-append, group_place, group_rises, inside_ends, inside_runs, may_end_if, may_end_of, removal_text, runs-append}
 
 -- the parts of a group
 
@@ -59,8 +59,8 @@ numbers low high [] few h = tt
 numbers low high (n ∷ ns) few h =
     let both = and_parts (nat_lt low n && nat_lt n high) (rise_between n high ns) h in
     let ends_of = and_parts (nat_lt low n) (nat_lt n high) both.0 in
-    let l : low < n = below low n ends_of.0 in
-    let u : n < high = below n high ends_of.1 in
+    let l : low < n = ltb-true low n ends_of.0 in
+    let u : n < high = ltb-true n high ends_of.1 in
     (record { some = omega (arith, l); few = omega (arith, u, few) }, numbers n high ns few both.1)
 
 after_form : (high : ℕ) (ns : List ℕ) → high ≤ 4096 → rise_between 0 high ns ≡ true → AreInForm (after_lines ns)
@@ -86,7 +86,7 @@ groups_end k p t (g ∷ gs) h m few =
     let e = inside_ends (k + 1) t g in
     let rest = groups_end (k + 1) (group_place g) e.0 gs h.1 (may_end_of g h.0.changes) (omega (arith, few)) in
     let rises : group_rises (k + 1) g ≡ true = both_true h.0.earlier (both_true h.0.removals_rise h.0.additions_rise) in
-    let here : runs (standing k p t) (group_lines (k + 1) g) ≡ true = both_true (both_true m (both_true (same_number (k + 1)) (is_below k 4096 lt))) (inside_runs (k + 1) t g ∙ rises) in
+    let here : runs (standing k p t) (group_lines (k + 1) g) ≡ true = both_true (both_true m (both_true (eq-eqb (k + 1) (k + 1) refl) (lt-ltb k 4096 lt))) (inside_runs (k + 1) t g ∙ rises) in
     record {
       follow = runs-append (standing k p t) (group_lines (k + 1) g) (groups_lines (k + 1 + 1) gs)
           ∙ both_true here (ap (λ s. runs s (groups_lines (k + 1 + 1) gs)) e.1 ∙ rest.follow);
@@ -109,7 +109,7 @@ groups_are k p t (g ∷ gs) form e few =
     let both = and_parts (runs (standing k p t) (group_lines (k + 1) g)) (runs (ends (standing k p t) (group_lines (k + 1) g)) (groups_lines (k + 1 + 1) gs)) (sym (runs-append (standing k p t) (group_lines (k + 1) g) (groups_lines (k + 1 + 1) gs)) ∙ e.follow) in
     let first = and_parts (may_end p && (((k + 1) == (k + 1)) && nat_lt k 4096)) (runs (standing (k + 1) places.Group t) (inside g)) both.0 in
     let head = and_parts (may_end p) (((k + 1) == (k + 1)) && nat_lt k 4096) first.0 in
-    let lt : k < 4096 = below k 4096 (and_parts ((k + 1) == (k + 1)) (nat_lt k 4096) head.1).1 in
+    let lt : k < 4096 = ltb-true k 4096 (and_parts ((k + 1) == (k + 1)) (nat_lt k 4096) head.1).1 in
     let at_end = inside_ends (k + 1) t g in
     let later = groups_are (k + 1) (group_place g) at_end.0 gs (all_right (group_lines (k + 1) g) (groups_lines (k + 1 + 1) gs) form) (record {
       follow = ap (λ s. runs s (groups_lines (k + 1 + 1) gs)) (sym at_end.1) ∙ both.1;

@@ -1,5 +1,5 @@
 -- A text is one line at most.
-use Rattle.std.proofs.Common.{◌≡◌, ◌∙◌, ◌+◌, ◌<◌, ◌==◌, true, false, if◌then◌else◌, ℕ, zero, suc, List, [], ◌∷◌, ◌++◌, length, get_or, drop, map, refl, sym, ap, subst, arith}
+use Rattle.std.proofs.Common.{◌≡◌, ◌∙◌, ◌+◌, ◌<◌, ◌==◌, false, if◌then◌else◌, ℕ, zero, suc, List, [], ◌∷◌, ◌++◌, length, get_or, drop, map, refl, sym, ap, subst, arith}
 use Rattle.std.specs.Prelude.{decimal}
 use Rattle.std.specs.List.{All, AllByRecursion, flat_map, join_with_byte, slice_split}
 use Rattle.std.specs.Str.Parse.{digits_value}
@@ -8,6 +8,8 @@ use Rattle.std.proofs.lemmas.Fmt.{decimal-digits_of, decimal_is_IsNumeral}
 use Rattle.std.proofs.lemmas.Bool.Decides.{nat_tests}
 use Rattle.std.proofs.lemmas.List.Elements.{All-from_recursion}
 use Rattle.std.proofs.lemmas.List.Splits.{join_with_byte-slice_split, slice_split_at, slice_split_none}
+use Rattle.std.proofs.lemmas.Bool.{eq-eqb}
+use Rattle.basics.proofs.Lists.{heads_and_tails}
 use Rattle.pms_names.specs.Names.{IsName}
 use Rattle.pms_names.specs.declared.kind.Kind.TheVariants.{Flag, Slot}
 use Rattle.dep_atom.specs.Cuts.{is_plain}
@@ -26,7 +28,7 @@ use Rattle.plan_text.specs.Words.{IsBare, IsBind, IsRemoval, addition_word, bind
 use Rattle.plan_text.specs.declared.kind.Kind.{Kind}
 use Rattle.plan_text.specs.declared.kind.Kind.TheVariants as kinds
 use Rattle.plan_text.specs.declared.plan.Removal.{Removal}
-use Rattle.plan_text.proofs.Split.{id_lacks, lacks-append, lacks-cons, lacks_if_plain, name_lacks}
+use Rattle.plan_text.proofs.Split.{colon_apart, id_lacks, lacks-append, lacks-cons, lacks_if_plain, name_lacks}
 
 -- two texts cut at the first such byte
 
@@ -40,9 +42,6 @@ cut_same c (w ∷ a) [] b y h k e = absurd (h 0 (omega arith) (ap (λ l. get_or 
 cut_same c (w ∷ a) (z ∷ x) b y h k e =
     let rest = cut_same c a x b y (tail_lacks c w a h) (tail_lacks c z x k) (ap (drop 1) e) in
     (ap (λ l. w ∷ l) rest.0 ∙ ap (λ i. i ∷ x) (ap (λ l. get_or l 0 0) e), rest.1)
-
-colon_apart : ◌≡◌ {A = ℕ} 47 58 → ⊥
-colon_apart e = omega (arith, e)
 
 pub one_id : (a b : PackageId) → IsId a → IsId b → id_text a ≡ id_text b → a ≡ b
 one_id a b is js e =
@@ -61,12 +60,9 @@ one_bind a b is js e =
     let cut = cut_same 47 a.slot b.slot a.subslot b.subslot (name_lacks Slot 47 a.slot refl is.slot) (name_lacks Slot 47 b.slot refl js.slot) e in
     λ i. record { slot = cut.0 i; subslot = cut.1 i }
 
-head_same : (x y : List ℕ) (xs ys : List (List ℕ)) → x ∷ xs ≡ y ∷ ys → (x ≡ y) × (xs ≡ ys)
-head_same x y xs ys e = (ap (λ l. get_or l 0 x) e, ap (drop 1) e)
-
 pub one_addition : (a b : AdditionValue) → IsBare a → IsBare b → addition_word a ∷ a.enabled ≡ addition_word b ∷ b.enabled → a ≡ b
 one_addition a b is js e =
-    let ws = head_same (addition_word a) (addition_word b) a.enabled b.enabled e in
+    let ws = heads_and_tails (addition_word a) (addition_word b) a.enabled b.enabled e in
     let cut = cut_same 58 (id_text a.id) (id_text b.id) (slots_word a.slot a.subslot) (slots_word b.slot b.subslot) (id_lacks 58 a.id refl colon_apart is.0.id) (id_lacks 58 b.id refl colon_apart js.0.id) ws.0 in
     let slots = cut_same 47 a.slot b.slot a.subslot b.subslot (name_lacks Slot 47 a.slot refl is.0.slot) (name_lacks Slot 47 b.slot refl js.0.slot) cut.1 in
     let ids : a.id ≡ b.id = one_id a.id b.id is.0.id js.0.id cut.0 in
@@ -82,16 +78,16 @@ some_numbers [] [] h k e = refl
 some_numbers [] (m ∷ ms) h k e = absurd (omega (arith, ap length e))
 some_numbers (n ∷ ns) [] h k e = absurd (omega (arith, ap length e))
 some_numbers (n ∷ ns) (m ∷ ms) h k e =
-    let both = head_same (decimal n) (decimal m) (map decimal ns) (map decimal ms) e in
+    let both = heads_and_tails (decimal n) (decimal m) (map decimal ns) (map decimal ms) e in
     ap (λ x. x ∷ ns) (one_number n m h.0 k.0 both.0) ∙ ap (λ l. m ∷ l) (some_numbers ns ms h.1 k.1 both.1)
 
 one_said : (kind : Kind) (a b : Said kind) → IsSaid kind a → IsSaid kind b → said_words kind a ≡ said_words kind b → line_of kind a ≡ line_of kind b
 one_said kinds.Plan a b is js e = refl
-one_said kinds.Group a b is js e = ap (line_of kinds.Group) (one_number a b is js (head_same (decimal a) (decimal b) [] [] e).0)
+one_said kinds.Group a b is js e = ap (line_of kinds.Group) (one_number a b is js (heads_and_tails (decimal a) (decimal b) [] [] e).0)
 one_said kinds.After a b is js e = ap (line_of kinds.After) (some_numbers a b is.1 js.1 e)
-one_said kinds.Remove a b is js e = ap (line_of kinds.Remove) (one_removal a b is js (head_same (removal_word a) (removal_word b) [] [] e).0)
+one_said kinds.Remove a b is js e = ap (line_of kinds.Remove) (one_removal a b is js (heads_and_tails (removal_word a) (removal_word b) [] [] e).0)
 one_said kinds.Add a b is js e = ap (line_of kinds.Add) (one_addition a b is js e)
-one_said kinds.Bind a b is js e = ap (line_of kinds.Bind) (one_bind a b is js (head_same (bind_word a) (bind_word b) [] [] e).0)
+one_said kinds.Bind a b is js e = ap (line_of kinds.Bind) (one_bind a b is js (heads_and_tails (bind_word a) (bind_word b) [] [] e).0)
 
 -- the heads are told apart by their first two bytes
 abbrev kind_of : List ℕ → Kind
@@ -115,7 +111,7 @@ one_head k j e = sym (of_head k) ∙ ap kind_of e ∙ of_head j
 
 words_once : (l m : LineValue) → IsLine l → IsLine m → line_words l ≡ line_words m → l ≡ m
 words_once l m is js e =
-    let both = head_same (head_text l.kind) (head_text m.kind) (said_words l.kind l.said) (said_words m.kind m.said) e in
+    let both = heads_and_tails (head_text l.kind) (head_text m.kind) (said_words l.kind l.said) (said_words m.kind m.said) e in
     subst (λ j. (b : Said j) → IsSaid j b → said_words l.kind l.said ≡ said_words j b → line_of l.kind l.said ≡ line_of j b)
     (one_head l.kind m.kind both.0) (λ b form. one_said l.kind l.said b is form) m.said js both.1
 
@@ -190,10 +186,7 @@ none_is c w h = All-from_recursion (λ b. (b == c) ≡ false) w (go w h)
 split_words : (c : ℕ) (w : List ℕ) (ws : List (List ℕ)) → AllLack c (w ∷ ws) → slice_split (λ b. b == c) (join_with_byte c (w ∷ ws)) ≡ w ∷ ws
 split_words c w [] h = slice_split_none (λ b. b == c) w (none_is c w h.0)
 split_words c w (v ∷ ws) h =
-    slice_split_at (λ b. b == c) w c (join_with_byte c (v ∷ ws)) (none_is c w h.0) (same c) ∙ ap (λ l. w ∷ l) (split_words c v ws h.1)
-  where
-    same : (n : ℕ) → (n == n) ≡ true
-    same n = grind (arith, nat_tests)
+    slice_split_at (λ b. b == c) w c (join_with_byte c (v ∷ ws)) (none_is c w h.0) (eq-eqb c c refl) ∙ ap (λ l. w ∷ l) (split_words c v ws h.1)
 
 pub line_split : (l : LineValue) → IsLine l → slice_split is_space (line_text l) ≡ line_words l
 line_split l is = split_words 32 (head_text l.kind) (said_words l.kind l.said) (words_lack 32 l space is)
@@ -244,5 +237,5 @@ one_list [] [] h k e = refl
 one_list [] (m ∷ ms) h k e = absurd (omega (arith, ap length e))
 one_list (l ∷ ls) [] h k e = absurd (omega (arith, ap length e))
 one_list (l ∷ ls) (m ∷ ms) h k e =
-    let both = head_same (line_text l) (line_text m) (map line_text ls) (map line_text ms) e in
+    let both = heads_and_tails (line_text l) (line_text m) (map line_text ls) (map line_text ms) e in
     ap (λ x. x ∷ ls) (one_line l m h.0 k.0 both.0) ∙ ap (λ x. m ∷ x) (one_list ls ms h.1 k.1 both.1)

@@ -3,7 +3,6 @@ use denote.Ref.{Bor}
 use Rattle.std.proofs.Common.{◌≡◌, ◌∙◌, ◌+◌, ◌<◌, ◌≤◌, ◌==◌, Bool, true, false, ℕ, zero, suc, Option, List, [], ◌∷◌, ◌++◌, length, get_or, drop, map, refl, sym, ap, subst, arith, append_assoc, append-nil}
 use Rattle.std.specs.Prelude.{IfErr, IfOk, MatchResult, Result, Ok, Err}
 use Rattle.std.specs.List.{slice_split}
-use Rattle.std.proofs.Math.Seq.{drop-cons}
 use Rattle.std.proofs.lemmas.Bool.Decides.{nat_tests}
 use Rattle.std.proofs.lemmas.List.Splits.{length-slice_split}
 use Rattle.plan_text.specs.Faults.{IsFaulty, TellsLine}
@@ -20,15 +19,13 @@ use Rattle.plan_text.specs.declared.plan.Plan.{Plan}
 use Rattle.plan_text.proofs.Once.{one_line}
 use Rattle.plan_text.proofs.Steps.{goes_on}
 use Rattle.plan_text.proofs.Whole.{one_text}
+use Rattle.plan_text.proofs.Readers.{from_one}
 
 abbrev pub Texts : Type 0
 Texts = List (Bor (List ℕ))
 
 abbrev pub texts : Texts → List (List ℕ)
 texts ws = map {A = Bor (List ℕ)} {B = List ℕ} (λ w. w.now) ws
-
-from_one : (words : Texts) (i : ℕ) (d : Bor (List ℕ)) → i < length words → texts (drop i words) ≡ (get_or words i d).now ∷ texts (drop (suc i) words)
-from_one words i d lt = ap texts (drop-cons words i d lt)
 
 pub stops_here : (words : Texts) (i : ℕ) (d : Bor (List ℕ)) (s : StandingValue) (gs : List GroupValue) (current : Option GroupValue) → i < length words → IsReadTo (texts words) (texts (drop i words)) i s gs current
     → Stops s (get_or words i d).now → (f : PlanTextFault) → TellsLine s.groups i f → StopsAtFault (texts words) f
@@ -90,9 +87,6 @@ is_memory (faults.NotBefore line) h = absurd (h (λ e. absurd (cc e)))
 is_memory faults.Limit h = absurd (h (λ e. absurd (cc e)))
 is_memory (faults.Line line) h = absurd (h (λ e. absurd (cc e)))
 is_memory faults.Memory h = refl
-
-pub some_bytes : (text : List ℕ) (b : Bool) → b ≡ (length text == 0) → b ≡ false → text ≡ [] → ⊥
-some_bytes text b is none e = cc (is, none, ap (λ (l : List ℕ). length l == 0) e)
 
 not_zero : (n : ℕ) → (suc n == 0) ≡ false
 not_zero n = grind (arith, nat_tests)

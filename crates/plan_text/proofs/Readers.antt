@@ -4,6 +4,7 @@ use Rattle.std.proofs.Common.{◌≡◌, ◌∙◌, ◌<◌, ℕ, suc, List, [],
 use Rattle.std.specs.List.{AllByRecursion}
 use Rattle.std.proofs.Math.Seq.{drop-cons}
 use Rattle.std.specs.Fmt.{decimal}
+use Rattle.basics.proofs.Lists.{heads_and_tails}
 use Rattle.plan_text.specs.Numbers.{AreNumbers, IsNumber}
 use Rattle.pms_names.specs.Names.{IsName}
 use Rattle.pms_names.specs.declared.kind.Kind.TheVariants.{Flag, Slot}
@@ -14,7 +15,7 @@ use Rattle.plan_text.specs.Plans.{AdditionValue}
 use Rattle.plan_text.specs.Spelled.{Lacks}
 use Rattle.plan_text.specs.Words.{AreFlags, IsBare, IsBind, IsRemoval, addition_word, addition_words, bind_word, removal_word, slots_word}
 use Rattle.plan_text.specs.declared.plan.Removal.{Removal}
-use Rattle.plan_text.proofs.Split.{id_lacks, name_lacks}
+use Rattle.plan_text.proofs.Split.{colon_apart, id_lacks, name_lacks}
 
 abbrev pub Found : ℕ → List ℕ → List ℕ → List ℕ → Type 0
 Found byte text front back = (text ≡ front ++ (byte ∷ back)) × ((f b : List ℕ) → Lacks byte f → text ≡ f ++ (byte ∷ b) → (front ≡ f) × (back ≡ b))
@@ -22,22 +23,19 @@ Found byte text front back = (text ≡ front ++ (byte ∷ back)) × ((f b : List
 abbrev pub NotFound : ℕ → List ℕ → Type 0
 NotFound byte text = (f b : List ℕ) → Lacks byte f → text ≡ f ++ (byte ∷ b) → ⊥
 
-apart : ◌≡◌ {A = ℕ} 47 58 → ⊥
-apart e = omega (arith, e)
-
 removal_same : (id id' : PackageId) (slot slot' : List ℕ) → id ≡ id' → slot ≡ slot' → ◌≡◌ {A = Removal} (record { id = id; slot = slot }) (record { id = id'; slot = slot' })
 removal_same id id' slot slot' e f = ap (λ i. record { id = i; slot = slot }) e ∙ ap (λ s. record { id = id'; slot = s }) f
 
 -- removals
 
 pub no_removal_cut : (text : List ℕ) → NotFound 58 text → (r : Removal) → IsRemoval r → text ≡ removal_word r → ⊥
-no_removal_cut text none r is e = none (id_text r.id) r.slot (id_lacks 58 r.id refl apart is.id) e
+no_removal_cut text none r is e = none (id_text r.id) r.slot (id_lacks 58 r.id refl colon_apart is.id) e
 
 pub no_removal_id : (text front back : List ℕ) → Found 58 text front back → ((id : PackageId) → IsId id → front ≡ id_text id → ⊥) → (r : Removal) → IsRemoval r → text ≡ removal_word r → ⊥
-no_removal_id text front back f none r is e = none r.id is.id (f.1 (id_text r.id) r.slot (id_lacks 58 r.id refl apart is.id) e).0
+no_removal_id text front back f none r is e = none r.id is.id (f.1 (id_text r.id) r.slot (id_lacks 58 r.id refl colon_apart is.id) e).0
 
 pub no_removal_slot : (text front back : List ℕ) → Found 58 text front back → ((s : List ℕ) → IsName Slot s → back ≡ s → ⊥) → (r : Removal) → IsRemoval r → text ≡ removal_word r → ⊥
-no_removal_slot text front back f none r is e = none r.slot is.slot (f.1 (id_text r.id) r.slot (id_lacks 58 r.id refl apart is.id) e).1
+no_removal_slot text front back f none r is e = none r.slot is.slot (f.1 (id_text r.id) r.slot (id_lacks 58 r.id refl colon_apart is.id) e).1
 
 pub a_removal : (text front back slot : List ℕ) (id : PackageId) → Found 58 text front back → IsId id × (front ≡ id_text id) → IsName Slot slot × (back ≡ slot) → IsRemoval (record { id = id; slot = slot }) × (text ≡ id_text id ++ (58 ∷ slot))
 a_removal text front back slot id f i s =
@@ -71,17 +69,14 @@ an_id text front back id f is = (is.0, f.0 ∙ ap (λ l. l ++ (47 ∷ back)) is.
 
 -- additions
 
-head_same : (x y : List ℕ) (xs ys : List (List ℕ)) → x ∷ xs ≡ y ∷ ys → (x ≡ y) × (xs ≡ ys)
-head_same x y xs ys e = (ap (λ l. get_or l 0 x) e, ap (drop 1) e)
-
 pub no_addition_word : (ws : List (List ℕ)) → ws ≡ [] → (a : AdditionValue) → IsBare a → ws ≡ addition_words a → ⊥
 no_addition_word ws none a is e = absurd (omega (arith, ap length (sym none ∙ e)))
 
 pub no_addition_cut : (word : List ℕ) (ws : List (List ℕ)) → NotFound 58 word → (a : AdditionValue) → IsBare a → word ∷ ws ≡ addition_words a → ⊥
-no_addition_cut word ws none a is e = none (id_text a.id) (slots_word a.slot a.subslot) (id_lacks 58 a.id refl apart is.0.id) (head_same word (addition_word a) ws a.enabled e).0
+no_addition_cut word ws none a is e = none (id_text a.id) (slots_word a.slot a.subslot) (id_lacks 58 a.id refl colon_apart is.0.id) (heads_and_tails word (addition_word a) ws a.enabled e).0
 
 addition_parts : (word front back : List ℕ) (ws : List (List ℕ)) → Found 58 word front back → (a : AdditionValue) → IsBare a → word ∷ ws ≡ addition_words a → (front ≡ id_text a.id) × (back ≡ slots_word a.slot a.subslot)
-addition_parts word front back ws f a is e = f.1 (id_text a.id) (slots_word a.slot a.subslot) (id_lacks 58 a.id refl apart is.0.id) (head_same word (addition_word a) ws a.enabled e).0
+addition_parts word front back ws f a is e = f.1 (id_text a.id) (slots_word a.slot a.subslot) (id_lacks 58 a.id refl colon_apart is.0.id) (heads_and_tails word (addition_word a) ws a.enabled e).0
 
 pub no_addition_id : (word front back : List ℕ) (ws : List (List ℕ)) → Found 58 word front back → ((id : PackageId) → IsId id → front ≡ id_text id → ⊥) → (a : AdditionValue) → IsBare a → word ∷ ws ≡ addition_words a → ⊥
 no_addition_id word front back ws f none a is e = none a.id is.0.id (addition_parts word front back ws f a is e).0
@@ -91,7 +86,7 @@ no_addition_slots word front back ws f none a is e =
     none (record { slot = a.slot; subslot = a.subslot }) (record { slot = is.0.slot; subslot = is.0.subslot }) (addition_parts word front back ws f a is e).1
 
 pub no_addition_flags : (word : List ℕ) (ws : List (List ℕ)) → ((fs : List (List ℕ)) → AreFlags fs → ws ≡ fs → ⊥) → (a : AdditionValue) → IsBare a → word ∷ ws ≡ addition_words a → ⊥
-no_addition_flags word ws none a is e = none a.enabled is.0.enabled (head_same word (addition_word a) ws a.enabled e).1
+no_addition_flags word ws none a is e = none a.enabled is.0.enabled (heads_and_tails word (addition_word a) ws a.enabled e).1
 
 abbrev pub bare : PackageId → List ℕ → List ℕ → List (List ℕ) → AdditionValue
 bare id slot subslot flags = record { id = id; slot = slot; subslot = subslot; enabled = flags; binds = [] }
@@ -141,7 +136,7 @@ abbrev texts : Texts → List (List ℕ)
 texts ws = map {A = Bor (List ℕ)} {B = List ℕ} (λ w. w.now) ws
 
 -- from one word on
-from_one : (words : Texts) (i : ℕ) (d : Bor (List ℕ)) → i < length words → texts (drop i words) ≡ (get_or words i d).now ∷ texts (drop (suc i) words)
+pub from_one : (words : Texts) (i : ℕ) (d : Bor (List ℕ)) → i < length words → texts (drop i words) ≡ (get_or words i d).now ∷ texts (drop (suc i) words)
 from_one words i d lt = ap texts (drop-cons words i d lt)
 
 pub numbers_stop : (words : Texts) (i : ℕ) (d : Bor (List ℕ)) (done : List ℕ) → i < length words → map decimal done ++ texts (drop i words) ≡ texts words

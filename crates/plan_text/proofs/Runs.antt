@@ -1,8 +1,7 @@
 -- The lines of a plan follow one another just where the plan is in form.
-use Rattle.std.proofs.Common.{◌≡◌, ◌∙◌, ◌+◌, ◌<◌, ◌&&◌, ◌==◌, Bool, true, false, ℕ, List, [], ◌∷◌, ◌++◌, length, map, refl, sym, ap, arith}
-use Rattle.std.specs.Prelude.{nat_lt}
+use Rattle.std.proofs.Common.{◌≡◌, ◌∙◌, ◌+◌, ◌<◌, ◌&&◌, Bool, true, false, ℕ, List, [], ◌∷◌, ◌++◌, length, map, refl, sym, ap, arith}
 use Rattle.std.specs.List.{AllByRecursion, flat_map}
-use Rattle.std.proofs.lemmas.Bool.Decides.{nat_tests}
+use Rattle.basics.proofs.Tests.{and-true}
 use Rattle.dep_atom.specs.declared.slot.Bind.{Bind}
 use Rattle.plan_text.specs.Lines.{IsLine, LineValue, line_of, line_text}
 use Rattle.plan_text.specs.Numbers.{rise_between}
@@ -68,13 +67,9 @@ additions_first n p t (a ∷ xs) h =
     ap (λ b. b && runs (standing n places.Additions (addition_text a)) (map (line_of kinds.Bind) a.binds ++ flat_map addition_lines xs)) (h (addition_text a))
     ∙ behind_binds n (addition_text a) a.binds (flat_map addition_lines xs) ∙ additions_run n (addition_text a) xs
 
-and_true : (b : Bool) → (b && true) ≡ b
-and_true true = refl
-and_true false = refl
-
 after_run : (n : ℕ) (t : List ℕ) (ns : List ℕ) → runs (standing n places.Group t) (after_lines ns) ≡ rise_between 0 n ns
 after_run n t [] = refl
-after_run n t (m ∷ ns) = and_true (rise_between 0 n (m ∷ ns))
+after_run n t (m ∷ ns) = and-true (rise_between 0 n (m ∷ ns))
 
 -- where the parts end
 
@@ -179,15 +174,6 @@ may_end_of g lt = go g.after g.removals g.additions lt
     go ns [] [] lt = absurd (omega (arith, lt))
     go ns (r ∷ rs) [] lt = refl
     go ns rs (x ∷ xs) lt = refl
-
-pub same_number : (n : ℕ) → (n == n) ≡ true
-same_number n = grind (arith, nat_tests)
-
-pub below : (a b : ℕ) → nat_lt a b ≡ true → a < b
-below a b h = grind (arith, nat_tests)
-
-pub is_below : (a b : ℕ) → a < b → nat_lt a b ≡ true
-is_below a b h = grind (arith, nat_tests)
 
 -- all groups, where `k` have begun before them
 

@@ -43,3 +43,7 @@ pf_lacks x id f is =
 pub id_lacks : (x : ℕ) (id : PackageId) → is_plain x ≡ false → (◌≡◌ {A = ℕ} 47 x → ⊥) → IsId id → Lacks x (id_text id)
 id_lacks x id f apart is =
     lacks-append x id.name.category (47 ∷ name_and_version id) (name_lacks _ x id.name.category f is.category) (lacks-cons x 47 (name_and_version id) apart (pf_lacks x id f is))
+
+-- a slash is no colon
+pub colon_apart : ◌≡◌ {A = ℕ} 47 58 → ⊥
+colon_apart e = omega (arith, e)

@@ -3,8 +3,7 @@ use Rattle.std.proofs.Common.{◌≡◌, ◌∙◌, ◌+◌, ◌&&◌, ◌==◌,
 use Rattle.std.specs.Prelude.{nat_lt}
 use Rattle.std.specs.List.{AllByRecursion, flat_map}
 use Rattle.std.specs.Cmp.Derive.{both_true}
-use Rattle.std.proofs.lemmas.Bool.{and_parts}
-use Rattle.std.proofs.lemmas.Bool.Decides.{nat_tests}
+use Rattle.std.proofs.lemmas.Bool.{and_parts, eqb-true}
 use Rattle.std.proofs.lemmas.Grind.{flat_map-append}
 use Rattle.plan_text.specs.Drafts.{Fits, FitsGroup, GrowsBy, all_groups, begun, lines_so_far}
 use Rattle.plan_text.specs.Lines.{IsLine, LineValue, Said, line_of, line_text}
@@ -75,11 +74,8 @@ plan_grows s gs (Some g) fits count f = absurd (go s.place f fits)
     go places.Removals e h = absurd (let x : false ≡ true = e in cc)
     go places.Additions e h = absurd (let x : false ≡ true = e in cc)
 
-same_number : (a b : ℕ) → (a == b) ≡ true → a ≡ b
-same_number a b h = grind (arith, nat_tests)
-
 number_of : (s : StandingValue) (n : ℕ) → follows s (line_of kinds.Group n) ≡ true → n ≡ s.groups + 1
-number_of s n f = same_number n (s.groups + 1) (and_parts (n == (s.groups + 1)) (nat_lt s.groups 4096) (and_parts (may_end s.place) ((n == (s.groups + 1)) && nat_lt s.groups 4096) f).1).0
+number_of s n f = eqb-true n (s.groups + 1) (and_parts (n == (s.groups + 1)) (nat_lt s.groups 4096) (and_parts (may_end s.place) ((n == (s.groups + 1)) && nat_lt s.groups 4096) f).1).0
 
 bare_lines : (n : ℕ) (g : GroupValue) → FitsGroup places.Group g → group_lines n g ≡ line_of kinds.Group n ∷ []
 bare_lines n g h = go g.after g.removals g.additions h.0 h.1 h.2

@@ -2,7 +2,7 @@
 use Rattle.std.specs.Prelude.{true, false, ◌==◌}
 use Rattle.std.specs.List.{flat_map}
 use Rattle.std.proofs.Common.{◌≡◌, ◌∙◌, ℕ, ◌+◌, ◌-◌, ◌<◌, ◌≤◌, inl, inr, List, [], ◌∷◌, ◌++◌, length, take, drop, get_or, refl, sym, ap, subst, arith, append_assoc, length-drop}
-use Rattle.std.proofs.lemmas.Bool.{cases_lt, eqb-false}
+use Rattle.std.proofs.lemmas.Bool.{both_ways, cases_lt, eqb-false}
 use Rattle.std.proofs.lemmas.List.{take-append-drop, take-take, get_or-drop}
 use Rattle.std.proofs.lemmas.List.Sums.{prefix_len_passes, prefix_len_stops, prefix_len-le-length}
 use Rattle.basics.specs.Bytes.{is_digit}
@@ -12,7 +12,6 @@ use Rattle.pms_version.specs.Limits.{digit_count, HasShortNumbers, IsReadable}
 use Rattle.pms_version.specs.Reading.{IsShortBefore, FirstFault}
 use Rattle.pms_version.specs.declared.fault.VersionFault.{VersionFault}
 use Rattle.pms_version.specs.declared.fault.VersionFault.TheVariants.{Empty, BadChar, TooManyDigits, TooLong, Memory}
-use Rattle.pms_version.proofs.Steps.{contrary}
 
 pub version_begins_so : (n : ℕ) (bytes : List ℕ) → IsVersionText bytes → BeginsVersion (take n bytes)
 version_begins_so n bytes text = (drop n bytes, subst IsVersionText (sym (take-append-drop n bytes)) text)
@@ -41,7 +40,7 @@ digit_count-row bytes start n l h = elim (cases_lt (digit_count (drop start byte
   | inl short ↦
       let count = digit_count (drop start bytes) in
       let inside : count < length (drop start bytes) = omega (arith, length-drop start bytes) in
-      absurd (contrary (is_digit (get_or bytes (start + count) 0)) (h (start + count) (omega arith) (omega arith)) (sym (ap is_digit (get_or-drop start bytes count 0)) ∙ prefix_len_stops is_digit (drop start bytes) 0 inside))
+      absurd (both_ways (is_digit (get_or bytes (start + count) 0)) (sym (ap is_digit (get_or-drop start bytes count 0)) ∙ prefix_len_stops is_digit (drop start bytes) 0 inside) (h (start + count) (omega arith) (omega arith)))
   | inr enough ↦ enough
 ]
 
@@ -51,7 +50,7 @@ digit_count-stops bytes k at l h = elim (cases_lt (at - k) (digit_count (drop k 
   | inl long ↦
       let there : k + (at - k) ≡ at = omega arith in
       let digit : is_digit (get_or bytes at 0) ≡ true = sym (ap (λ i. is_digit (get_or bytes i 0)) there) ∙ (sym (ap is_digit (get_or-drop k bytes (at - k) 0)) ∙ prefix_len_passes is_digit (drop k bytes) (at - k) 0 long) in
-      absurd (contrary (is_digit (get_or bytes at 0)) digit h)
+      absurd (both_ways (is_digit (get_or bytes at 0)) h digit)
   | inr short ↦ short
 ]
 

@@ -1,10 +1,11 @@
 -- The steps of reading.
-use Rattle.std.specs.Prelude.{Bool, true, false}
+use Rattle.std.specs.Prelude.{true, false}
 use Rattle.std.specs.List.{AllByRecursion, flat_map}
 use Rattle.std.proofs.Common.{◌≡◌, ◌∙◌, ℕ, ◌+◌, ◌<◌, ◌≤◌, inl, inr, List, [], ◌∷◌, ◌++◌, length, drop, get_or, refl, sym, ap, subst, arith, append_assoc, append-nil, length-append, length-drop, ◌-◌}
 use Rattle.std.proofs.lemmas.List.{drop-drop}
+use Rattle.std.proofs.lemmas.Bool.{both_ways}
 use Rattle.version_text.proofs.Bytes.{below_is_no_lower}
-use Rattle.version_text.proofs.Unique.{Behind, BehindSuffix, behind_suffix, behind_numbers, behind_number, suffix_is_no_digit, behind_is_no_digit, digits_apart, kind_at-word, all_digits}
+use Rattle.version_text.proofs.Unique.{Behind, BehindSuffix, behind_suffix, behind_numbers, behind_number, suffix_is_no_digit, behind_is_no_digit, digits_apart, kind_at-word, all_digits, shift_suffix}
 use Rattle.basics.specs.Bytes.{is_digit, is_lower}
 use Rattle.version_text.specs.Grammar.{AreDigits, IsInteger, IsLetter, SuffixKind, SuffixText, Parts, IsVersion, kind_at, word, spell_number, spell_suffix, spell_revision, spell_ending, spelling}
 use Rattle.version_text.specs.Grammar.SuffixKind.{Alpha, Beta, Pre, Rc, P}
@@ -34,17 +35,14 @@ suffix_is_no_letter : (h : ℕ) → BehindSuffix h → is_lower h ≡ false
 unfolding BehindSuffix
 suffix_is_no_letter h b = elim b [ inl k ↦ below_is_no_lower h (omega arith) | inr k ↦ below_is_no_lower h (omega arith) ]
 
-pub contrary : (t : Bool) → t ≡ true → t ≡ false → ⊥
-contrary t h k = cc
-
 pub a_letter : (bytes : List ℕ) → is_lower (get_or bytes 0 0) ≡ true → HasReadLetter bytes (get_or bytes 0 0 ∷ []) (drop 1 bytes)
-a_letter bytes h [] ss r l k m e = absurd (contrary (is_lower (get_or bytes 0 0)) h (ap (λ xs. is_lower (get_or xs 0 0)) e ∙ suffix_is_no_letter (get_or (spell_ending ss r) 0 0) (behind_suffix ss r)))
+a_letter bytes h [] ss r l k m e = absurd (both_ways (is_lower (get_or bytes 0 0)) (ap (λ xs. is_lower (get_or xs 0 0)) e ∙ suffix_is_no_letter (get_or (spell_ending ss r) 0 0) (behind_suffix ss r)) h)
 a_letter bytes h (b ∷ []) ss r l k m e = (ap (λ xs. get_or xs 0 0 ∷ []) e, ap (λ xs. drop 1 xs) e)
 a_letter bytes h (b ∷ c ∷ bs) ss r l k m e = absurd l
 
 pub no_letter : (bytes : List ℕ) → is_lower (get_or bytes 0 0) ≡ false → HasReadLetter bytes [] bytes
 no_letter bytes h [] ss r l k m e = (refl, e)
-no_letter bytes h (b ∷ []) ss r l k m e = absurd (contrary (is_lower b) l (sym (ap (λ xs. is_lower (get_or xs 0 0)) e) ∙ h))
+no_letter bytes h (b ∷ []) ss r l k m e = absurd (both_ways (is_lower b) (sym (ap (λ xs. is_lower (get_or xs 0 0)) e) ∙ h) l)
 no_letter bytes h (b ∷ c ∷ bs) ss r l k m e = absurd l
 
 -- the numbers behind dots
@@ -100,7 +98,7 @@ next_suffix : (kind : SuffixKind) (digits rest behind : List ℕ) (ss : List Suf
     (more : List SuffixText) × (ss ≡ record { kind = kind; digits = digits } ∷ more) × AreSuffixes more × (rest ≡ spell_ending more r)
 next_suffix kind digits rest behind [] r under w d e f h s = absurd (no_underscore r (sym (ap (λ xs. get_or xs 0 0) s) ∙ under))
 next_suffix kind digits rest behind (t ∷ ts) r under w d e f h s =
-    let tail : drop 1 behind ≡ word t.kind ++ (t.digits ++ spell_ending ts r) = ap (λ xs. drop 1 xs) s ∙ shift (word t.kind) t.digits (flat_map spell_suffix ts) (spell_revision r) in
+    let tail : drop 1 behind ≡ word t.kind ++ (t.digits ++ spell_ending ts r) = ap (λ xs. drop 1 xs) s ∙ shift_suffix (word t.kind) t.digits (flat_map spell_suffix ts) (spell_revision r) in
     let kinds : kind ≡ t.kind = w ∙ (ap kind_at tail ∙ kind_at-word t.kind t.digits ts r h.0) in
     let joined : digits ++ rest ≡ t.digits ++ spell_ending ts r =
     sym e ∙ (ap (λ xs. drop (length (word kind)) xs) tail ∙ (ap (λ q. drop (length (word q)) (word t.kind ++ (t.digits ++ spell_ending ts r))) kinds ∙ drop-word t.kind (t.digits ++ spell_ending ts r))) in
@@ -108,9 +106,6 @@ next_suffix kind digits rest behind (t ∷ ts) r under w d e f h s =
     digits_apart digits t.digits rest (spell_ending ts r) d h.0 f (suffix_is_no_digit (get_or (spell_ending ts r) 0 0) (behind_suffix ts r)) joined in
     let same : t ≡ record { kind = kind; digits = digits } = ap (λ q. record { kind = q; digits = t.digits }) (sym kinds) ∙ ap (λ ds. record { kind = kind; digits = ds }) (sym apart.0) in
     (ts, ap (λ x. x ∷ ts) same, h.1, apart.1)
-  where
-    shift : (a b c q : List ℕ) → ((a ++ b) ++ c) ++ q ≡ a ++ (b ++ (c ++ q))
-    shift a b c q = simp append_assoc
 
 pub suffix_read : (bytes behind digits rest : List ℕ) (kind : SuffixKind) (done : List SuffixText) → ReadsSuffixes bytes done behind → get_or behind 0 0 ≡ 95 → kind ≡ kind_at (drop 1 behind) → AreDigits digits → drop (length (word kind)) (drop 1 behind) ≡ digits ++ rest → is_digit (get_or rest 0 0) ≡ false → ReadsSuffixes bytes (done ++ record { kind = kind; digits = digits } ∷ []) rest
 suffix_read bytes behind digits rest kind done reads under w d e f ss r h k s =

@@ -118,9 +118,6 @@ read_all t p r (needs Idepend) = r.of_idepend
 one_eapi : (a b : Eapi) → a ≡ b
 one_eapi Eight Eight = refl
 
-pub same_facts : (a b : Facts) → a.id ≡ b.id → a.slot ≡ b.slot → a.subslot ≡ b.subslot → a.iuse ≡ b.iuse → a.enabled ≡ b.enabled → a ≡ b
-same_facts a b id slot subslot iuse enabled = λ i. record { id = id i; slot = slot i; subslot = subslot i; iuse = iuse i; enabled = enabled i }
-
 pub same_package : (a b : Package) → a.facts ≡ b.facts → a.rdepend ≡ b.rdepend → a.pdepend ≡ b.pdepend → a.depend ≡ b.depend → a.bdepend ≡ b.bdepend → a.idepend ≡ b.idepend → a.required ≡ b.required → a ≡ b
 same_package a b facts rdepend pdepend depend bdepend idepend required' =
     let one = one_eapi a.eapi b.eapi in

@@ -1,6 +1,7 @@
 -- A record whose files are there and of a supported EAPI.
-use Rattle.std.proofs.Common.{◌≡◌, ◌∙◌, true, false, Bool, Option, Some, None, Result, Ok, Err, refl, sym, inl, inr}
-use Rattle.std.specs.Prelude.{◌↔◌, IfErr, IsSome, IsTrue}
+use Rattle.std.proofs.Common.{◌≡◌, ◌∙◌, true, false, Bool, Result, Ok, Err, refl, sym, inl, inr}
+use Rattle.std.specs.Prelude.{◌↔◌, IfErr, IsTrue}
+use Rattle.basics.proofs.Tests.{none_is_not_some}
 use Rattle.dep_atom.specs.declared.package.PackageId.{PackageId}
 use Rattle.database_law.specs.Fields.{Field, contents, eapi, slots}
 use Rattle.database_law.specs.Packages.{Installed}
@@ -9,15 +10,11 @@ use Rattle.record_read.specs.Texts.{Tell, Texts}
 use Rattle.record_read.specs.declared.fault.RecordFault.{RecordFault}
 use Rattle.record_read.proofs.Files.{first_fault}
 
-some_is : {A : Type 0} (x : Option A) → x ≡ None → IsSome x → ⊥
-some_is None e some = cc
-some_is (Some x) e some = cc
-
 -- no file that must be there is missing where the texts tell a package
 pub none_missing : (t : Texts) (k : Field) (id : PackageId) (p : Installed) → IsFirstMissing t k → Tell t id p → ⊥
-none_missing t k id p (inl bad) tell = some_is (t contents) bad.1 (tell.there contents refl)
-none_missing t k id p (inr (some, inl bad)) tell = some_is (t eapi) bad.1 (tell.there eapi refl)
-none_missing t k id p (inr (some, inr (some', inl bad))) tell = some_is (t slots) bad.1 (tell.there slots refl)
+none_missing t k id p (inl bad) tell = none_is_not_some (t contents) bad.1 (tell.there contents refl)
+none_missing t k id p (inr (some, inl bad)) tell = none_is_not_some (t eapi) bad.1 (tell.there eapi refl)
+none_missing t k id p (inr (some, inr (some', inl bad))) tell = none_is_not_some (t slots) bad.1 (tell.there slots refl)
 none_missing t k id p (inr (some, inr (some', inr (some'', none)))) tell = none
 
 pub unsupported : (t : Texts) (b : Bool) (id : PackageId) (p : Installed) → b ≡ false → (IsTrue b ↔ IsSupported t) → Tell t id p → ⊥

@@ -1,5 +1,5 @@
 -- The flags of words, one word after another.
-use Rattle.std.proofs.Common.{◌≡◌, ◌∙◌, ◌||◌, ◌<◌, ◌+◌, ℕ, zero, suc, Bool, true, false, List, [], ◌∷◌, ◌++◌, length, get_or, map, take, Option, Some, Result, Ok, Err, refl, ap, sym, subst, inl, inr, arith}
+use Rattle.std.proofs.Common.{◌≡◌, ◌∙◌, ◌||◌, ◌<◌, ◌+◌, ℕ, zero, suc, Bool, true, false, List, [], ◌∷◌, ◌++◌, length, get_or, map, take, Some, Result, Ok, Err, refl, ap, sym, subst, inl, inr, arith}
 use Rattle.std.specs.Prelude.{IfErr, IfOk, bytes_eq, slice_get}
 use Rattle.std.specs.List.{AllByRecursion}
 use Rattle.std.specs.List.Sorted.{IsStrictlySortedBy}
@@ -7,7 +7,8 @@ use Rattle.std.proofs.Math.Bool.{or_comm}
 use Rattle.std.proofs.lemmas.List.{map-append}
 use Rattle.std.proofs.lemmas.List.Folds.{list_any-append}
 use Rattle.basics.specs.Members.{Has}
-use Rattle.basics.proofs.Membership.{has-map, has-map_back}
+use Rattle.basics.proofs.Membership.{has-map, has-map_back, has-slice_get}
+use Rattle.basics.proofs.Tests.{or-false}
 use Rattle.merge_record.proofs.Form.{has_if_in, in_if_has}
 use Rattle.pms_names.specs.Flags.{IsRising, has}
 use Rattle.pms_names.specs.Names.{IsName}
@@ -33,17 +34,13 @@ all_more marked (x ∷ ws) w h is = (h.0, all_more marked ws w h.1 is)
 pub none_read : (marked : Bool) → IsRising [] → IsReadOf marked [] []
 none_read marked rising = record { good = tt; same = λ q. refl; rising = rising }
 
-or_false : (b : Bool) → (b || false) ≡ b
-or_false true = refl
-or_false false = refl
-
 -- one more word
 pub one_more : (marked : Bool) (ws was set : List (List ℕ)) (w : List ℕ) → IsReadOf marked ws was → AddsWord marked w was set → IsReadOf marked (ws ++ (w ∷ [])) set
 one_more marked ws was set w r adds = record {
   good = all_more marked ws w r.good adds.good;
   same = λ q. adds.now q ∙ ap (λ (b : Bool). bytes_eq q (flag_in marked w) || b) (r.same q)
       ∙ or_comm (bytes_eq q (flag_in marked w)) (has (map (flag_in marked) ws) q)
-      ∙ ap (λ (b : Bool). has (map (flag_in marked) ws) q || b) (sym (or_false (bytes_eq q (flag_in marked w))))
+      ∙ ap (λ (b : Bool). has (map (flag_in marked) ws) q || b) (sym (or-false (bytes_eq q (flag_in marked w))))
       ∙ sym (list_any-append (bytes_eq q) (map (flag_in marked) ws) (flag_in marked w ∷ []))
       ∙ ap (λ (l : List (List ℕ)). has l q) (sym (map-append (flag_in marked) ws (w ∷ [])));
   rising = adds.rising;
@@ -118,17 +115,12 @@ bad_word marked ws i d was lt r bad = (
   sym (place_there ws i d lt),
 )
 
-has_at : (ws : List (List ℕ)) (i : ℕ) (w : List ℕ) → slice_get ws i ≡ Some w → Has ws w
-has_at [] i w e = absurd (cc e)
-has_at (x ∷ ws) zero w e = inl (let f : ◌≡◌ {A = Option (List ℕ)} (Some x) (Some w) = e in cc)
-has_at (x ∷ ws) (suc i) w e = inr (has_at ws i w e)
-
 -- words of flags have no fault but want of memory
 pub only_memory : (marked : Bool) (ws : List Spot) (set : List (List ℕ)) (r : Result (List (List ℕ)) FlagFault) → IfErr r (IsFault marked ws) → HasFlags marked ws set
     → IfErr r (λ e. e ≡ faults.Memory)
 only_memory marked ws set (Ok s) h are = h
 only_memory marked ws set (Err (faults.Word at)) h are =
-    absurd (h.1.bad (are.each (flag_in marked h.1.word) ((are.members (flag_in marked h.1.word)).1 (has-map (flag_in marked) (texts ws) h.1.word (has_at (texts ws) h.0 h.1.word h.1.there)))))
+    absurd (h.1.bad (are.each (flag_in marked h.1.word) ((are.members (flag_in marked h.1.word)).1 (has-map (flag_in marked) (texts ws) h.1.word (has-slice_get (texts ws) h.0 h.1.word h.1.there)))))
 only_memory marked ws set (Err faults.Memory) h are = refl
 
 -- the same for the words of a text

@@ -1,8 +1,9 @@
 -- What a folder says of a package can be recorded again.
-use Rattle.std.proofs.Common.{◌≡◌, ◌∙◌, ◌++◌, ◌&&◌, ◌+◌, ◌≤◌, ℕ, Bool, true, false, max, List, [], ◌∷◌, Option, Some, None, refl, ap, map, subst, sym}
+use Rattle.std.proofs.Common.{◌≡◌, ◌∙◌, ◌&&◌, ◌+◌, ◌≤◌, ℕ, Bool, true, false, max, List, [], ◌∷◌, Option, Some, None, refl, ap, map, subst, sym}
 use Rattle.std.specs.Prelude.{◌↔◌, if◌then◌else◌, unwrap_or}
 use Rattle.std.specs.List.{AllByRecursion}
 use Rattle.basics.specs.Members.{AreDistinct}
+use Rattle.basics.proofs.Each.{all-append, all_by_has}
 use Rattle.merge_record.specs.Spelling.{IsPathText}
 use Rattle.pms_names.specs.Names.{IsName}
 use Rattle.pms_names.specs.declared.kind.Kind.TheVariants as kinds
@@ -23,7 +24,6 @@ use Rattle.contents_text.specs.declared.owned.Content.TheVariants.{File, Link}
 use Rattle.contents_text.specs.declared.owned.Owned.{Owned}
 use Rattle.database_law.specs.Fields.{AreFlags, AreSlots, all_bound, bound_alone, contents, flags, known, needs, required, slots, tree_bound, without_equals}
 use Rattle.record_write.specs.Recorded.{AreBound, IsFlagSet, SaidIsRecordable}
-use Rattle.record_write.proofs.Words.{all_by_has}
 
 -- ---- names
 
@@ -124,10 +124,6 @@ line_ownable : (l : Line) → IsLine l → AllByRecursion IsOwnable (owned_by l)
 line_ownable (obj path digest time) is = ownable_if (is_dropped path) path (File digest) refl is.0 is.1.0
 line_ownable (link_line path target time) is = ownable_if (is_dropped path) path (Link target) refl is.0 is.1.0
 line_ownable (dir path) is = tt
-
-all-append : {A : Type 0} (P : A → Type 0) (xs ys : List A) → AllByRecursion P xs → AllByRecursion P ys → AllByRecursion P (xs ++ ys)
-all-append P [] ys a b = b
-all-append P (x ∷ xs) ys a b = (a.0, all-append P xs ys a.1 b)
 
 lines_ownable : (ls : List Line) → AllByRecursion IsLine ls → AllByRecursion IsOwnable (owned_in ls)
 lines_ownable [] is = tt

@@ -8,6 +8,8 @@ use Rattle.std.proofs.lemmas.Slice.Eq.{bytes_eq-Decides}
 use Rattle.basics.specs.Members.{AreDistinct, Has}
 use Rattle.basics.proofs.Membership.{has-append_cases}
 use Rattle.basics.proofs.Texts.{bytes_eq-apart, bytes_eq-same}
+use Rattle.basics.proofs.Permutations.{has-moved}
+use Rattle.basics.proofs.Each.{all_by_has, all_has}
 use Rattle.dep_atom.specs.declared.package.PackageId.{PackageId}
 use Rattle.file_tree.specs.Thing.{Thing, plain}
 use Rattle.file_tree.specs.declared.objects.Entry.{Entry}
@@ -22,8 +24,8 @@ use Rattle.database_law.specs.Fields.{Field, Reads, Says, contents, eapi, field_
 use Rattle.database_law.specs.Packages.{Installed, id_of, paths}
 use Rattle.record_write.specs.Written.{AreInOrder, fields, file_if_written, folder_files, has_bytes, installed_with, is_written, value_of}
 use Rattle.record_write.specs.Recorded.{AreNamed, FilesAreInTheFolder, IsRecordable, RecordsAreReadBack, SortedRecordsAreReadBack, folder_of, held_by}
-use Rattle.record_write.proofs.Order.{already_sorted, distinct_moved, moved, rising_distinct}
-use Rattle.record_write.proofs.Words.{all_by_has, all_has, flags_said, known_said, needs_said, required_said, slots_said}
+use Rattle.record_write.proofs.Order.{already_sorted, distinct_moved, rising_distinct}
+use Rattle.record_write.proofs.Words.{flags_said, known_said, needs_said, required_said, slots_said}
 
 same_name : (id : PackageId) (a b : List ℕ) → bytes_eq (record_path id a) (record_path id b) ≡ bytes_eq a b
 same_name id a b = elim (cases_Bool (bytes_eq a b)) [
@@ -131,7 +133,7 @@ recordable : (p : Installed) (sorted : List Owned) → AreInOrder p.owned sorted
 recordable p sorted order is = record {
   needs = is.needs;
   required = is.required;
-  owned = all_by_has IsOwnable sorted (λ o has. all_has IsOwnable p.owned o is.owned (moved sorted p.owned o (IsPermutation-sym p.owned sorted order.all) has));
+  owned = all_by_has IsOwnable sorted (λ o has. all_has IsOwnable p.owned o is.owned (has-moved sorted p.owned o (IsPermutation-sym p.owned sorted order.all) has));
 }
 
 pub sorted_read_back : ContentsAreReadBack → SortedRecordsAreReadBack

@@ -1,25 +1,23 @@
 -- Owned paths that are put in byte order.
 use Rattle.std.proofs.Common.{◌≡◌, ◌∙◌, ◌+◌, ◌<◌, ◌≤◌, ℕ, zero, suc, arith, Bool, true, cond, false, is_lt, List, [], ◌∷◌, inl, inr, refl, ap, get_or, length, map, subst, sym}
 use Rattle.std.specs.Borrow.{Bor}
-use Rattle.std.specs.Prelude.{bytes_eq}
-use Rattle.std.specs.List.{AllByRecursion, IsDistinct, filter}
+use Rattle.std.specs.List.{AllByRecursion, filter}
 use Rattle.std.specs.List.Sorted.{IsPermutation, IsSortedBy, IsSortedByKey, IsStableBy, IsStableByKey, IsStrictlySortedBy, ties}
 use Rattle.std.specs.Ordering.{is_eq, ordering_reverse}
 use Rattle.std.specs.declared.cmp.Ordering.{Ordering}
 use Rattle.std.specs.declared.cmp.Ordering.TheVariants.{Equal, Greater, Less}
-use Rattle.std.proofs.lemmas.Cmp.{nat_list_cmp_total}
+use Rattle.std.proofs.lemmas.Cmp.{nat_list_cmp_total, on_total}
 use Rattle.std.proofs.lemmas.List.{length-map}
-use Rattle.std.proofs.lemmas.List.Sorted.{Contains-permutation, IsPermutation-map, IsPermutation-sym, ranks_by, sorted_far}
-use Rattle.std.proofs.lemmas.Map.Keys.{IsDistinct-IsPermutation}
+use Rattle.std.proofs.lemmas.List.Sorted.{IsPermutation-map, IsPermutation-sym, ranks_by, sorted_far}
 use Rattle.std.proofs.lemmas.Map.Text.{is_eq-slice_cmp}
 use Rattle.std.proofs.lemmas.Slice.Eq.{bytes_eq-Decides}
 use Rattle.basics.specs.Members.{AreDistinct, Has}
-use Rattle.basics.proofs.Membership.{contains-from_has, has-from_contains}
-use Rattle.basics.proofs.Texts.{bytes_eq-apart, bytes_eq-swap}
+use Rattle.basics.proofs.Texts.{not_less}
+use Rattle.basics.proofs.Permutations.{distinct-moved, has-moved}
+use Rattle.basics.proofs.Sorted.{same_sorted, sorted-by_keys}
 use Rattle.pms_names.specs.Flags.{IsRising, byte_order}
 use Rattle.contents_text.specs.Contents.{path_of}
 use Rattle.contents_text.specs.declared.owned.Owned.{Owned}
-use Rattle.database_law.proofs.Places.{not_less}
 use Rattle.record_write.specs.Written.{AreInOrder}
 
 -- ---- sorted by reference
@@ -66,31 +64,9 @@ stable_through (x ∷ xs) ys stable o = stable_by (x ∷ xs) ys x stable o
 
 -- ---- the same members
 
-pub moved : {A : Type 0} (xs ys : List A) (x : A) → IsPermutation xs ys → Has xs x → Has ys x
-moved xs ys x perm has = has-from_contains ys x (Contains-permutation xs ys x perm (contains-from_has xs x has))
-
-others_differ : (x : List ℕ) (xs : List (List ℕ)) → (Has xs x → ⊥) → AllByRecursion (λ y. bytes_eq x y ≡ false) xs
-others_differ x [] none = tt
-others_differ x (y ∷ ys) none = (bytes_eq-apart x y (λ e. none (inl (sym e))), others_differ x ys (λ has. none (inr has)))
-
-all_differ : (xs : List (List ℕ)) → AreDistinct xs → IsDistinct bytes_eq xs
-unfolding IsDistinct
-all_differ [] d = tt
-all_differ (x ∷ xs) d = (others_differ x xs d.0, all_differ xs d.1)
-
-none_same : (x : List ℕ) (xs : List (List ℕ)) → AllByRecursion (λ y. bytes_eq x y ≡ false) xs → Has xs x → ⊥
-none_same x [] all has = absurd has
-none_same x (y ∷ ys) all (inl e) = cc ((bytes_eq-Decides x y).1 (sym e), all.0)
-none_same x (y ∷ ys) all (inr has) = none_same x ys all.1 has
-
-distinct_if : (xs : List (List ℕ)) → IsDistinct bytes_eq xs → AreDistinct xs
-unfolding IsDistinct
-distinct_if [] d = tt
-distinct_if (x ∷ xs) d = (none_same x xs d.0, distinct_if xs d.1)
-
 pub distinct_moved : (xs ys : List Owned) → IsPermutation xs ys → AreDistinct (map path_of xs) → AreDistinct (map path_of ys)
 distinct_moved xs ys perm d =
-    distinct_if (map path_of ys) (IsDistinct-IsPermutation bytes_eq bytes_eq-swap (map path_of xs) (map path_of ys) (IsPermutation-map path_of xs ys perm) (all_differ (map path_of xs) d))
+    distinct-moved (map path_of xs) (map path_of ys) (IsPermutation-map path_of xs ys perm) d
 
 -- ---- distinct paths that ascend rise
 
@@ -126,32 +102,9 @@ rising_if (x ∷ xs) up d = (
 
 -- ---- one order
 
-later : (x : List ℕ) (xs : List Owned) (o : Owned) → AllByRecursion (λ z. byte_order x z ≡ Less) (map path_of xs) → Has xs o → byte_order x (path_of o) ≡ Less
-later x [] o all has = absurd has
-later x (y ∷ ys) o all (inl e) = subst (λ (z : Owned). byte_order x (path_of z) ≡ Less) e all.0
-later x (y ∷ ys) o all (inr has) = later x ys o all.1 has
-
-not_both_less : (x y : List ℕ) → byte_order x y ≡ Less → byte_order y x ≡ Less → ⊥
-not_both_less x y a b = let e : Less ≡ Greater = sym a ∙ (nat_list_cmp_total.antisymm x y ∙ ap ordering_reverse b) in cc
-
 -- two rising lists with the same members are one
 one_order : (xs ys : List Owned) → IsRising (map path_of xs) → IsRising (map path_of ys) → ((o : Owned) → Has xs o → Has ys o) → ((o : Owned) → Has ys o → Has xs o) → xs ≡ ys
-unfolding IsStrictlySortedBy
-one_order [] [] a b h k = refl
-one_order [] (y ∷ ys) a b h k = absurd (k y (inl refl))
-one_order (x ∷ xs) [] a b h k = absurd (h x (inl refl))
-one_order (x ∷ xs) (y ∷ ys) a b h k =
-    let heads : x ≡ y = elim (h x (inl refl)) [
-      | inl e ↦ sym e
-      | inr in-ys ↦ elim (k y (inl refl)) [
-        | inl e ↦ e
-        | inr in-xs ↦ absurd (not_both_less (path_of y) (path_of x) (later (path_of y) ys x b.0 in-ys) (later (path_of x) xs y a.0 in-xs))
-      ]
-    ] in
-    let tails = one_order xs ys a.1 b.1
-    (λ o has. elim (h o (inr has)) [ inr there ↦ there | inl e ↦ absurd (not_less (path_of x) (path_of o) (ap path_of (heads ∙ e)) (later (path_of x) xs o a.0 has)) ])
-    (λ o has. elim (k o (inr has)) [ inr there ↦ there | inl e ↦ absurd (not_less (path_of y) (path_of o) (ap path_of (sym heads ∙ e)) (later (path_of y) ys o b.0 has)) ]) in
-    ap (λ (z : Owned). z ∷ xs) heads ∙ ap (λ (zs : List Owned). y ∷ zs) tails
+one_order xs ys a b h k = same_sorted (on_total path_of nat_list_cmp_total) xs ys (sorted-by_keys path_of byte_order xs a) (sorted-by_keys path_of byte_order ys b) h k
 
 distinct_rising : (xs : List (List ℕ)) → IsRising xs → AreDistinct xs
 unfolding IsStrictlySortedBy
@@ -171,5 +124,5 @@ pub already_sorted : (owned sorted : List Owned) → IsRising (map path_of owned
 already_sorted owned sorted up order =
     let far : Ascends sorted = sorted_far (λ a b. is_lt (byte_order (path_of a) (path_of b))) (ranks_by nat_list_cmp_total path_of) sorted order.rising in
     one_order sorted owned (rising_if sorted far (distinct_moved owned sorted order.all (rising_distinct owned up))) up
-    (λ o has. moved sorted owned o (IsPermutation-sym owned sorted order.all) has)
-    (λ o has. moved owned sorted o order.all has)
+    (λ o has. has-moved sorted owned o (IsPermutation-sym owned sorted order.all) has)
+    (λ o has. has-moved owned sorted o order.all has)

@@ -1,16 +1,13 @@
 -- The words of a text that is written are those that it was written from.
-use Rattle.std.proofs.Common.{◌≡◌, ◌∙◌, ◌++◌, ◌&&◌, ◌||◌, ◌==◌, ◌+◌, ℕ, arith, true, false, not, Bool, List, [], ◌∷◌, inl, inr, refl, ap, map, subst, sym}
-use Rattle.std.specs.Prelude.{bytes_eq, if◌then◌else◌}
+use Rattle.std.proofs.Common.{◌≡◌, ◌∙◌, ◌++◌, ◌&&◌, ◌||◌, ◌==◌, ◌+◌, ℕ, arith, true, false, Bool, List, [], ◌∷◌, refl, ap, map, subst, sym}
+use Rattle.std.specs.Prelude.{if◌then◌else◌}
 use Rattle.std.specs.List.{AllByRecursion, list_all}
-use Rattle.std.proofs.lemmas.Bool.{cases_Bool}
 use Rattle.std.proofs.lemmas.Bool.Decides.{nat_tests}
 use Rattle.basics.specs.Blanks.{is_blank}
-use Rattle.basics.specs.Members.{Has}
+use Rattle.basics.proofs.Each.{all_has}
 use Rattle.pms_names.specs.Bytes.{begins_badly}
 use Rattle.pms_names.specs.Names.{IsName}
-use Rattle.pms_names.specs.declared.kind.Kind.{Kind}
 use Rattle.pms_names.specs.declared.kind.Kind.TheVariants as kinds
-use Rattle.dep_atom.proofs.Plain.{ArePlain, plain_differs, plain_name}
 use Rattle.dep_group.specs.Tokens.{IsFlag, IsInForm, tree_words}
 use Rattle.dep_group.specs.Words.{Spot, begins_word, is_word, spaced, texts, with_letter, words, words_of}
 use Rattle.dep_group.proofs.WordLemmas.{words-word, words_of-spaced}
@@ -24,6 +21,7 @@ use Rattle.slot_value.specs.Slots.{slot_text}
 use Rattle.slot_value.proofs.Parted.{printed_says}
 use Rattle.use_flags.specs.Items.{flag_of, hyphen, plus}
 use Rattle.database_law.specs.Fields.{AreFlags, AreSlots}
+use Rattle.database_law.proofs.Words.{name_word, slot_word}
 use Rattle.record_write.specs.Written.{with_newline}
 use Rattle.record_write.specs.Recorded.{IsFlagSet}
 
@@ -47,42 +45,7 @@ words_newline (b ∷ bs) = ap texts (words_ended 0 (b ∷ bs))
 words_written : (ws : List (List ℕ)) → list_all is_word ws ≡ true → words_of (with_newline (spaced ws)) ≡ ws
 words_written ws h = words_newline (spaced ws) ∙ words_of-spaced ws h
 
--- ---- names are words
-
--- no byte of the text is a blank
-abbrev AreSolid : List ℕ → Type 0
-AreSolid bytes = AllByRecursion (λ b. is_blank b ≡ false) bytes
-
-plain_solid : (bytes : List ℕ) → ArePlain bytes → AreSolid bytes
-plain_solid [] h = tt
-plain_solid (b ∷ bs) h = (rw (plain_differs b 32 refl h.0, plain_differs b 9 refl h.0, plain_differs b 10 refl h.0, plain_differs b 13 refl h.0) refl, plain_solid bs h.1)
-
-solid-append : (xs ys : List ℕ) → AreSolid xs → AreSolid ys → AreSolid (xs ++ ys)
-solid-append [] ys h k = k
-solid-append (x ∷ xs) ys h k = (h.0, solid-append xs ys h.1 k)
-
-solid_word : (b : ℕ) (bs : List ℕ) → AreSolid (b ∷ bs) → is_word (b ∷ bs) ≡ true
-solid_word b [] h = ap not h.0
-solid_word b (c ∷ bs) h = ap (λ x. not x && is_word (c ∷ bs)) h.0 ∙ solid_word c bs h.1
-
-name_solid : (kind : Kind) (bytes : List ℕ) → IsName kind bytes → AreSolid bytes
-name_solid kind bytes is = plain_solid bytes (plain_name kind bytes is)
-
-name_word : (kind : Kind) (bytes : List ℕ) → IsName kind bytes → is_word bytes ≡ true
-name_word kind [] is = absurd (omega (arith, is.spelled.sized.some))
-name_word kind (b ∷ bs) is = solid_word b bs (name_solid kind (b ∷ bs) is)
-
 -- ---- SLOT
-
-slot_word : (slot subslot : List ℕ) → IsName kinds.Slot slot → IsName kinds.Slot subslot → is_word (slot_text slot subslot) ≡ true
-slot_word [] subslot is also = absurd (omega (arith, is.spelled.sized.some))
-slot_word (b ∷ bs) subslot is also =
-    let solid = name_solid kinds.Slot (b ∷ bs) is in
-    let more = name_solid kinds.Slot subslot also in
-    elim (cases_Bool (bytes_eq (b ∷ bs) subslot)) [
-      | inl e ↦ (ap (λ x. is_word (if x then b ∷ bs else (b ∷ bs) ++ (47 ∷ subslot))) e ∙ solid_word b bs solid)
-      | inr e ↦ (ap (λ x. is_word (if x then b ∷ bs else (b ∷ bs) ++ (47 ∷ subslot))) e ∙ solid_word b (bs ++ (47 ∷ subslot)) (solid-append (b ∷ bs) (47 ∷ subslot) solid (refl, more)))
-    ]
 
 pub slots_said : (slot subslot : List ℕ) → IsName kinds.Slot slot → IsName kinds.Slot subslot → AreSlots (words_of (with_newline (slot_text slot subslot))) slot subslot
 slots_said slot subslot is also = record {
@@ -108,15 +71,6 @@ all_unmarked : (ws : List (List ℕ)) → AllByRecursion IsFlag ws → map flag_
 all_unmarked [] all = refl
 all_unmarked (w ∷ ws) all =
     ap (λ (v : List ℕ). v ∷ map flag_of ws) (unmarked w all.0) ∙ ap (λ (vs : List (List ℕ)). w ∷ vs) (all_unmarked ws all.1)
-
-pub all_has : {A : Type 0} (P : A → Type 0) (xs : List A) (x : A) → AllByRecursion P xs → Has xs x → P x
-all_has P [] x all has = absurd has
-all_has P (y ∷ ys) x all (inl e) = subst P e all.0
-all_has P (y ∷ ys) x all (inr has) = all_has P ys x all.1 has
-
-pub all_by_has : {A : Type 0} (P : A → Type 0) (xs : List A) → ((x : A) → Has xs x → P x) → AllByRecursion P xs
-all_by_has P [] each = tt
-all_by_has P (x ∷ xs) each = (each x (inl refl), all_by_has P xs (λ y has. each y (inr has)))
 
 own_flags : (set : List (List ℕ)) → IsFlagSet set → AreFlags set set
 own_flags set is = record { rising = is.rising; each = λ flag has. all_has IsFlag set flag is.names has; members = λ flag. (λ h. h, λ h. h) }

@@ -12,10 +12,10 @@ use Rattle.merge_record.proofs.Form.{in_if_has}
 use Rattle.merge_record.specs.Recovered.{IsRecovered}
 use Rattle.merge_core.specs.Recovery.{Asked, with_removed}
 use Rattle.merge_core.proofs.Keeps.{fixed_write}
+use Rattle.merge_core.proofs.Redone.{removed_reads}
 use Rattle.recovery.specs.Phases.{IsShut, cleared}
 use Rattle.recovery.proofs.Asked.{runs_asked}
 use Rattle.recovery.proofs.Shut.{quiet_write, shut_leaves, shut_settled}
-use Rattle.recovery.proofs.Stages.{removed_holds}
 use Rattle.basics.proofs.Membership.{has-from_contains, contains-from_has}
 use Rattle.basics.proofs.Tests.{none_is_not_some}
 
@@ -38,7 +38,7 @@ cleared_at_end m ps d d' all k is q = go (is_below jobs q) refl
     gone below (Some o) e = cond-true (is_in ps q) None (d.holds q) (in_if_has ps q (has-from_contains ps q ((all q).1 (below, subst IsSome (sym e) refl))))
 
     go : (b : Bool) → is_below jobs q ≡ b → d'.holds q ≡ cleared m q
-    go true e = ap (λ (x : Disk). x.holds q) is ∙ (removed_holds ps d q ∙ (gone e (d.holds q) refl ∙ sym (cond-true (is_below jobs q) None (m q) e)))
+    go true e = ap (λ (x : Disk). x.holds q) is ∙ (removed_reads ps d q ∙ (gone e (d.holds q) refl ∙ sym (cond-true (is_below jobs q) None (m q) e)))
     go false e = (k.outside q e).reads ∙ sym (cond-false (is_below jobs q) None (m q) e)
 
 -- what was listed below the journal's folder

@@ -7,14 +7,15 @@ use Rattle.std.specs.List.Sorted.{IsPermutation, IsSorted, IsStrictlySortedBy}
 use Rattle.std.specs.Ordering.{is_eq, nat_cmp}
 use Rattle.std.specs.declared.cmp.Ordering.TheVariants.{Less}
 use Rattle.std.proofs.lemmas.Bool.{cases_eq, cond-false, cond-true, eq-eqb, ne_eqb}
-use Rattle.std.proofs.lemmas.List.{drop_all, drop_more}
+use Rattle.std.proofs.lemmas.List.{drop_all, drop_more, take_all}
 use Rattle.std.proofs.lemmas.List.Kept.{AllPairs-from_increasing}
-use Rattle.std.proofs.lemmas.List.Sorted.{Contains-permutation, IsNonDecreasingBy-from_sort}
+use Rattle.std.proofs.lemmas.List.Sorted.{IsNonDecreasingBy-from_sort}
 use Rattle.std.proofs.lemmas.Map.Keys.{IsDistinct-IsPermutation, IsStrictlyIncreasing-from_distinct}
 use Rattle.std.proofs.lemmas.Map.Text.{is_eq-slice_cmp}
 use Rattle.std.proofs.lemmas.Slice.Eq.{bytes_eq-Decides}
 use Rattle.basics.specs.Members.{AreDistinct, Has}
-use Rattle.basics.proofs.Membership.{has-append_cases, has-append_left, has-append_right, has-from_contains, contains-from_has, has-filter_back}
+use Rattle.basics.proofs.Membership.{has-append_cases, has-append_left, has-append_right, contains-from_has, has-filter_back, has-at}
+use Rattle.basics.proofs.Each.{all_has}
 use Rattle.merge_record.specs.Names.{gate_path}
 use Rattle.merge_record.specs.Open.{IsRising}
 use Rattle.recovery.proofs.Places.{gates_same}
@@ -51,9 +52,6 @@ kept_end p front gs i total le so_far = sym (append-nil front) ∙ (ap (λ (l : 
 
 -- ---- an element by its place
 
-pub has_at : {A : Type 0} (xs : List A) (i : ℕ) (x : A) → i < length xs → x ≡ get_or xs i x → Has xs x
-has_at xs i x lt is = has-from_contains xs x (i, lt, sym is)
-
 -- ---- the front of a list, one element at a time
 
 pub take_cases : {A : Type 0} (xs : List A) (i : ℕ) (p q : A) → i < length xs → p ≡ get_or xs i p → Has (take (suc i) xs) q → Has (take i xs) q ⊎ (p ≡ q)
@@ -78,7 +76,7 @@ take_here (x ∷ xs) (suc i) p lt is = inr (take_here xs i p (omega arith) is)
 not_before : {A : Type 0} (xs : List A) (i : ℕ) (p : A) → AreDistinct xs → i < length xs → p ≡ get_or xs i p → Has (take i xs) p → ⊥
 not_before [] i p d lt is has = absurd (omega arith)
 not_before (x ∷ xs) zero p d lt is has = has
-not_before {A = A} (x ∷ xs) (suc i) p d lt is (inl e) = d.0 (subst (λ (y : A). Has xs y) (sym e) (has_at xs i p (omega arith) is))
+not_before {A = A} (x ∷ xs) (suc i) p d lt is (inl e) = d.0 (subst (λ (y : A). Has xs y) (sym e) (has-at xs i p (omega arith) is))
 not_before (x ∷ xs) (suc i) p d lt is (inr k) = not_before xs i p d.1 (omega arith) is k
 
 distinct_push : (gs : List ℕ) (g : ℕ) → AreDistinct gs → (Has gs g → ⊥) → AreDistinct (gs ++ g ∷ [])
@@ -87,12 +85,6 @@ distinct_push (x ∷ gs) g d none = (
   λ has. elim (has-append_cases gs (g ∷ []) x has) [ inl k ↦ d.0 k | inr k ↦ elim k [ inl e ↦ none (inl (sym e)) | inr nothing ↦ nothing ] ],
   distinct_push gs g d.1 (λ has. none (inr has)),
 )
-
-take_all : {A : Type 0} (xs : List A) (i : ℕ) → length xs ≤ i → take i xs ≡ xs
-take_all [] zero le = refl
-take_all [] (suc i) le = refl
-take_all (x ∷ xs) zero le = absurd (omega arith)
-take_all {A = A} (x ∷ xs) (suc i) le = ap (λ (l : List A). x ∷ l) (take_all xs i (omega arith))
 
 -- the groups whose gate is among the first i paths
 pub record AreGathered (paths : List (List ℕ)) (i : ℕ) (gs : List ℕ) : Type 0 where
@@ -134,16 +126,11 @@ gathered_pass paths i p gs lt is none k = rw add-one (record {
 
 pub gathered_end : (paths : List (List ℕ)) (i : ℕ) (gs : List ℕ) → length paths ≤ i → AreGathered paths i gs → (h : ℕ) → Has gs h ↔ ((h < 2 ^ 32) × Has paths (gate_path h))
 gathered_end paths i gs le k h = (
-  λ has. let b = k.among h has in (b.0, subst (λ (l : List (List ℕ)). Has l (gate_path h)) (take_all paths i le) b.1),
-  λ b. k.all h b.0 (subst (λ (l : List (List ℕ)). Has l (gate_path h)) (sym (take_all paths i le)) b.1),
+  λ has. let b = k.among h has in (b.0, subst (λ (l : List (List ℕ)). Has l (gate_path h)) (take_all i paths le) b.1),
+  λ b. k.all h b.0 (subst (λ (l : List (List ℕ)). Has l (gate_path h)) (sym (take_all i paths le)) b.1),
 )
 
 -- ---- a sorted list has no element twice
-
-all_has : {A : Type 0} (P : A → Type 0) (xs : List A) (x : A) → AllByRecursion P xs → Has xs x → P x
-all_has P [] x all has = absurd has
-all_has P (y ∷ ys) x all (inl e) = subst P e all.0
-all_has P (y ∷ ys) x all (inr k) = all_has P ys x all.1 k
 
 pub distinct_if_sorted : (ps : List (List ℕ)) → IsStrictlySortedBy (slice_cmp nat_cmp) ps → AreDistinct ps
 unfolding IsStrictlySortedBy
@@ -182,9 +169,6 @@ rising_if_pairs (g ∷ gs) pairs = (
 pub rising_if_sorted : (gs hs : List ℕ) → AreDistinct gs → IsPermutation gs hs → IsSorted nat_cmp hs → IsRising hs
 rising_if_sorted gs hs d moved sorted =
     rising_if_pairs hs (AllPairs-from_increasing hs (IsStrictlyIncreasing-from_distinct hs (IsNonDecreasingBy-from_sort (λ x. x) hs sorted) (IsDistinct-IsPermutation eqb flips gs hs moved (differ gs d))))
-
-pub has_if_moved : {A : Type 0} (xs ys : List A) (x : A) → IsPermutation xs ys → Has xs x → Has ys x
-has_if_moved xs ys x moved has = has-from_contains ys x (Contains-permutation xs ys x moved (contains-from_has xs x has))
 
 -- some of a rising list
 pub rising_filter : (p : ℕ → Bool) (gs : List ℕ) → IsRising gs → IsRising (filter p gs)

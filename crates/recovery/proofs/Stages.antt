@@ -1,16 +1,13 @@
 -- The stages of a group by their places, and the disk behind each change of a group's paths.
-use Rattle.std.proofs.Common.{◌≡◌, ◌<◌, ◌+◌, ◌||◌, ℕ, zero, suc, Bool, true, false, cond, Option, None, refl, subst, List, [], ◌∷◌, ◌++◌, sym, ap, ◌∙◌, inl, inr, arith, length, get_or, drop, add-zero, zero-add, add-one}
-use Rattle.std.specs.Prelude.{IsSome, bytes_eq}
-use Rattle.std.proofs.lemmas.Bool.{cond-false, cond-true}
+use Rattle.std.proofs.Common.{◌≡◌, ◌<◌, ◌+◌, ℕ, zero, suc, false, Option, None, refl, subst, List, [], ◌∷◌, ◌++◌, sym, ap, ◌∙◌, inl, inr, arith, length, get_or, drop, add-zero, zero-add, add-one}
+use Rattle.std.specs.Prelude.{IsSome}
 use Rattle.basics.specs.Members.{Has}
-use Rattle.basics.proofs.Texts.{bytes_eq-swap}
 use Rattle.file_tree.specs.Disk.{Disk, write}
 use Rattle.file_tree.specs.Paths.{is_below}
 use Rattle.file_tree.specs.Thing.{Thing}
 use Rattle.merge_core.specs.Recovery.{with_placed, with_removed}
 use Rattle.merge_core.proofs.Keeps.{write_reads}
 use Rattle.merge_core.proofs.Paths.{file_below}
-use Rattle.merge_record.specs.Judging.{is_in}
 use Rattle.merge_record.specs.Names.{jobs, stage_path}
 use Rattle.merge_record.specs.Names.Part.{Stage}
 use Rattle.merge_record.specs.declared.record.Placement.{Placement}
@@ -51,15 +48,6 @@ placed_step g i ps p d d' lt is wrote = rest ps i lt is where
   rest (x ∷ xs) (suc j) l e = rest xs j (omega arith) e
 
 -- ---- what the changed disk holds
-
-pub removed_holds : (rs : List (List ℕ)) (d : Disk) (q : List ℕ) → (with_removed rs d).holds q ≡ cond (is_in rs q) None (d.holds q)
-removed_holds [] d q = refl
-removed_holds (p ∷ ps) d q = removed_holds ps (write d p None) q ∙ go (bytes_eq q p) (is_in ps q) (bytes_eq-swap p q) where
-  go : (b c : Bool) → bytes_eq p q ≡ b → cond c None (cond (bytes_eq p q) None (d.holds q)) ≡ cond (b || c) None (d.holds q)
-  go true true e = refl
-  go true false e = cond-true (bytes_eq p q) None (d.holds q) e
-  go false true e = refl
-  go false false e = cond-false (bytes_eq p q) None (d.holds q) e
 
 -- a path outside the journal leaves the stages as they are
 pub stage_stays : (d : Disk) (p : List ℕ) (x : Option Thing) (g i : ℕ) → is_below jobs p ≡ false → IsSome (d.holds (stage_path g i)) → IsSome ((write d p x).holds (stage_path g i))

@@ -24,11 +24,11 @@ use Rattle.merge_core.specs.Roll.{phase_at, stood}
 use Rattle.merge_core.proofs.Paths.{covered_outside, live_if_working}
 use Rattle.merge_core.proofs.Redo.{beginning_recovers, found_by, gates_settle, judged_opens, redo_firm, redo_recovers, redo_settles, redo_sound, redone_recovers, working_among}
 use Rattle.merge_core.proofs.Walk.{first_sync, gates_walk, odd_walks, walk_start, walk_synced}
+use Rattle.merge_core.proofs.Redone.{removed_reads}
 use Rattle.recovery.specs.Calls.{emptied}
 use Rattle.recovery.specs.Found.{AreOdd, Found, IsFound}
 use Rattle.recovery.specs.Phases.{IsRedone, IsShut, cleared}
 use Rattle.recovery.specs.Promise.{RecoversAlike}
-use Rattle.recovery.proofs.Stages.{removed_holds}
 use Rattle.recovery.proofs.Steps.{emptied_has, emptied_outside}
 use Rattle.basics.proofs.Tests.{none_is_not_some}
 
@@ -93,7 +93,7 @@ bare_gate a d g small firm none =
     }))).reads
 
 gate_gone : (a : Map) (gs : List ℕ) (d : Disk) (g : ℕ) → IsRedone a gs d → g < 2 ^ 32 → (with_removed (map gate_path gs) d).holds (gate_path g) ≡ None
-gate_gone a gs d g k small = removed_holds (map gate_path gs) d (gate_path g) ∙ go (a (gate_path g)) refl
+gate_gone a gs d g k small = removed_reads (map gate_path gs) d (gate_path g) ∙ go (a (gate_path g)) refl
   where
     go : (x : Option Thing) → a (gate_path g) ≡ x → cond (is_in (map gate_path gs) (gate_path g)) None (d.holds (gate_path g)) ≡ None
     go None e = elim (cases_Bool (is_in (map gate_path gs) (gate_path g))) [

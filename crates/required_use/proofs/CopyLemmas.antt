@@ -5,10 +5,10 @@ use Rattle.dep_group.specs.Trees.{tree, trees_of}
 use Rattle.required_use.specs.declared.required.Required.{Required}
 use Rattle.required_use.specs.View.{trees_view, view}
 
-viewed : (ns : List Required) → trees_view ns ≡ trees_of (map view ns)
-viewed [] = refl
-viewed (n ∷ ns) = ap (tree (view n)) (viewed ns)
+trees_view-map : (ns : List Required) → trees_view ns ≡ trees_of (map view ns)
+trees_view-map [] = refl
+trees_view-map (n ∷ ns) = ap (tree (view n)) (trees_view-map ns)
 
 -- expressions that are seen alike one by one are seen alike together
 pub alike : (ms ns : List Required) → map view ms ≡ map view ns → trees_view ms ≡ trees_view ns
-alike ms ns h = viewed ms ∙ ap trees_of h ∙ sym (viewed ns)
+alike ms ns h = trees_view-map ms ∙ ap trees_of h ∙ sym (trees_view-map ns)

@@ -1,6 +1,7 @@
 -- A word is one item at most, and a text has one first fault.
 use Rattle.std.proofs.Common.{◌≡◌, ◌≢◌, ℕ, Bool, true, false, List, [], ◌∷◌, refl, ap, sym, ◌∙◌, subst, arith, ◌==◌}
 use Rattle.std.proofs.lemmas.Bool.Decides.{nat_tests}
+use Rattle.basics.proofs.Lists.{tails}
 use Rattle.dep_group.specs.Shapes.{denies, exclamation_mark}
 use Rattle.dep_group.specs.Tokens.{IsFlag, IsLeafWord, IsOnlyLeaf}
 use Rattle.dep_group.proofs.TextLemmas as groups
@@ -27,9 +28,6 @@ not_denied flag h = let begins = h.spelled.begins in absurd (cc)
 items_same : (f f' : List ℕ) (on on' : Bool) → IsFlag f → IsFlag f' → item_text f on ≡ item_text f' on' → (let item : List ℕ → Bool → Item = λ g b. record { flag = g; on = b } in item f on ≡ item f' on')
 items_same f f' true true h h' e = let item : List ℕ → Item = λ g. record { flag = g; on = true } in ap item e
 items_same f f' false false h h' e = let item : List ℕ → Item = λ g. record { flag = g; on = false } in ap item (tails _ _ _ _ e)
-  where
-    tails : (a b : ℕ) (xs ys : List ℕ) → a ∷ xs ≡ b ∷ ys → xs ≡ ys
-    tails a b xs ys e = cc
 items_same f f' true false h h' e = let P : List ℕ → Type 0 = λ g. IsFlag g in absurd (not_denied f' (subst P e h))
 items_same f f' false true h h' e = let P : List ℕ → Type 0 = λ g. IsFlag g in absurd (not_denied f (subst P (sym e) h'))
 
@@ -47,9 +45,6 @@ no_flag w rest flag true true d none e h = none (let P : List ℕ → Type 0 = �
 no_flag w rest flag true false d none e h = let yes = ap denies e in let no = d.1 in absurd (cc)
 no_flag w rest flag false true d none e h = not_denied rest (let P : List ℕ → Type 0 = λ f. IsFlag f in subst P (sym e ∙ d) h)
 no_flag w rest flag false false d none e h = none (let P : List ℕ → Type 0 = λ f. IsFlag f in subst P (tails _ _ _ _ (sym e ∙ d)) h)
-  where
-    tails : (a b : ℕ) (xs ys : List ℕ) → a ∷ xs ≡ b ∷ ys → xs ≡ ys
-    tails a b xs ys e = cc
 
 -- without a flag the word is no item
 pub no_item : (w rest : List ℕ) (on : Bool) → IsDenial w on rest → ¬ IsFlag rest → ¬ IsLeafWord grammar w

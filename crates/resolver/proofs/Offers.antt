@@ -1,6 +1,7 @@
 -- What may stand on lines, item by item.
 use Rattle.std.proofs.Common.{◌≡◌, ◌⊎◌, ◌<◌, ◌+◌, ℕ, zero, suc, List, [], ◌∷◌, Option, None, Some, add-one, ap, arith, get_or, inl, inr, length, map, refl, slice_get, subst, sym, take, ◌∙◌}
-use Rattle.std.proofs.lemmas.List.{get_or_past}
+use Rattle.std.proofs.lemmas.List.{get_or_past, length-map}
+use Rattle.std.proofs.lemmas.Bool.{cases_lt}
 use Rattle.basics.specs.Members.{Has}
 use Rattle.pkg_state.specs.Package.{Package}
 use Rattle.choice_law.specs.Laws.{IsUniverse}
@@ -8,8 +9,6 @@ use Rattle.choice_law.specs.Universe.{Offer, Value, absent, keep, no_offer, offe
 use Rattle.choice_tree.specs.Views.{offer_of, universe_of}
 use Rattle.choice_tree.specs.declared.universe.Offer.{Offer as TheOffer}
 use Rattle.choice_tree.specs.declared.universe.Universe.{Universe as TheUniverse}
-use Rattle.choice_tree.proofs.Numbers.{length_mapped}
-use Rattle.choice_tree.proofs.Pick.{below_or_not}
 use Rattle.resolver.specs.Form.{AreOffers, ArePlain, IsPlain}
 
 taken_more : {A : Type 0} (xs : List A) (i : ℕ) (d y : A) → i < length xs → Has (take (suc i) xs) y → Has (take i xs) y ⊎ (get_or xs i d ≡ y)
@@ -44,12 +43,12 @@ item_there (o ∷ os) zero less = (o, inl refl, refl)
 item_there (o ∷ os) (suc l) less = let r = item_there os l (omega (arith, less)) in (r.0, inr r.1, r.2)
 
 pub universe_plain : (u : TheUniverse) → AreOffers u.offers.items → IsUniverse (universe_of u)
-universe_plain u all l v p class e = elim (below_or_not l (length u.offers.items)) [
+universe_plain u all l v p class e = elim (cases_lt l (length u.offers.items)) [
   | inl less ↦ (
       let r = item_there u.offers.items l less in
       all r.0 r.1 v p (ap (λ (o : Offer). package_of o v) (sym r.2) ∙ e) class)
   | inr past ↦ absurd (
-      let long = length_mapped offer_of u.offers.items in
+      let long = length-map u.offers.items offer_of in
       let none : offer_at (universe_of u) l ≡ no_offer = get_or_past (map offer_of u.offers.items) l no_offer (omega (arith, long, past)) in
       nothing_offered v p (ap (λ (o : Offer). package_of o v) (sym none) ∙ e))
 ]

@@ -3,9 +3,8 @@ use Rattle.std.proofs.Common.{◌≡◌, ◌∙◌, ◌++◌, ◌+◌, ℕ, suc,
 use Rattle.std.specs.Cmp.Lexicographic.{slice_cmp}
 use Rattle.std.specs.List.{flat_map}
 use Rattle.std.specs.List.Sorted.{IsPermutation, IsSortedByKey}
-use Rattle.std.specs.Ordering.{is_eq, nat_cmp, ordering_reverse}
-use Rattle.std.specs.declared.cmp.Ordering.{Ordering}
-use Rattle.std.specs.declared.cmp.Ordering.TheVariants.{Equal, Greater, Less}
+use Rattle.std.specs.Ordering.{nat_cmp}
+use Rattle.std.specs.declared.cmp.Ordering.TheVariants.{Less}
 use Rattle.std.proofs.lemmas.Cmp.{nat_list_cmp_total}
 use Rattle.std.proofs.lemmas.List.{map-append}
 use Rattle.std.proofs.lemmas.List.Sorted.{IsPermutation-map, IsPermutation-sym}
@@ -13,6 +12,8 @@ use Rattle.std.proofs.lemmas.Map.Text.{is_eq-slice_cmp}
 use Rattle.basics.specs.Members.{AreDistinct, Has}
 use Rattle.basics.proofs.Membership.{has-map}
 use Rattle.basics.proofs.Texts.{bytes_eq-apart, less_one_way}
+use Rattle.basics.proofs.Orderings.{less_if}
+use Rattle.basics.proofs.Permutations.{distinct-moved, has-moved}
 use Rattle.dep_atom.specs.declared.package.Facts.{Facts}
 use Rattle.file_tree.specs.Disk.{Map}
 use Rattle.file_tree.specs.declared.objects.Entry.{Entry}
@@ -21,7 +22,6 @@ use Rattle.journal.specs.Group.{Group}
 use Rattle.merge_record.specs.declared.record.OwnerKey.{OwnerKey}
 use Rattle.merge_site.specs.declared.group.SiteGroup.{SiteGroup}
 use Rattle.owner_book.specs.Book.{Book}
-use Rattle.recovery.proofs.Lists.{has_if_moved}
 use Rattle.vdb_text.specs.Contents.{IsContentsOf, entry_line}
 use Rattle.vdb_text.specs.Files.{AreRecordOf, record_files}
 use Rattle.database_law.specs.Packages.{Installed}
@@ -31,7 +31,6 @@ use Rattle.group_run.specs.declared.files.Files.{Files}
 use Rattle.package_run.specs.Packages.{AreMadeOf, GROUP}
 use Rattle.package_law.proofs.LetIn as wished
 use Rattle.package_law.proofs.Places.{distinct_front}
-use Rattle.package_law.proofs.Records.{distinct_moved}
 use Rattle.run_law.specs.Runs.{MayCome}
 
 -- ---- entries in the order of their paths, all of which differ
@@ -47,11 +46,6 @@ others_sorted e es sorted k d low within =
     let further : suc k + 1 ≡ suc (k + 1) = omega arith in
     subst (λ (n : ℕ). is_lt (slice_cmp nat_cmp (path_of (get_or (e ∷ es) n d)) (path_of (get_or es k d))) ≡ false) further
     (sorted (suc k) d (omega arith) (omega (arith, within)))
-
-less_if : (o p : Ordering) → o ≡ ordering_reverse p → is_lt p ≡ false → is_eq o ≡ false → o ≡ Less
-less_if o Less e h k = absurd (cc h)
-less_if o Equal e h k = absurd (let same = ap is_eq e in cc)
-less_if o Greater e h k = e
 
 before_next : (x y : Entry) (es : List Entry) → AreSorted (x ∷ y ∷ es) → (x.path ≡ y.path → ⊥) → slice_cmp nat_cmp x.path y.path ≡ Less
 before_next x y es sorted apart =
@@ -89,12 +83,12 @@ sorted_once (x ∷ xs) (y ∷ ys) a b c d h k =
 
 module _ (image : List Entry) (differ : Differ image) where
   sorted_differ : (es : List Entry) → IsPermutation image es → Differ es
-  sorted_differ es all = distinct_moved (map path_of image) (map path_of es) (IsPermutation-map path_of image es all) differ
+  sorted_differ es all = distinct-moved (map path_of image) (map path_of es) (IsPermutation-map path_of image es all) differ
 
   one_contents : (s t : List ℕ) → IsContentsOf image s → IsContentsOf image t → s ≡ t
   one_contents s t a b =
-      let forth = λ (e : Entry) (has : Has a.sorted e). has_if_moved image b.sorted e b.all (has_if_moved a.sorted image e (IsPermutation-sym image a.sorted a.all) has) in
-      let back = λ (e : Entry) (has : Has b.sorted e). has_if_moved image a.sorted e a.all (has_if_moved b.sorted image e (IsPermutation-sym image b.sorted b.all) has) in
+      let forth = λ (e : Entry) (has : Has a.sorted e). has-moved image b.sorted e b.all (has-moved a.sorted image e (IsPermutation-sym image a.sorted a.all) has) in
+      let back = λ (e : Entry) (has : Has b.sorted e). has-moved image a.sorted e a.all (has-moved b.sorted image e (IsPermutation-sym image b.sorted b.all) has) in
       let same = sorted_once a.sorted b.sorted a.rising b.rising (sorted_differ a.sorted a.all) (sorted_differ b.sorted b.all) forth back in
       a.spelled ∙ (ap (λ (es : List Entry). flat_map entry_line es) same ∙ sym b.spelled)
 

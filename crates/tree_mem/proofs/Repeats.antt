@@ -13,7 +13,7 @@ use Rattle.tree_mem.specs.Items.{Item, held, paths}
 use Rattle.tree_mem.proofs.Order.{same_bytes}
 use Rattle.tree_mem.proofs.Held.{cond-swap}
 use Rattle.basics.proofs.Texts.{bytes_eq-same}
-use Rattle.basics.proofs.Membership.{contains-from_has}
+use Rattle.basics.proofs.Membership.{contains-from_has, distinct-push}
 
 pub paths-append : (xs ys : List Item) → paths (xs ++ ys) ≡ paths xs ++ paths ys
 paths-append [] ys = refl
@@ -35,16 +35,6 @@ has-of_held (e ∷ es) p s = go (bytes_eq e.0 p) refl s (has-of_held es p)
     go : (b : Bool) → bytes_eq e.0 p ≡ b → IsSome (cond b (Some e.1) (held es p)) → (IsSome (held es p) → Has (paths es) p) → (e.0 ≡ p) ⊎ Has (paths es) p
     go true eq s rec = inl (same_bytes e.0 p eq)
     go false eq s rec = inr (rec s)
-
-distinct-push : (ns : List (List ℕ)) (p : List ℕ) → AreDistinct ns → (Has ns p → ⊥) → AreDistinct (ns ++ p ∷ [])
-distinct-push [] p d n = (λ h. absurd h, tt)
-distinct-push (m ∷ ns) p d n = (apart ns d.0, distinct-push ns p d.1 (λ h. n (inr h)))
-  where
-    apart : (ns : List (List ℕ)) → (Has ns m → ⊥) → Has (ns ++ p ∷ []) m → ⊥
-    apart [] f (inl same) = n (inl (sym same))
-    apart [] f (inr h) = absurd h
-    apart (k ∷ ns) f (inl same) = f (inl same)
-    apart (k ∷ ns) f (inr h) = apart ns (λ g. f (inr g)) h
 
 pub distinct-item : (done : List Item) (e : Item) → AreDistinct (paths done) → held done e.0 ≡ None → AreDistinct (paths (done ++ e ∷ []))
 distinct-item done e d none =

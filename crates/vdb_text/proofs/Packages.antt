@@ -21,9 +21,9 @@ pf_lacks id is =
     lacks-append 47 47 id.name.«package» (45 ∷ spelling id.version) (lacks_plain 47 47 id.name.«package» refl refl (plain_name Package id.name.«package» is.«package»)) (lacks_plain 47 47 (spelling id.version) refl refl (plain_version id.version is.version.version))
 
 -- a path of a package's folder, by its parts
-folder_parts : (id : PackageId) (name : List ℕ) → record_path id name ≡ codes "var/db/pkg/" ++ (id.name.category ++ (47 ∷ (name_and_version id ++ (47 ∷ name))))
+pub record_path-parts : (id : PackageId) (name : List ℕ) → record_path id name ≡ codes "var/db/pkg/" ++ (id.name.category ++ (47 ∷ (name_and_version id ++ (47 ∷ name))))
 unfolding record_path
-folder_parts id name = ap (λ (t : List ℕ). codes "var/db/pkg/" ++ t) (append_assoc id.name.category (47 ∷ name_and_version id) (47 ∷ name))
+record_path-parts id name = ap (λ (t : List ℕ). codes "var/db/pkg/" ++ t) (append_assoc id.name.category (47 ∷ name_and_version id) (47 ∷ name))
 
 -- a version is spelled in one way
 abbrev pub OneSpelling : Type 0
@@ -39,7 +39,7 @@ pub one_id : ComesApart → OneSpelling → (a b : PackageId) (x y : List ℕ) �
 one_id apart once a b x y is-a is-b same =
     let front : List ℕ = name_and_version a ++ (47 ∷ x) in
     let back : List ℕ = name_and_version b ++ (47 ∷ y) in
-    let e : a.name.category ++ (47 ∷ front) ≡ b.name.category ++ (47 ∷ back) = append_cancel_left (codes "var/db/pkg/") (a.name.category ++ (47 ∷ front)) (b.name.category ++ (47 ∷ back)) (sym (folder_parts a x) ∙ same ∙ folder_parts b y) in
+    let e : a.name.category ++ (47 ∷ front) ≡ b.name.category ++ (47 ∷ back) = append_cancel_left (codes "var/db/pkg/") (a.name.category ++ (47 ∷ front)) (b.name.category ++ (47 ∷ back)) (sym (record_path-parts a x) ∙ same ∙ record_path-parts b y) in
     let one = cut_once 47 47 a.name.category (47 ∷ front) b.name.category (47 ∷ back) (category_lacks a is-a) (category_lacks b is-b) refl refl e in
     let two = cut_once 47 47 (name_and_version a) (47 ∷ x) (name_and_version b) (47 ∷ y) (pf_lacks a is-a) (pf_lacks b is-b) refl refl (ap (drop 1) one.1) in
     same_id apart once a b is-a is-b one.0 two.0

@@ -4,6 +4,7 @@ use Rattle.std.specs.List.{AllByRecursion, flat_map}
 use Rattle.std.proofs.Common.{◌≡◌, ◌∙◌, ◌⊎◌, inl, inr, ℕ, List, [], ◌∷◌, ◌++◌, drop, get_or, refl, sym, ap, subst, append_assoc, append-nil, arith}
 use Rattle.std.proofs.lemmas.List.{append_cancel_left}
 use Rattle.basics.specs.Bytes.{is_digit, is_lower}
+use Rattle.basics.proofs.Lists.{heads_differ}
 use Rattle.version_text.specs.Grammar.{AreDigits, IsInteger, IsLetter, SuffixKind, SuffixText, Parts, IsVersion, IsVersionText, kind_at, word, spell_number, spell_suffix, spell_revision, spell_ending, spelling}
 use Rattle.version_text.specs.Grammar.SuffixKind.{Alpha, Beta, Pre, Rc, P}
 use Rattle.version_text.specs.declared.place.Place.{Place}
@@ -77,9 +78,6 @@ kind_at-word P (d ∷ ds) ss r h =
     let other : (d == 114) ≡ false = tests_below d 114 (omega arith) in
     rw other
 
-heads_differ : (x y : ℕ) (xs ys : List ℕ) → (x ≡ y → ⊥) → x ∷ xs ≡ y ∷ ys → ⊥
-heads_differ x y xs ys n e = n (ap (λ l. get_or l 0 0) e)
-
 one_revision : (r q : List ℕ) → spell_revision r ≡ spell_revision q → r ≡ q
 one_revision [] [] e = refl
 one_revision [] (d ∷ ds) e = absurd (cc)
@@ -90,7 +88,7 @@ no_suffix_here : (r : List ℕ) (xs : List ℕ) → spell_revision r ≡ 95 ∷ 
 no_suffix_here [] xs e = cc
 no_suffix_here (d ∷ ds) xs e = heads_differ 45 95 (114 ∷ d ∷ ds) xs (λ n. omega arith) e
 
-shift_suffix : (w d f r : List ℕ) → ((w ++ d) ++ f) ++ r ≡ w ++ (d ++ (f ++ r))
+pub shift_suffix : (w d f r : List ℕ) → ((w ++ d) ++ f) ++ r ≡ w ++ (d ++ (f ++ r))
 shift_suffix w d f r = simp append_assoc
 
 pub one_ending : (ss ts : List SuffixText) (r q : List ℕ) → AllByRecursion (λ (s : SuffixText). AreDigits s.digits) ss → AllByRecursion (λ (s : SuffixText). AreDigits s.digits) ts → spell_ending ss r ≡ spell_ending ts q → (ss ≡ ts) × (r ≡ q)

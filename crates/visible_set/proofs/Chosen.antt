@@ -2,11 +2,12 @@
 use Rattle.std.proofs.Common.{◌≡◌, ◌∙◌, ◌⊎◌, inl, inr, true, false, Option, Some, None, List, ℕ, [], get_or, sym, ap}
 use Rattle.std.specs.Cmp.Lexicographic.{slice_cmp}
 use Rattle.std.specs.List.{AllByRecursion, position}
-use Rattle.std.specs.Ordering.{nat_cmp, ordering_reverse, ordering_then}
+use Rattle.std.specs.Ordering.{nat_cmp, ordering_then}
 use Rattle.std.specs.declared.cmp.Ordering.{Ordering}
 use Rattle.std.specs.declared.cmp.Ordering.TheVariants.{Equal, Greater, Less}
 use Rattle.std.proofs.lemmas.Cmp.{nat_list_cmp_total, tied_itself}
 use Rattle.std.proofs.lemmas.List.Quantifiers.{position-Some}
+use Rattle.basics.proofs.Texts.{less_one_way}
 use Rattle.version_text.specs.Grammar.{IsVersion, Parts, spelling}
 use Rattle.pms_version.specs.Order.{version_cmp}
 use Rattle.dep_atom.specs.Match.{value_matches}
@@ -37,12 +38,6 @@ then_less Less s h e = absurd (cc)
 then_less Equal s h e = h
 then_less Greater s h e = absurd (cc)
 
-not_both : (a b : List ℕ) → slice_cmp nat_cmp a b ≡ Less → slice_cmp nat_cmp b a ≡ Less → ⊥
-not_both a b h k =
-    let back = nat_list_cmp_total.antisymm a b in
-    let turned = ap ordering_reverse k in
-    cc
-
 no_greater : (f g : Facts) → version_cmp f.id.version f.id.version ≡ Equal → (g ≡ f) ⊎ (offer_cmp f g ≡ Less) → version_cmp g.id.version f.id.version ≡ Greater → ⊥
 no_greater f g itself (inl e) greater =
     let same = ap (λ (x : Facts). version_cmp x.id.version f.id.version) e in
@@ -54,7 +49,7 @@ no_smaller_text f g (inl e) equal less =
     let same = ap (λ (x : Facts). slice_cmp nat_cmp (spelling x.id.version) (spelling f.id.version)) e in
     let itself = tied_itself nat_list_cmp_total (spelling f.id.version) in
     cc
-no_smaller_text f g (inr before) equal less = not_both (spelling g.id.version) (spelling f.id.version) less (then_less _ _ before equal)
+no_smaller_text f g (inr before) equal less = less_one_way (spelling g.id.version) (spelling f.id.version) less (then_less _ _ before equal)
 
 chosen_first : (m : Map) (a : AtomValue) (offers : List Facts) (f : Facts) → ((v : Parts) → IsVersion v → version_cmp v v ≡ Equal) → AreOffers m a.name offers → FirstPassed (λ g. value_matches a g []) offer_cmp offers f → IsChosen m a f
 chosen_first m a offers f itself are h =

@@ -1,5 +1,5 @@
 -- What is read of all paths of the category's folder, put in order, is the list of offers.
-use Rattle.std.proofs.Common.{◌≡◌, ◌∙◌, ◌↔◌, ℕ, true, List, ap, get_or, subst, sym}
+use Rattle.std.proofs.Common.{◌≡◌, ◌∙◌, ◌↔◌, ℕ, true, List, get_or, subst, sym}
 use Rattle.std.specs.Prelude.{Contains, IsSome}
 use Rattle.std.specs.Cmp.{IsTotalOrder}
 use Rattle.std.specs.List.Sorted.{IsPermutation, IsSorted}
@@ -13,6 +13,7 @@ use Rattle.pms_version.specs.Keys.{key_cmp}
 use Rattle.pms_names.specs.declared.name.Name.{Name}
 use Rattle.dep_atom.specs.declared.package.Facts.{Facts}
 use Rattle.dep_atom.specs.declared.package.PackageId.{PackageId}
+use Rattle.dep_atom.proofs.SameParts.{same_facts}
 use Rattle.file_tree.specs.Disk.{Map}
 use Rattle.file_tree.specs.Paths.{is_below}
 use Rattle.visible_set.specs.Candidates.{AreOffers, HasOddEntry, IsCandidate, IsEntry, IsOffer, cache_path}
@@ -27,15 +28,6 @@ AreListed m name listed = (q : List ℕ) → Contains listed q ↔ ((is_below (f
 
 is_listed : (m : Map) (name : Name) (listed : List (List ℕ)) (id : PackageId) → AreListed m name listed → IsCandidate m name id → Contains listed (cache_path id)
 is_listed m name listed id all candidate = (all (cache_path id)).1 (below_folder name id candidate.named, candidate.there)
-
-same_facts : (f g : Facts) → f.id ≡ g.id → f.slot ≡ g.slot → f.subslot ≡ g.subslot → f.iuse ≡ g.iuse → f.enabled ≡ g.enabled → f ≡ g
-same_facts f g a b c d e =
-    let by_id : PackageId → Facts = λ x. record { id = x; slot = f.slot; subslot = f.subslot; iuse = f.iuse; enabled = f.enabled } in
-    let by_slot : List ℕ → Facts = λ x. record { id = g.id; slot = x; subslot = f.subslot; iuse = f.iuse; enabled = f.enabled } in
-    let by_subslot : List ℕ → Facts = λ x. record { id = g.id; slot = g.slot; subslot = x; iuse = f.iuse; enabled = f.enabled } in
-    let by_iuse : List (List ℕ) → Facts = λ x. record { id = g.id; slot = g.slot; subslot = g.subslot; iuse = x; enabled = f.enabled } in
-    let by_enabled : List (List ℕ) → Facts = λ x. record { id = g.id; slot = g.slot; subslot = g.subslot; iuse = g.iuse; enabled = x } in
-    ap by_id a ∙ (ap by_slot b ∙ (ap by_subslot c ∙ (ap by_iuse d ∙ ap by_enabled e)))
 
 one_offer : (m : Map) (name : Name) (f g : Facts) → SaysOnce → IsOffer m name f → IsOffer m name g → f.id ≡ g.id → f ≡ g
 one_offer m name f g once h k same =

@@ -1,10 +1,7 @@
 -- The paths of the entries of a name.
-use Rattle.std.proofs.Common.{◌≡◌, ◌∙◌, ◌&&◌, ◌==◌, ℕ, Bool, true, List, [], ◌++◌, ◌∷◌, length, take, get_or, append_assoc, ap, subst, sym}
-use Rattle.std.specs.Prelude.{bytes_eq, codes}
-use Rattle.std.proofs.lemmas.Bool.{eq-eqb}
+use Rattle.std.proofs.Common.{◌≡◌, ◌∙◌, ℕ, true, List, [], ◌++◌, ◌∷◌, append_assoc, ap, subst, sym}
+use Rattle.std.specs.Prelude.{codes}
 use Rattle.std.proofs.lemmas.List.{append_cancel_left}
-use Rattle.std.proofs.lemmas.Slice.Eq.{bytes_eq-Decides}
-use Rattle.std.proofs.Math.Seq.{get_or-append_seam, take-append_seam}
 use Rattle.version_text.specs.Grammar.{IsVersion, Parts, spelling}
 use Rattle.pms_version.specs.Limits.{IsReadable}
 use Rattle.pms_names.specs.Names.{IsName}
@@ -12,7 +9,9 @@ use Rattle.pms_names.specs.declared.kind.Kind.TheVariants.{Category, Package}
 use Rattle.pms_names.specs.declared.name.Name.{Name}
 use Rattle.dep_atom.specs.Ids.{IsId, name_and_version}
 use Rattle.dep_atom.specs.declared.package.PackageId.{PackageId}
+use Rattle.dep_atom.proofs.SameParts.{same_id}
 use Rattle.file_tree.specs.Paths.{is_below}
+use Rattle.file_tree.proofs.Below.{below_if_goes_on}
 use Rattle.visible_set.specs.Candidates.{cache_path}
 use Rattle.visible_set.specs.Reading.{AreNames, entry_stem, folder_path}
 
@@ -27,17 +26,8 @@ path_is id = joined (codes "var/db/repos/gentoo/metadata/md5-cache/") id.name.ca
 pub path_of : (name : Name) (id : PackageId) → id.name ≡ name → cache_path id ≡ entry_stem name ++ spelling id.version
 path_of name id e = path_is id ∙ ap (λ (n : Name). entry_stem n ++ spelling id.version) e
 
-and_both : (a b : Bool) → a ≡ true → b ≡ true → (a && b) ≡ true
-and_both a b h k = cc
-
-below_itself : (a r : List ℕ) → is_below a (a ++ 47 ∷ r) ≡ true
-below_itself a r =
-    and_both (bytes_eq a (take (length a) (a ++ 47 ∷ r))) (get_or (a ++ 47 ∷ r) (length a) 0 == 47)
-    ((bytes_eq-Decides a (take (length a) (a ++ 47 ∷ r))).1 (sym (take-append_seam a (47 ∷ r))))
-    (eq-eqb (get_or (a ++ 47 ∷ r) (length a) 0) 47 (get_or-append_seam a 47 r 0))
-
 below_joined : (p a r : List ℕ) → is_below (p ++ a) (p ++ (a ++ (47 ∷ r))) ≡ true
-below_joined p a r = subst (λ (x : List ℕ). is_below (p ++ a) x ≡ true) (append_assoc p a (47 ∷ r)) (below_itself (p ++ a) r)
+below_joined p a r = subst (λ (x : List ℕ). is_below (p ++ a) x ≡ true) (append_assoc p a (47 ∷ r)) (below_if_goes_on (p ++ a) r)
 
 in_folder : (id : PackageId) → is_below (folder_path id.name.category) (cache_path id) ≡ true
 unfolding folder_path cache_path
@@ -50,16 +40,10 @@ below_folder name id e = subst (λ (n : Name). is_below (folder_path n.category)
 abbrev pub SpelledOnce : Type 0
 SpelledOnce = (p q : Parts) → IsVersion p → IsVersion q → spelling p ≡ spelling q → p ≡ q
 
-same_parts : (a b : PackageId) → a.name ≡ b.name → a.version ≡ b.version → a ≡ b
-same_parts a b e f =
-    let by_name : Name → PackageId = λ name. record { name = name; version = a.version } in
-    let by_version : Parts → PackageId = λ version. record { name = b.name; version = version } in
-    ap by_name e ∙ ap by_version f
-
 pub one_id : (name : Name) (a b : PackageId) → SpelledOnce → IsId a → IsId b → a.name ≡ name → b.name ≡ name → cache_path a ≡ cache_path b → a ≡ b
 one_id name a b once h k e f same =
     let texts = append_cancel_left (entry_stem name) (spelling a.version) (spelling b.version) (sym (path_of name a e) ∙ (same ∙ path_of name b f)) in
-    same_parts a b (e ∙ sym f) (once a.version b.version h.version.version k.version.version texts)
+    same_id a b (e ∙ sym f) (once a.version b.version h.version.version k.version.version texts)
 
 pub same_path : (name : Name) (a b : PackageId) → a.name ≡ name → b.name ≡ name → spelling a.version ≡ spelling b.version → cache_path a ≡ cache_path b
 same_path name a b e f same = path_of name a e ∙ (ap (λ (t : List ℕ). entry_stem name ++ t) same ∙ sym (path_of name b f))

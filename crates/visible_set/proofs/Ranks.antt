@@ -1,15 +1,16 @@
 -- The order of candidates by keys is total, and on versions it is the order of candidates.
-use Rattle.std.proofs.Common.{◌≡◌, ◌∙◌, ◌+◌, ◌<◌, ◌≤◌, ℕ, true, false, List, [], ◌∷◌, Ordering, length, get_or, ap, arith, sym}
+use Rattle.std.proofs.Common.{◌≡◌, ◌∙◌, ◌+◌, ◌<◌, ◌≤◌, ℕ, true, List, [], ◌∷◌, Ordering, length, get_or, ap, arith, sym}
 use Rattle.std.specs.Cmp.{IsTotalOrder}
 use Rattle.std.specs.Cmp.Lexicographic.{slice_cmp}
 use Rattle.std.specs.List.{AllByRecursion, IsDistinct}
 use Rattle.std.specs.List.Sorted.{IsSorted, IsStrictlySortedBy}
-use Rattle.std.specs.Ordering.{eq_by_cmp, is_eq, is_lt, nat_cmp, ordering_reverse, ordering_then}
+use Rattle.std.specs.Ordering.{eq_by_cmp, is_eq, nat_cmp, ordering_then}
 use Rattle.std.specs.declared.cmp.Ordering.TheVariants.{Equal, Greater, Less}
 use Rattle.std.proofs.lemmas.Cmp.{back_total, nat_list_cmp_total, on_total, then_total}
 use Rattle.std.proofs.lemmas.Map.Keys.{apart_from_distinct, sorted_from_all_adjacent}
 use Rattle.std.proofs.lemmas.Map.Text.{is_eq-slice_cmp}
 use Rattle.std.proofs.lemmas.Slice.Eq.{bytes_eq-Decides}
+use Rattle.basics.proofs.Orderings.{less_if}
 use Rattle.version_text.specs.Grammar.{IsVersion, Parts, spelling}
 use Rattle.pms_version.specs.Keys.{key_cmp}
 use Rattle.pms_version.specs.Order.{version_cmp}
@@ -31,23 +32,15 @@ same_rank f g h =
     let tied = is_eq_then (key_cmp g.id.version f.id.version) (slice_cmp nat_cmp (spelling f.id.version) (spelling g.id.version)) h in
     (bytes_eq-Decides (spelling f.id.version) (spelling g.id.version)).0 (sym (is_eq-slice_cmp (spelling f.id.version) (spelling g.id.version)) ∙ tied)
 
-less_if : (o p : Ordering) → o ≡ ordering_reverse p → is_lt p ≡ false → is_eq o ≡ false → o ≡ Less
-less_if o Less e h k = absurd (cc)
-less_if o Equal e h k = absurd (let same = ap is_eq e in cc)
-less_if o Greater e h k = e
-
 next_less : {A : Type 0} (R : A → A → Ordering) (xs : List A) (d : A) → IsTotalOrder R → IsSorted R xs → IsDistinct (eq_by_cmp R) xs → (k : ℕ) → k + 1 < length xs → R (get_or xs k d) (get_or xs (k + 1) d) ≡ Less
 next_less R xs d total sorted apart k h =
     let from : 0 ≤ k = omega arith in
     let lt : k < k + 1 = omega arith in
     less_if (R (get_or xs k d) (get_or xs (k + 1) d)) (R (get_or xs (k + 1) d) (get_or xs k d)) (total.antisymm (get_or xs k d) (get_or xs (k + 1) d)) (sorted k d from h) (apart_from_distinct (eq_by_cmp R) xs k (k + 1) d apart lt h)
 
-none_sorted : {A : Type 0} (R : A → A → Ordering) → IsStrictlySortedBy R []
-unfolding IsStrictlySortedBy
-none_sorted R = tt
-
 strictly : {A : Type 0} (R : A → A → Ordering) (xs : List A) → IsTotalOrder R → IsSorted R xs → IsDistinct (eq_by_cmp R) xs → IsStrictlySortedBy R xs
-strictly R [] total sorted apart = none_sorted R
+unfolding IsStrictlySortedBy
+strictly R [] total sorted apart = tt
 strictly R (x ∷ xs) total sorted apart = sorted_from_all_adjacent total (x ∷ xs) x (next_less R (x ∷ xs) x total sorted apart)
 
 -- the versions of these are versions

@@ -1,4 +1,5 @@
-use Rattle.contents_text.proofs.Pieces.{ended_line, some_bytes, whole_line}
+use Rattle.basics.proofs.Texts.{some_bytes}
+use Rattle.contents_text.proofs.Pieces.{ended_line, whole_line}
 use Rattle.contents_text.proofs.cuts.first_line.Goals as goal
 
 pub returns-in-Some : goal.returns-in-Some

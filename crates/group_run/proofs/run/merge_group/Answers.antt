@@ -11,7 +11,8 @@ use Rattle.group_run.proofs.Told.{lines_none}
 use Rattle.std.specs.Prelude.{IfErr, Some}
 use Rattle.group_run.specs.Causes.{HasCause, StopsRun}
 use Rattle.merge_site.specs.Booking.{wishes_at}
-use Rattle.group_run.proofs.Caused.{cleared_cause, err_weaker, opened_as, rows_there, unwished}
+use Rattle.merge_site.proofs.Booked.{unwished}
+use Rattle.group_run.proofs.Caused.{cleared_cause, err_weaker, opened_as, rows_there}
 use Rattle.group_run.proofs.run.merge_group.Goals as goal
 
 pub returns-in-Err-clause-written : goal.returns-in-Err-clause-written

@@ -1,6 +1,7 @@
 use Rattle.std.proofs.Common.{◌≡◌, ◌<◌, ℕ, ◌++◌, ◌∷◌, ◌∙◌, [], append-nil, append_assoc, arith, length, refl, subst, sym, true}
 use Rattle.std.specs.Prelude.{IfErr}
 use Rattle.std.proofs.lemmas.Result.{err_from_is_err_and}
+use Rattle.basics.proofs.Each.{all-push}
 use Rattle.group_run.specs.Working.{HasStaged, standing_at}
 use Rattle.group_run.specs.declared.stop.Stop.TheVariants as stops
 use Rattle.group_run.proofs.Stopped.{stage_quiet}
@@ -10,7 +11,7 @@ use Rattle.std.proofs.lemmas.Iterator.Adapters.{YieldsList-from_vec}
 use Rattle.std.proofs.lemmas.Iterator.Consumers.{YieldsList-turn}
 use Rattle.merge_site.specs.Booking.{wish_for, wishes_at}
 use Rattle.image_fit.specs.Images.{is_good}
-use Rattle.group_run.proofs.Caused.{all_push, front_push, rows_kept, stage_stops, wished_on}
+use Rattle.group_run.proofs.Caused.{front_push, rows_kept, stage_stops, wished_on}
 use Rattle.group_run.proofs.staging.stage_all.Goals as goal
 
 pub loop-file-init : goal.loop-file-init
@@ -41,7 +42,7 @@ loop-file-preserved g c =
           (staged_on c.loop-file.site c.stage.new.self (before ++ c.loop-file.yielded) c.in-Some.file c.args.group (i.3 before has) c.in_ok-stage.ensures.ok)),
       c.stage.ensures.sink ∙ i.4,
       omega (arith, i.5, c.stage.ensures.faults.later),
-      all_push (λ x. is_good x ≡ true) c.loop-file.yielded c.in-Some.file i.6 c.in_ok-stage.ensures.taken.good,
+      all-push (λ x. is_good x ≡ true) c.loop-file.yielded c.in-Some.file i.6 c.in_ok-stage.ensures.taken.good,
       front_push c.args.files.items c.loop-file.yielded c.in-Some.file i.7 t.0 t.1,
       wished_on c.loop-file.site.wishes c.stage.new.self.wishes c.args.group c.args.owner c.args.folder (wishes_at c.args.site.now.wishes c.args.group) c.loop-file.yielded c.in-Some.file (subst (λ (n : ℕ). c.args.group < n) (sym i.9) c.requires.row) c.in_ok-stage.ensures.wishes i.8,
       rows_kept c.loop-file.site.wishes c.stage.new.self.wishes c.args.group (wish_for c.args.owner c.args.folder c.in-Some.file) c.in_ok-stage.ensures.wishes ∙ i.9,

@@ -1,10 +1,11 @@
 use Rattle.std.proofs.Common.{◌≡◌, ◌<◌, ◌++◌, ◌∙◌, ℕ, [], ap, false, subst, sym, true}
+use Rattle.basics.proofs.Each.{all-append}
 use Rattle.group_run.proofs.Worked.{works_then}
 use Rattle.std.proofs.lemmas.Result.{err_from_is_err_and, on_ok_weaker}
 use Rattle.image_fit.specs.Images.{is_good}
 use Rattle.group_run.specs.Causes.{StopsStages}
 use Rattle.group_run.specs.Granted.{wishes_for}
-use Rattle.group_run.proofs.Caused.{all_both, err_weaker, stages_behind, stages_more}
+use Rattle.group_run.proofs.Caused.{err_weaker, stages_behind, stages_more}
 use Rattle.group_run.proofs.staging.stage_files.Goals as goal
 
 pub returns-clause-works : goal.returns-clause-works
@@ -37,4 +38,4 @@ returns-clause-wishes g c =
 
 pub returns-clause-good : goal.returns-clause-good
 returns-clause-good g c =
-    on_ok_weaker c.stage_all-2.result (λ more. all_both (λ x. is_good x ≡ true) c.args.files.image.items c.args.files.folder.items c.in_ok-stage_all.ensures.good more) c.stage_all-2.ensures.good
+    on_ok_weaker c.stage_all-2.result (λ more. all-append (λ x. is_good x ≡ true) c.args.files.image.items c.args.files.folder.items c.in_ok-stage_all.ensures.good more) c.stage_all-2.ensures.good

@@ -1,8 +1,9 @@
 use Rattle.std.proofs.Common.{◌∙◌, ap, sym}
 use Rattle.std.specs.Str.{is_utf8}
 use Rattle.std.proofs.lemmas.Str.{is_utf8-from_IsUtf8}
+use Rattle.std.proofs.lemmas.Bool.{and_from, and_left}
 use Rattle.file_tree.specs.Paths.{is_path}
-use Rattle.merge_record.proofs.Steps.{is_utf8-false, and_both, and_left}
+use Rattle.merge_record.proofs.Steps.{is_utf8-false}
 use Rattle.merge_record.proofs.reading.path_from.Goals as goal
 
 pub returns-in_default : goal.returns-in_default
@@ -12,4 +13,4 @@ pub returns-in-Ok-parse : goal.returns-in-Ok-parse
 returns-in-Ok-parse c =
     let text = c.in-Ok.ensures.cases in
     let found = c.in-Ok-parse.ensures.found in
-    (found.0 ∙ text.0, and_both _ _ (is_utf8-from_IsUtf8 _ text.1) (ap is_path (sym text.0) ∙ found.1))
+    (found.0 ∙ text.0, and_from _ _ (is_utf8-from_IsUtf8 _ text.1) (ap is_path (sym text.0) ∙ found.1))

@@ -1,6 +1,6 @@
 use Rattle.std.proofs.Common.{inl, inr, refl, sym, ◌∙◌}
-use Rattle.basics.proofs.Texts.{less_one_way}
-use Rattle.path_overlap.proofs.Sets.{if_less, not_less, not_less_if}
+use Rattle.basics.proofs.Texts.{less_one_way, not_less}
+use Rattle.path_overlap.proofs.Sets.{if_less, not_less_if}
 use Rattle.path_overlap.proofs.index.lesser.Goals as goal
 
 pub returns-then-lt : goal.returns-then-lt

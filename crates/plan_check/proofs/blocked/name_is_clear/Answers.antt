@@ -3,12 +3,12 @@ use Rattle.std.proofs.lemmas.List.{take_all}
 use Rattle.std.proofs.lemmas.Slice.Eq.{bytes_eq-Decides}
 use Rattle.basics.specs.Members.{Has}
 use Rattle.dep_atom.specs.Values.{atom_value}
+use Rattle.pkg_state.proofs.Named.{same_package}
 use Rattle.plan_check.specs.Index.{all_lives, name_key, plan_of}
 use Rattle.plan_check.specs.Kept.{IsKept}
 use Rattle.plan_check.specs.Lives.{life_of, lives_of}
 use Rattle.plan_check.specs.declared.life.Life.{Life}
 use Rattle.plan_check.proofs.Keyed.{in_items, item_at, none_more}
-use Rattle.plan_check.proofs.Serving.{of_name}
 use Rattle.plan_check.proofs.blocked.name_is_clear.Goals as goal
 
 pub keeps_out-requires-clause-y : goal.keeps_out-requires-clause-y
@@ -27,6 +27,6 @@ returns c t y h m =
     let index = c.args.index.now in
     let items = c.get-y-items.result.now in
     let a = atom_value c.args.atom.now in
-    let name : c.text.result.now ≡ name_key y = c.text.ensures.text ∙ (bytes_eq-Decides a.name.«package» (name_key y)).0 (of_name a y.package_is.facts c.args.keeping.now.asker.now m) in
+    let name : c.text.result.now ≡ name_key y = c.text.ensures.text ∙ (bytes_eq-Decides a.name.«package» (name_key y)).0 (same_package a y.package_is.facts c.args.keeping.now.asker.now m) in
     c.loop-y.invariant y (subst (λ (is : List Life). Has (lives_of is) y) (sym (take_all c.loop-y.y-index items (omega arith)))
     ((in_items name_key (all_lives index) index.by_name.lists c.text.result.now items c.requires.is.by_name c.get-y-items.ensures y).1 (h, name)))

@@ -1,10 +1,10 @@
 use Rattle.std.proofs.Common.{◌≡◌, ◌∷◌, ◌∙◌, [], ap, subst, List, length, arith, rules, refl}
-use Rattle.std.proofs.lemmas.List.{map-append}
+use Rattle.std.proofs.lemmas.List.{map-append, nil_from_length}
 use Rattle.plan_law.specs.Lives.{Life, Moment, IsPast, Precedes}
 use Rattle.plan_check.specs.Chains.{AreParted}
 use Rattle.plan_check.specs.Lives.{life_of, lives_of, moment_of}
 use Rattle.plan_check.specs.Stretches.{stretch_value}
-use Rattle.plan_check.proofs.Joining.{AreJoining, arrives_has, empty_is, has-last, joining_begun, joining_next, not_joined}
+use Rattle.plan_check.proofs.Joining.{AreJoining, arrives_has, has-last, joining_begun, joining_next, not_joined}
 use Rattle.plan_check.proofs.chain.are_joined.Goals as goal
 
 pub loop-x-init : goal.loop-x-init
@@ -35,5 +35,5 @@ loop-x-preserved c =
 pub returns : goal.returns
 returns c =
     let n : length c.loop-x.waiting.items ≡ 0 = first_of (omega (arith, c.in_default.ensures.cases.0), search rules) in
-    let e : c.loop-x.waiting.items ≡ [] = empty_is c.loop-x.waiting.items n in
+    let e : c.loop-x.waiting.items ≡ [] = nil_from_length c.loop-x.waiting.items n in
     (λ t. cc, λ k. absurd (not_joined _ _ _ _ (subst (AreJoining c.args.reach.now.groups.now (lives_of c.args.fits.now) (stretch_value c.args.stretch.now) (lives_of c.loop-x.rest.items)) (ap lives_of e) c.loop-x.invariant) k))

@@ -1,10 +1,10 @@
 use Rattle.std.proofs.Common.{◌≡◌, ◌∷◌, ◌+◌, ◌∙◌, ◌++◌, [], drop, refl, inl, ap}
 use Rattle.std.proofs.lemmas.List.{map-append}
+use Rattle.basics.proofs.Lists.{at_drop}
 use Rattle.plan_law.specs.Lives.{IsPast}
 use Rattle.plan_check.specs.Lives.{life_of, lives_of}
 use Rattle.plan_check.specs.Stretches.{stretch_value}
 use Rattle.plan_check.proofs.Joining.{begun, left_behind, moved}
-use Rattle.plan_check.proofs.Places.{at_drop}
 use Rattle.plan_check.proofs.chain.take_first.Goals as goal
 use Rattle.plan_check.proofs.chain.take_first.Goals.{then-is_past+in_ok-push, else-is_past+in_ok-push-2}
 

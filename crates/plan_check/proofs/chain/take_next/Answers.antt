@@ -1,9 +1,9 @@
 use Rattle.std.proofs.Common.{◌≡◌, ◌∷◌, ◌+◌, ◌∙◌, ◌++◌, [], drop, refl, inl, ap}
 use Rattle.std.proofs.lemmas.List.{map-append}
+use Rattle.basics.proofs.Lists.{at_drop}
 use Rattle.plan_law.specs.Lives.{Moment, Precedes}
 use Rattle.plan_check.specs.Lives.{life_of, lives_of, moment_of}
 use Rattle.plan_check.proofs.Joining.{begun, left_behind, moved}
-use Rattle.plan_check.proofs.Places.{at_drop}
 use Rattle.plan_check.proofs.chain.take_next.Goals as goal
 use Rattle.plan_check.proofs.chain.take_next.Goals.{then-precedes+in_ok-push, else-precedes+in_ok-push-2}
 

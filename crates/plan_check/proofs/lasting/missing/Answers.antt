@@ -1,5 +1,6 @@
 use Rattle.std.proofs.Common.{◌≡◌, ◌∙◌, ℕ, List, ap, sym, subst}
 use Rattle.std.specs.Option.{option_map}
+use Rattle.std.proofs.lemmas.Result.{IfOk-weaker}
 use Rattle.dep_atom.specs.Values.{AtomValue, atom_value}
 use Rattle.dep_group.specs.Trees.{Trees}
 use Rattle.dep_group.specs.declared.token.Opener.{Opener}
@@ -11,7 +12,6 @@ use Rattle.plan_check.specs.Index.{plan_of, start_of}
 use Rattle.plan_check.specs.Leaves.{IsLeafOfAll}
 use Rattle.plan_check.specs.PackageRules.{IsMissing}
 use Rattle.plan_check.specs.Stretches.{stretch_value}
-use Rattle.plan_check.proofs.Judged.{ok_more}
 use Rattle.plan_check.proofs.lasting.missing.Goals as goal
 
 pub returns : goal.returns
@@ -25,4 +25,4 @@ returns c =
     let flags = ap (λ (q : Package). q.facts.enabled) c.pkg.view_is in
     let trees_are : trees_view c.deref.result.now ≡ tree_of c.args.class p = ap trees_view c.deref.ensures.value ∙ c.tree.ensures in
     let base = subst (λ (asker : List (List ℕ)). L asker (tree_of c.args.class p)) flags (subst (L _) trees_are c.in_ok-found.ensures) in
-    ok_more c.copy_leaf.result _ _ (λ copy e. subst (IsMissing plan start s c.args.class p) (sym e) base) c.copy_leaf.ensures
+    IfOk-weaker c.copy_leaf.result _ _ (λ copy e. subst (IsMissing plan start s c.args.class p) (sym e) base) c.copy_leaf.ensures

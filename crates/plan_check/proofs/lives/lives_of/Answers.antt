@@ -1,6 +1,7 @@
 use Rattle.std.proofs.Common.{◌≡◌, ◌≤◌, ◌+◌, ◌-◌, ◌∷◌, ◌++◌, ◌↔◌, ◌∙◌, ℕ, cond, List, Some, ap, sym, subst, arith, drop, length, bytes_eq, get_or, reverse, map}
 use Rattle.std.specs.List.{list_any}
 use Rattle.basics.specs.Members.{Has}
+use Rattle.basics.proofs.Lists.{at_drop}
 use Rattle.pkg_state.specs.Package.{Package}
 use Rattle.plan_law.specs.Lives as law
 use Rattle.plan_law.specs.Plans.{Group, Removal, removed_line}
@@ -8,7 +9,6 @@ use Rattle.plan_check.specs.Clearings.{AreClearings, life_at, place_at}
 use Rattle.plan_check.specs.Lives.{life, life_of, lives, lives_behind, lives_of}
 use Rattle.plan_check.proofs.AllLives.{has_lives}
 use Rattle.plan_check.proofs.Backwards.{behind_more, clearings_more, lives_at, map_reverse}
-use Rattle.plan_check.proofs.Places.{at_drop}
 use Rattle.plan_check.specs.declared.life.Life.{Life}
 use Rattle.plan_check.proofs.lives.lives_of.Goals as goal
 

@@ -4,9 +4,10 @@ use Rattle.dep_tree.specs.View.{trees}
 use Rattle.required_use.specs.View.{trees as required_trees}
 use Rattle.pkg_state.specs.declared.class.Class.TheVariants.{Bdepend, Depend, Idepend, Pdepend, Rdepend}
 use Rattle.database_law.specs.Fields.{contents, flags, known, needs, required, slots}
+use Rattle.dep_atom.proofs.SameParts.{same_facts}
 use Rattle.record_read.specs.Texts.{value}
 use Rattle.record_read.specs.Views.{texts_in}
-use Rattle.record_read.proofs.Files.{good_known, good_needs, good_owned, good_required, good_slots, read_all, same_facts, same_installed, same_package}
+use Rattle.record_read.proofs.Files.{good_known, good_needs, good_owned, good_required, good_slots, read_all, same_installed, same_package}
 use Rattle.record_read.proofs.reading.read_files.Goals as goal
 
 pub returns-in_err-bdepend-clause-only : goal.returns-in_err-bdepend-clause-only

@@ -1,5 +1,6 @@
 use Rattle.std.proofs.Common.{◌≡◌, ◌<◌, ◌∙◌, ℕ, List, ap, arith, get_or, length, add-one, map, refl, subst, suc, sym, true, false}
 use Rattle.std.specs.Prelude.{IsSome}
+use Rattle.basics.proofs.Membership.{has-at}
 use Rattle.file_tree.specs.Disk.{Moves, Story, write}
 use Rattle.file_tree.specs.Paths.{is_below}
 use Rattle.merge_record.specs.Judging.{path_of}
@@ -11,7 +12,6 @@ use Rattle.recovery.proofs.Asked.{asked_whole, placed_asked}
 use Rattle.recovery.proofs.Stages.{placed_step, stage_at, stage_stays}
 use Rattle.recovery.proofs.Places.{journal_apart}
 use Rattle.merge_core.proofs.Paths.{file_below}
-use Rattle.recovery.proofs.Lists.{has_at}
 use Rattle.recovery.proofs.changes.place_all.Goals as goal
 
 pub loop-index-init : goal.loop-index-init
@@ -23,7 +23,7 @@ place-requires-clause-differ g c e =
     let named = ap (λ (f : Stages). f.group) c.paths.view_is in
     let lt : c.loop-index.index < length c.paths.inside.stages.items = omega (arith, count, c.requires.count, c.loop-index-test.true) in
     let path = c.index.ensures ∙ (ap (λ (l : List (List ℕ)). get_or l c.loop-index.index c.index.result.now) c.paths.invariant.2 ∙ stage_at c.paths.inside.group (length c.paths.inside.stages.items) c.loop-index.index c.index.result.now lt) in
-    let has = has_at c.args.placements.now c.loop-index.index c.index-placements-index.result c.loop-index-test.true c.index-placements-index.is in
+    let has = has-at c.args.placements.now c.loop-index.index c.index-placements-index.result c.loop-index-test.true c.index-placements-index.is in
     let clear = c.requires.apart c.index-placements-index.result has in
     let to = ap (λ (p : Placement). p.path) c.index-placements-index.is in
     journal_apart c.index.result.now c.index-placements-index.result.path (subst (λ (q : List ℕ). is_below jobs q ≡ true) (sym path) (file_below c.paths.inside.group (Stage c.loop-index.index))) clear (e ∙ sym to)
@@ -42,7 +42,7 @@ loop-index-preserved g c =
     let named = ap (λ (f : Stages). f.group) c.paths.view_is in
     let lt : c.loop-index.index < length c.paths.inside.stages.items = omega (arith, count, c.requires.count, c.loop-index-test.true) in
     let path = c.index.ensures ∙ (ap (λ (l : List (List ℕ)). get_or l c.loop-index.index c.index.result.now) c.paths.invariant.2 ∙ stage_at c.paths.inside.group (length c.paths.inside.stages.items) c.loop-index.index c.index.result.now lt) in
-    let has = has_at c.args.placements.now c.loop-index.index c.index-placements-index.result c.loop-index-test.true c.index-placements-index.is in
+    let has = has-at c.args.placements.now c.loop-index.index c.index-placements-index.result c.loop-index-test.true c.index-placements-index.is in
     let clear = c.requires.apart c.index-placements-index.result has in
     let to = ap (λ (p : Placement). p.path) c.index-placements-index.is in
     let from = path ∙ ap (λ (n : ℕ). stage_path n c.loop-index.index) named in

@@ -1,10 +1,10 @@
 use Rattle.std.proofs.Common.{[], suc, drop, add-one, ap, sym, subst, refl, arith, ◌∙◌, Option}
 use Rattle.std.specs.Prelude.{IsSome}
+use Rattle.basics.proofs.Membership.{has-at}
 use Rattle.file_tree.specs.Thing.{Thing}
 use Rattle.merge_record.specs.Names.{stage_path}
 use Rattle.merge_record.specs.Names.Part.{Stage}
 use Rattle.merge_record.specs.Open.{open_groups}
-use Rattle.recovery.proofs.Lists.{has_at}
 use Rattle.merge_core.proofs.Paths.{file_below}
 use Rattle.merge_core.proofs.Redo.{judged_opens}
 use Rattle.recovery.proofs.Applied.{all_read, footprint_below, one_walks, record_staged, redone_by, redone_end, redone_step}
@@ -20,16 +20,16 @@ loop-what-init g c = (
 )
 
 pub apply-requires-clause-free : goal.apply-requires-clause-free
-apply-requires-clause-free g c = (c.requires.applicable c.what-item.result (has_at c.args.records.now c.loop-what.what-index c.what-item.result c.loop-what-test.true c.what-item.is)).0
+apply-requires-clause-free g c = (c.requires.applicable c.what-item.result (has-at c.args.records.now c.loop-what.what-index c.what-item.result c.loop-what-test.true c.what-item.is)).0
 
 pub apply-requires-clause-short : goal.apply-requires-clause-short
-apply-requires-clause-short g c = (c.requires.applicable c.what-item.result (has_at c.args.records.now c.loop-what.what-index c.what-item.result c.loop-what-test.true c.what-item.is)).1
+apply-requires-clause-short g c = (c.requires.applicable c.what-item.result (has-at c.args.records.now c.loop-what.what-index c.what-item.result c.loop-what-test.true c.what-item.is)).1
 
 pub apply-requires-clause-there : goal.apply-requires-clause-there
 apply-requires-clause-there g c t i lt =
     let r = c.what-item.result in
     let a = (g.T.Tree.story c.args.tree.now).now.holds in
-    let has = has_at c.args.records.now c.loop-what.what-index r c.loop-what-test.true c.what-item.is in
+    let has = has-at c.args.records.now c.loop-what.what-index r c.loop-what-test.true c.what-item.is in
     subst (λ (x : Option Thing). IsSome x) (sym (c.loop-what.invariant.1 t (stage_path r.group i) (file_below r.group (Stage i))))
     (record_staged a [] (open_groups a) c.args.records.now (judged_opens a c.args.records.now (c.requires.judged t)) r has i lt)
 
@@ -38,13 +38,13 @@ returns-in_err-apply-clause-walks g c t =
     let r = c.what-item.result in
     let s = g.T.Tree.story c.args.tree.now in
     one_walks s.now.holds c.args.records.now s (g.T.Tree.story c.loop-what.tree) (g.T.Tree.story c.apply.new.tree) r (c.requires.judged t)
-    (has_at c.args.records.now c.loop-what.what-index r c.loop-what-test.true c.what-item.is) (c.loop-what.invariant.0 t) (c.apply.ensures.asked t)
+    (has-at c.args.records.now c.loop-what.what-index r c.loop-what-test.true c.what-item.is) (c.loop-what.invariant.0 t) (c.apply.ensures.asked t)
 
 pub loop-what-preserved : goal.loop-what-preserved
 loop-what-preserved g c =
     let r = c.what-item.result in
     let s = g.T.Tree.story c.args.tree.now in
-    let has = has_at c.args.records.now c.loop-what.what-index r c.loop-what-test.true c.what-item.is in (
+    let has = has-at c.args.records.now c.loop-what.what-index r c.loop-what-test.true c.what-item.is in (
       λ t. one_walks s.now.holds c.args.records.now s (g.T.Tree.story c.loop-what.tree) (g.T.Tree.story c.apply.new.tree) r (c.requires.judged t) has (c.loop-what.invariant.0 t) (c.apply.ensures.asked t),
       λ t q below. footprint_below r (g.T.Tree.story c.loop-what.tree) (g.T.Tree.story c.apply.new.tree) q (c.requires.applicable r has).0 below (c.apply.ensures.asked t) ∙ c.loop-what.invariant.1 t q below,
       λ t. rw add-one (ap (redone_by (drop (suc c.loop-what.what-index) c.args.records.now)) (c.in_ok-apply.ensures.ok t) ∙ (redone_step c.args.records.now c.loop-what.what-index r (g.T.Tree.story c.loop-what.tree).now c.loop-what-test.true c.what-item.is ∙ c.loop-what.invariant.2 t)),

@@ -1,7 +1,8 @@
 use Rattle.std.proofs.Common.{◌∙◌, ap, refl, sym}
+use Rattle.basics.proofs.Texts.{some_bytes}
 use Rattle.plan_text.specs.Drafts.{all_groups, current_group, whole_groups}
 use Rattle.plan_text.specs.Standing.{may_end}
-use Rattle.plan_text.proofs.Reached.{found_if, is_memory, no_bytes, only_if, some_bytes, some_pieces, stopped_at, stopped_last, tells_all, texts}
+use Rattle.plan_text.proofs.Reached.{found_if, is_memory, no_bytes, only_if, some_pieces, stopped_at, stopped_last, tells_all, texts}
 use Rattle.plan_text.proofs.Whole.{finished, stopped, tail_none, unfinished}
 use Rattle.plan_text.proofs.plan.Plan.parse.Goals as goal
 
