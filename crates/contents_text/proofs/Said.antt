@@ -5,9 +5,10 @@ use Rattle.std.proofs.lemmas.List.{append_cancel_left}
 use Rattle.hex.specs.Hex.{encode_lower}
 use Rattle.file_tree.specs.Paths.{is_path}
 use Rattle.link_target.specs.Targets.{is_target}
+use Rattle.digest_text.specs.Digests.{IsNoDigestText, WritesDigest}
 use Rattle.contents_text.specs.Cuts.{LacksArrow}
 use Rattle.contents_text.proofs.Arrows.{cut_arrow, path_lacks_arrow}
-use Rattle.contents_text.specs.Contents.{IsDigest, IsLine, Line, dir, is_time, line_text, obj, sym as link_line}
+use Rattle.contents_text.specs.Contents.{IsLine, Line, dir, is_time, line_text, obj, sym as link_line}
 use Rattle.contents_text.specs.Cuts.{HasNoSpace, IsFileParts, IsLinkParts, NoFileParts, NoLinkParts}
 use Rattle.contents_text.specs.Reading.{IsNoLine, Reads}
 use Rattle.contents_text.specs.declared.line.Item.{Item}
@@ -52,11 +53,11 @@ no_file_time rest p h t parts bad l is e =
     let same = parts_of_file rest p h t f.0 f.1 f.2 parts f.3 f.4 in
     cc (ap is_time same.1.1, bad, f.3.1.1)
 
-pub no_file_digest : (rest p h t : List ℕ) → IsFileParts rest p h t → ((d : List ℕ) → IsDigest d → ¬ (h ≡ encode_lower d)) → IsNoLine (obj_start ++ rest)
+pub no_file_digest : (rest p h t : List ℕ) → IsFileParts rest p h t → IsNoDigestText h → IsNoLine (obj_start ++ rest)
 no_file_digest rest p h t parts bad l is e =
     let f = file_of rest l is e in
     let same = parts_of_file rest p h t f.0 f.1 f.2 parts f.3 f.4 in
-    bad f.1 f.3.1.0 same.1.0
+    bad f.1 (record { form = f.3.1.0; spelled = same.1.0 })
 
 pub no_file_path : (rest p h t : List ℕ) → IsFileParts rest p h t → (is_utf8 p && is_path p) ≡ false → IsNoLine (obj_start ++ rest)
 no_file_path rest p h t parts bad l is e =
@@ -64,13 +65,13 @@ no_file_path rest p h t parts bad l is e =
     let same = parts_of_file rest p h t f.0 f.1 f.2 parts f.3 f.4 in
     cc (ap (λ (x : List ℕ). is_utf8 x && is_path x) same.0, bad, f.3.0)
 
-pub a_file : (rest p h t d x : List ℕ) → IsFileParts rest p h t → is_time t ≡ true → IsDigest d × (h ≡ encode_lower d)
+pub a_file : (rest p h t d x : List ℕ) → IsFileParts rest p h t → is_time t ≡ true → WritesDigest h d
     → (x ≡ p) × ((is_utf8 p && is_path p) ≡ true) → Reads (obj_start ++ rest) (Some (items.Owned (record { path = x; content = File d })))
 a_file rest p h t d x parts time digest path = (
   obj p d t,
-  (path.1, (digest.0, time)),
+  (path.1, (digest.form, time)),
   (
-    ap (λ (l : List ℕ). obj_start ++ l) (parts.is ∙ ap (λ (l : List ℕ). p ++ (32 ∷ (l ++ (32 ∷ t)))) digest.1),
+    ap (λ (l : List ℕ). obj_start ++ l) (parts.is ∙ ap (λ (l : List ℕ). p ++ (32 ∷ (l ++ (32 ∷ t)))) digest.spelled),
     ap (λ (q : List ℕ). items.Owned (record { path = q; content = File d })) path.0,
   ),
 )

@@ -1,7 +1,7 @@
 -- The text of CONTENTS: a line for each file, link and folder of a package.
 use Rattle.std.specs.Prelude.{◌≡◌, suc, ⊤, ◌==◌, ◌&&◌, ◌||◌, nat_lt, ℕ, Bool, true, false, List, [], ◌∷◌, ◌++◌, codes, length, map, take, Some, slice_get, bytes_eq, if◌then◌else◌}
 use Rattle.std.specs.List.{AllByRecursion, flat_map, list_all}
-use Rattle.hex.specs.Hex.{IsBytes, encode_lower}
+use Rattle.hex.specs.Hex.{encode_lower}
 use Rattle.basics.specs.Bytes.{is_digit}
 use Rattle.basics.specs.Members.{AreDistinct, Has}
 use Rattle.file_tree.specs.Paths.{is_below}
@@ -9,6 +9,7 @@ use Rattle.merge_record.specs.Judging.{meets_jobs}
 use Rattle.merge_record.specs.Spelling.{IsPathText}
 use Rattle.vdb_text.specs.Files.{database_path}
 use Rattle.link_target.specs.Targets.{is_target}
+use Rattle.digest_text.specs.Digests.{IsDigest}
 use Rattle.contents_text.specs.declared.fault.ContentsFault.{ContentsFault}
 use Rattle.contents_text.specs.declared.fault.ContentsFault.TheVariants as faults
 use Rattle.contents_text.specs.declared.owned.Content.{Content}
@@ -31,10 +32,6 @@ line_text (dir path) = codes "dir /" ++ path
 -- some digits
 abbrev pub is_time : List ℕ → Bool
 is_time time = nat_lt 0 (length time) && list_all is_digit time
-
-pub record IsDigest (digest : List ℕ) : Type 0 where
-  pub long : length digest ≡ 16
-  pub bytes : IsBytes digest
 
 abbrev pub IsLine : Line → Type 0
 IsLine (obj path digest time) = IsPathText path × (IsDigest digest × (is_time time ≡ true))

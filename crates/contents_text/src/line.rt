@@ -1,17 +1,16 @@
-ghost use Rattle.std.specs.Prelude.{◌≡◌, ◌↔◌, ◌++◌, ℕ, List, codes, false, true};
-ghost use Rattle.std.specs.Prelude.{IfOk, IsTrue, MatchOption};
+ghost use Rattle.std.specs.Prelude.{◌≡◌, ◌++◌, codes, false, true};
+ghost use Rattle.std.specs.Prelude.{IfOk, MatchOption};
 ghost use Rattle.std.specs.List.{list_all};
 ghost use Rattle.basics.specs.Bytes.{is_digit};
-ghost use Rattle.contents_text.specs.Contents.{IsDigest, is_time};
+ghost use Rattle.contents_text.specs.Contents.{is_time};
 ghost use Rattle.contents_text.specs.Cuts.{IsFileParts, IsLinkParts, NoFileParts, NoLinkParts};
 ghost use Rattle.contents_text.specs.Reading.{Reads};
-ghost use Rattle.hex.specs.Hex.{encode_lower};
 ghost use Rattle.link_target.specs.Targets.{is_target};
 
 use crate::cuts::{split_arrow, split_last_space};
 use crate::owned::{Content, Owned};
 use basics::{Text, is_digit};
-use hex::FromHex;
+use digest_text::digest_from;
 use link_target::is_target;
 use merge_record::path_from;
 use std::alloc::{AllocError, Global};
@@ -121,31 +120,6 @@ fn are_digits(text: &[u8]) -> bool
     ensures { result ≡ list_all is_digit text.now }
 {
     text.iter().all(|b| is_digit(*b))
-}
-
-/// The digest that these digits write, in lower case.
-fn digest_from(digits: &[u8]) -> Option<[u8; 16]>
-    ensures { MatchOption result ((d : List ℕ) → IsDigest d → ¬ (digits.now ≡ encode_lower d))
-        (λ d. IsDigest d × (digits.now ≡ encode_lower d)) }
-{
-    let Ok(md5) = <[u8; 16] as FromHex>::from_hex(digits) else {
-        return None;
-    };
-    if is_hex_of(digits, md5) {
-        Some(md5)
-    } else {
-        None
-    }
-}
-
-fn is_hex_of(digits: &[u8], md5: [u8; 16]) -> bool
-    ensures { IsTrue result ↔ (digits.now ≡ encode_lower md5) }
-{
-    let mut text = [0; 32];
-    match hex::encode_to_slice(md5, &mut text) {
-        Ok(()) => text.as_slice() == digits,
-        Err(_) => false,
-    }
 }
 
 fn target_from(alloc: Global, text: &[u8]) -> Result<Option<Text>, AllocError>

@@ -1,8 +1,8 @@
 -- The fields of an entry, and which values they may have (PMS 14.3, 7.2, 7.3).
-use Rattle.std.specs.Prelude.{◌≡◌, ◌==◌, ◌&&◌, ◌||◌, ℕ, Bool, true, List, [], ◌∷◌, Option, None, Some, IsSome, bytes_eq, codes, if◌then◌else◌, is_some, length, nat_le, ⊤}
-use Rattle.std.specs.List.{AllByRecursion, list_all}
-use Rattle.basics.specs.Bytes.{is_digit}
+use Rattle.std.specs.Prelude.{◌≡◌, ◌||◌, ℕ, Bool, List, [], ◌∷◌, Option, None, Some, IsSome, bytes_eq, codes, if◌then◌else◌, is_some, ⊤}
+use Rattle.std.specs.List.{AllByRecursion}
 use Rattle.dep_tree.specs.Texts.{AreDependencies}
+use Rattle.digest_text.specs.Digests.{WritesDigest}
 use Rattle.required_use.specs.Texts.{IsExpression}
 use Rattle.slot_value.specs.Slots.{IsSlotValue}
 use Rattle.use_flags.specs.Items.{IsItem}
@@ -34,18 +34,10 @@ field_of key =
     else if is_class key then Needs
     else Other
 
--- a digit, or a letter a to f
-abbrev pub is_hex : ℕ → Bool
-is_hex b = is_digit b || (nat_le 97 b && nat_le b 102)
-
--- 32 hexadecimal digits in lower case
-abbrev pub is_digest : List ℕ → Bool
-is_digest value = (length value == 32) && list_all is_hex value
-
 -- the field may have the value
 abbrev pub IsInForm : Field → List ℕ → Type 0
 IsInForm Slot value = (slot : List ℕ) × (subslot : List ℕ) × IsSlotValue value slot subslot
-IsInForm Digest value = is_digest value ≡ true
+IsInForm Digest value = (digest : List ℕ) × WritesDigest value digest
 IsInForm Iuse value = EachWord IsItem value
 IsInForm Required value = IsExpression value
 IsInForm Needs value = AreDependencies value

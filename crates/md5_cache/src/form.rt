@@ -1,22 +1,18 @@
-ghost use Rattle.std.specs.Prelude.{◌≡◌, ◌↔◌, IfOk, IsTrue};
-ghost use Rattle.std.specs.List.{list_all};
+ghost use Rattle.std.specs.Prelude.{◌↔◌, IfOk, IsTrue};
 ghost use Rattle.dep_tree.specs.Texts.{AreDependencies};
 ghost use Rattle.required_use.specs.Texts.{IsExpression};
 ghost use Rattle.use_flags.specs.Items.{IsItem};
 ghost use Rattle.use_flags.specs.Words.{EachWord};
-ghost use Rattle.md5_cache.specs.Fields.{IsInForm, is_digest, is_hex};
+ghost use Rattle.md5_cache.specs.Fields.{IsInForm};
 ghost use Rattle.md5_cache.specs.declared.field.Field.TheVariants as fields;
 
 use crate::field::Field;
-use basics::is_digit;
 use dep_tree::{DepTree, TreeTextFault};
+use digest_text::digest_from;
 use required_use::{RequiredFault, RequiredUse};
 use slot_value::SlotValue;
 use std::alloc::{AllocError, Global};
 use use_flags::{Iuse, UseFault};
-
-/// The bytes of a digest's text.
-const DIGEST_LEN: usize = 32;
 
 /// Whether the field may have the value.
 pub(crate) fn is_in_form(alloc: Global, field: Field, value: &str) -> Result<bool, AllocError>
@@ -42,22 +38,9 @@ fn is_slot(alloc: Global, value: &str) -> Result<bool, AllocError>
 }
 
 fn is_digest(value: &[u8]) -> bool
-    ensures { result ≡ is_digest value.now }
+    ensures { IsTrue result ↔ IsInForm fields.Digest value.now }
 {
-    let long = value.len() == DIGEST_LEN;
-    long && are_hex(value)
-}
-
-fn are_hex(value: &[u8]) -> bool
-    ensures { result ≡ list_all is_hex value.now }
-{
-    value.iter().all(|b| is_hex(*b))
-}
-
-fn is_hex(byte: u8) -> bool
-    ensures { result ≡ is_hex byte }
-{
-    is_digit(byte) || (byte >= b'a' && byte <= b'f')
+    digest_from(value).is_some()
 }
 
 fn is_iuse(alloc: Global, value: &str) -> Result<bool, AllocError>

@@ -5,7 +5,7 @@ use Rattle.std.specs.Int.{to_le_bytes, w32}
 use Rattle.hex.specs.Hex.{IsBytes}
 use Rattle.md5.specs.Md5.{digest_bytes, md5}
 use Rattle.md5.proofs.StandardFacts.{length-md5}
-use Rattle.contents_text.specs.Contents.{IsDigest}
+use Rattle.digest_text.specs.Digests.{IsDigest}
 
 four_small : (n : ℕ) → IsBytes (to_le_bytes w32 n)
 four_small n zero = omega arith
