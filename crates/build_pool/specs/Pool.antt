@@ -1,6 +1,6 @@
 -- A pool of builders: those at rest, and of each that is lent what it is known by and how often it
 -- had failed.
-use Rattle.std.specs.Prelude.{◌≡◌, ◌==◌, ◌⊎◌, ◌<◌, ◌≤◌, ◌+◌, ◌^◌, ℕ, List, Some, Contains, cond, sum_by, remove, slice_get}
+use Rattle.std.specs.Prelude.{◌≡◌, ◌==◌, ◌⊎◌, ◌<◌, ◌≤◌, ◌+◌, ◌^◌, ℕ, List, Some, Contains, sum_by, remove, slice_get, if◌then◌else◌}
 use Rattle.build_pool.specs.declared.pools.Away.{Away}
 
 pub record Kept (B : Type 0) : Type 0 where
@@ -12,7 +12,7 @@ abbrev pub added : {B : Type 0} → (B → ℕ) → (Away → ℕ) → Kept B �
 added f g p = sum_by f p.resting + sum_by g p.lent
 
 abbrev pub is_number : ℕ → ℕ → ℕ
-is_number n m = cond (m == n) 1 0
+is_number n m = if m == n then 1 else 0
 
 -- how many builders of the pool, at rest or lent, are known by this number
 abbrev pub id_times : {B : Type 0} → (B → ℕ) → ℕ → Kept B → ℕ

@@ -26,11 +26,11 @@ use std::alloc::Global;
 
 /// What a run gives back: how it ended, what it was lent, and its groups.
 #[derive(Drop)]
-pub struct Ended<T, S, B: Builder> {
+pub struct Ended<T, S, P> {
     pub status: Status,
     pub tree: T,
     pub out: S,
-    pub pool: BuildPool<B>,
+    pub pool: P,
     /// The packages that were installed in the recovered tree, in byte order of their folders; none
     /// where the run ended before it had read them.
     pub opening: Vec<Installed>,
@@ -68,7 +68,7 @@ pub fn emerge<T: Tree + Send, S: Sink + Send, B: Builder + Send>(
     tree: T,
     out: S,
     mut pool: BuildPool<B>,
-) -> Ended<T, S, B>
+) -> Ended<T, S, BuildPool<B>>
     requires resting { 0 < length pool.resting }
 
     // The answer is the one that the words, the tree and the image ask for; a crash at any moment

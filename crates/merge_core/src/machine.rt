@@ -1,6 +1,6 @@
 ghost use Rattle.std.specs.Prelude.{◌≡◌, ◌<◌, ◌≤◌, false, length, replicate, IfErr, IfOk, IsTrue};
-ghost use Rattle.std.specs.Prelude.{◌+◌, ◌++◌, ◌∷◌, [], cond, IsOk, MatchOption, OnErr, OnOk};
-ghost use Rattle.std.specs.Prelude.{vec_capacity, vec_len};
+ghost use Rattle.std.specs.Prelude.{◌+◌, ◌++◌, ◌∷◌, [], IsOk, MatchOption, OnErr, OnOk};
+ghost use Rattle.std.specs.Prelude.{vec_capacity, vec_len, if◌then◌else◌};
 ghost use Rattle.merge_core.specs.Event.{Admits, answered, needs_sync};
 ghost use Rattle.merge_core.specs.Keeping.{at_rest, machine_of};
 ghost use Rattle.merge_core.specs.Roll.{idle, phase_at, resting};
@@ -67,7 +67,7 @@ fn enter(order: &mut Vec<Settled>, settled: Settled, enters: bool)
     requires room { IsTrue enters → vec_len order.old < vec_capacity order.old }
     ensures enters { IsTrue enters → order.new.items ≡ order.old.items ++ settled ∷ [] }
     ensures stays { enters ≡ false → order.new.items ≡ order.old.items }
-    ensures len { vec_len order.new ≡ vec_len order.old + cond enters 1 0 }
+    ensures len { vec_len order.new ≡ vec_len order.old + (if enters then 1 else 0) }
     ensures capacity { vec_capacity order.old ≤ vec_capacity order.new }
 {
     if enters && order.push(settled).is_err() {

@@ -1,5 +1,5 @@
 -- What a site keeps of the ownership book: who owns what, and which group claims what.
-use Rattle.std.specs.Prelude.{◌≡◌, ◌++◌, ◌∷◌, ℕ, Bool, true, false, cond, List, [], Option, Some, None, Vec, length, map, slice_get, slice_index_or, slice_set}
+use Rattle.std.specs.Prelude.{◌≡◌, ◌++◌, ◌∷◌, ℕ, Bool, true, false, List, [], Option, Some, None, Vec, length, map, slice_get, slice_index_or, slice_set, if◌then◌else◌}
 use Rattle.std.specs.Global.{Global}
 use Rattle.basics.specs.Members.{Has}
 use Rattle.file_tree.specs.declared.objects.Entry.{Entry}
@@ -46,7 +46,7 @@ parts_of k ws g = record { placed = wishes_at ws g; removed = (standing_in k.sta
 -- the claim that the book has of a group: from its claim on until its closed gate is durable
 abbrev pub claim_of : Keeping → List (List Wish) → ℕ → Option Parts
 claim_of k ws g =
-    cond (is_live (standing_in k.standings g).phase) (Some (parts_of k ws g)) None
+    if is_live (standing_in k.standings g).phase then Some (parts_of k ws g) else None
 
 -- the groups that some events tell, in their order
 abbrev pub groups_of : (Event → Bool → List ℕ) → List trails.Entry → List ℕ

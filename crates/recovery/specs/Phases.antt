@@ -1,5 +1,5 @@
 -- How far recovery has come on the disk, by what a crash can't take away.
-use Rattle.std.specs.Prelude.{◌≡◌, ◌<◌, ◌^◌, ℕ, false, cond, List, None, Ok}
+use Rattle.std.specs.Prelude.{◌≡◌, ◌<◌, ◌^◌, ℕ, false, List, None, Ok, if◌then◌else◌}
 use Rattle.file_tree.specs.Disk.{Disk, Fixed, Map}
 use Rattle.file_tree.specs.Paths.{is_below}
 use Rattle.merge_core.specs.Order.{IsFirm}
@@ -28,4 +28,4 @@ pub record IsShut (m : Map) (d : Disk) : Type 0 where
 
 -- nothing stands below the journal's folder
 abbrev pub cleared : Map → Map
-cleared m q = cond (is_below jobs q) None (m q)
+cleared m q = if is_below jobs q then None else m q

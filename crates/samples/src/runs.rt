@@ -69,7 +69,10 @@ pub fn run_on(
     )
 }
 
-fn summary(alloc: Global, ended: Ended<MemTree, MemSink, ImageBuilder>) -> Result<Run, AllocError> {
+fn summary(
+    alloc: Global,
+    ended: Ended<MemTree, MemSink, BuildPool<ImageBuilder>>,
+) -> Result<Run, AllocError> {
     let Ended {
         status,
         tree,
