@@ -30,7 +30,7 @@ use Rattle.group_run.specs.Causes.{IsPlain, StopsRecord, StopsRun, StopsStages}
 use Rattle.group_run.specs.Granted.{wishes_for}
 use Rattle.group_run.specs.declared.files.Files.{Files}
 use Rattle.group_run.specs.Stops.{stop_of_site, stop_of_stage, stop_of_tree}
-use Rattle.group_run.specs.Working.{HasStaged, Works, all_in, object_of, standing_at}
+use Rattle.group_run.specs.Working.{HasStaged, all_in, object_of, standing_at}
 use Rattle.group_run.specs.declared.stop.Stop.{Stop}
 use Rattle.group_run.specs.declared.stop.Stop.TheVariants as stops
 
@@ -84,12 +84,12 @@ record_cause tells m b xs files g stops.Memory h = tt
 
 -- ---- files that are staged one after the other
 
-pub front_push : (all done : List Entry) (e : Entry) → done ≡ take (length done) all → length done < length all → e ≡ get_or all (length done) e → done ++ e ∷ [] ≡ take (length (done ++ e ∷ [])) all
+pub front_push : {A : Type 0} (all done : List A) (e : A) → done ≡ take (length done) all → length done < length all → e ≡ get_or all (length done) e → done ++ e ∷ [] ≡ take (length (done ++ e ∷ [])) all
 front_push all done e front lt at =
     sym (ap (λ (n : ℕ). take n all) (length_push done e)
     ∙ take_more all (length done) e lt
-    ∙ ap (λ (x : Entry). take (length done) all ++ x ∷ []) (sym at)
-    ∙ ap (λ (xs : List Entry). xs ++ e ∷ []) (sym front))
+    ∙ ap (λ x. take (length done) all ++ x ∷ []) (sym at)
+    ∙ ap (λ xs. xs ++ e ∷ []) (sym front))
 
 pub stage_stops : {T S : Type 0} (f : StageFault) (a : Account T S) (g : ℕ) (before all done : List Entry) (e : Entry) → HasStaged (before ++ done) (standing_at a g) → AreGood done → done ≡ take (length done) all → length done < length all
     → e ≡ get_or all (length done) e → IsStageFault a.keeping g e f → StopsStages before all (stop_of_stage f)
@@ -157,11 +157,6 @@ pub rows_there : (ws : List (List Wish)) (n g : ℕ) → ws ≡ replicate n [] �
 rows_there ws n g is lt = subst (λ (m : ℕ). g < m) (sym (ap length is ∙ length-replicate n [])) lt
 
 -- ---- the whole run
-
--- a stretch of the group keeps what its cause is told of
-pub works_back : {T S : Type 0} (g : ℕ) (a b : Account T S) (P : T → Book → List SiteGroup → Type 0) → Works g a b → P b.opened b.opened_book b.groups → P a.opened a.opened_book a.groups
-works_back g a b P works h =
-    subst (λ t. P t a.opened_book a.groups) works.opened (subst (λ (k : Book). P b.opened k a.groups) works.opened_book (subst (λ (l : List SiteGroup). P b.opened b.opened_book l) works.groups h))
 
 -- a site that was just opened has the tree, the book and the groups that it was given
 pub opened_as : {T S : Type 0} (a : Account T S) (t : T) (k : Book) (groups : List SiteGroup) (P : T → Book → List SiteGroup → Type 0) → IsOpened a k groups → a.tree ≡ t → P a.tree a.opened_book a.groups → P t k groups

@@ -13,8 +13,8 @@ use Rattle.merge_record.specs.Recovered.{IsRecovered}
 use Rattle.merge_core.proofs.Paths.{file_below}
 use Rattle.recovery.proofs.Shut.{shut_leaves}
 use Rattle.recovery.specs.Phases.{IsShut, cleared}
-use Rattle.group_run.specs.Applied.{AreOf, Recovers, number}
-use Rattle.group_run.specs.Went.{Drove, Went}
+use Rattle.group_run.specs.Applied.{AreOf, RecoversWith, number}
+use Rattle.group_run.specs.Went.{DroveWith, Went, WentWith}
 use Rattle.group_run.specs.declared.stop.Stop.{Stop}
 use Rattle.group_run.specs.declared.stop.Stop.TheVariants as stops
 
@@ -27,19 +27,19 @@ device_or_not (Err (stops.Claim s)) = inr (λ e. cc e)
 device_or_not (Err stops.Limit) = inr (λ e. cc e)
 device_or_not (Err stops.Memory) = inr (λ e. cc e)
 
-recovers_of : (Of : Group → Type 0) (m : Map) (groups : List Group) (among history : List ℕ) (c : Map) → AreOf Of groups → map number groups ≡ history → ((n : ℕ) → Has among n → Has history n) → IsRecovered c (applied m groups) → Recovers Of m among c
-recovers_of Of m groups among history c of are within is = record { groups = groups; of = of; has = λ n there. subst (λ (l : List ℕ). Has l n) (sym are) (within n there); is = is }
+recovers_of : (Run : List Group → Type 0) (m : Map) (groups : List Group) (among history : List ℕ) (c : Map) → Run groups → map number groups ≡ history → ((n : ℕ) → Has among n → Has history n) → IsRecovered c (applied m groups) → RecoversWith Run m among c
+recovers_of Run m groups among history c of are within is = record { groups = groups; of = of; has = λ n there. subst (λ (l : List ℕ). Has l n) (sym are) (within n there); is = is }
 
-pub went : {A : Type 0} (Of : Group → Type 0) (old mid new : Story) (history : List ℕ) (end end' : Result A Stop) → Drove Of old mid history end
+pub went : {A : Type 0} (Run : List Group → Type 0) (old mid new : Story) (history : List ℕ) (end end' : Result A Stop) → DroveWith Run old mid history end
     → (IsErrOf end stops.Device → new ≡ mid) → (IsErrOf end stops.Device → IsErrOf end' stops.Device)
     → ((IsErrOf end stops.Device → ⊥) → (m : Map) → IsShut m mid.now → Since (λ c. IsRecovered c (cleared m)) mid new)
     → ((IsErrOf end' stops.Device → ⊥) → (IsErrOf end' stops.Memory → ⊥) → (m : Map) → IsShut m mid.now → (q : List ℕ) → new.now.holds q ≡ cleared m q)
     → ((IsErrOf end' stops.Device → ⊥) → (IsErrOf end' stops.Memory → ⊥) → IsUntouched new.now)
-    → Went Of old new history end'
-went Of old mid new history end end' d same stays clears reads settled = elim (device_or_not end) [
+    → WentWith Run old new history end'
+went Run old mid new history end end' d same stays clears reads settled = elim (device_or_not end) [
   | inl failed ↦ record {
-    moments = subst (λ (s : Story). Since (Recovers Of old.now.holds []) old s) (sym (same failed)) d.moments;
-    crash = subst (λ (s : Story). Leaves (Recovers Of old.now.holds history) s.now) (sym (same failed)) d.crash;
+    moments = subst (λ (s : Story). Since (RecoversWith Run old.now.holds []) old s) (sym (same failed)) d.moments;
+    crash = subst (λ (s : Story). Leaves (RecoversWith Run old.now.holds history) s.now) (sym (same failed)) d.crash;
     left = λ healthy. absurd (healthy (stays failed));
     tree = λ healthy fed. absurd (healthy (stays failed));
   }
@@ -47,9 +47,9 @@ went Of old mid new history end end' d same stays clears reads settled = elim (d
       let k = d.shut healthy in
       let since = clears healthy (λ q. with_groups k.0 q (old.now.holds q)) k.2.1 in
       record {
-        moments = since_then (Recovers Of old.now.holds []) old mid new d.moments
-            (since_weaker (λ c. IsRecovered c (applied old.now.holds k.0)) (Recovers Of old.now.holds []) (λ c is. recovers_of Of old.now.holds k.0 [] history c k.1 k.2.0 (λ n none. absurd none) is) mid new since);
-        crash = λ c image. recovers_of Of old.now.holds k.0 history history c k.1 k.2.0 (λ n there. there) (since.now c image);
+        moments = since_then (RecoversWith Run old.now.holds []) old mid new d.moments
+            (since_weaker (λ c. IsRecovered c (applied old.now.holds k.0)) (RecoversWith Run old.now.holds []) (λ c is. recovers_of Run old.now.holds k.0 [] history c k.1 k.2.0 (λ n none. absurd none) is) mid new since);
+        crash = λ c image. recovers_of Run old.now.holds k.0 history history c k.1 k.2.0 (λ n there. there) (since.now c image);
         left = λ well. record { groups = k.0; of = k.1; are = k.2.0; each = since.now };
         tree = λ well fed. record { groups = k.0; of = k.1; are = k.2.0; reads = reads well fed (λ q. with_groups k.0 q (old.now.holds q)) k.2.1; untouched = settled well fed };
       })
@@ -62,14 +62,17 @@ rest_shut d rest = record {
 }
 
 -- a run that never began
-pub went_nowhere : {A : Type 0} (Of : Group → Type 0) (old new : Story) (history : List ℕ) (end : Result A Stop) → IsAtRest old.now.holds old.now → new ≡ old → history ≡ [] → end ≡ Err stops.Memory → Went Of old new history end
-went_nowhere Of old new history end rest same none is =
+pub nowhere : {A : Type 0} (Run : List Group → Type 0) (old new : Story) (history : List ℕ) (end : Result A Stop) → Run [] → IsAtRest old.now.holds old.now → new ≡ old → history ≡ [] → end ≡ Err stops.Memory → WentWith Run old new history end
+nowhere Run old new history end of rest same none is =
     let each = shut_leaves old.now.holds old.now (rest_shut old.now rest) in
-    let stands : (among : List ℕ) → ((n : ℕ) → Has among n → Has history n) → Leaves (Recovers Of old.now.holds among) old.now =
-    λ among within c image. recovers_of Of old.now.holds [] among history c (λ x there. absurd there) (sym none) within (each c image) in
+    let stands : (among : List ℕ) → ((n : ℕ) → Has among n → Has history n) → Leaves (RecoversWith Run old.now.holds among) old.now =
+    λ among within c image. recovers_of Run old.now.holds [] among history c of (sym none) within (each c image) in
     record {
-      moments = since_same (Recovers Of old.now.holds []) old old new (since_start (Recovers Of old.now.holds []) old (stands [] (λ n there. absurd there))) same;
-      crash = subst (λ (s : Story). Leaves (Recovers Of old.now.holds history) s.now) (sym same) (stands history (λ n there. there));
-      left = λ well. record { groups = []; of = λ x there. absurd there; are = sym none; each = subst (λ (s : Story). Leaves (λ c. IsRecovered c (applied old.now.holds [])) s.now) (sym same) each };
+      moments = since_same (RecoversWith Run old.now.holds []) old old new (since_start (RecoversWith Run old.now.holds []) old (stands [] (λ n there. absurd there))) same;
+      crash = subst (λ (s : Story). Leaves (RecoversWith Run old.now.holds history) s.now) (sym same) (stands history (λ n there. there));
+      left = λ well. record { groups = []; of = of; are = sym none; each = subst (λ (s : Story). Leaves (λ c. IsRecovered c (applied old.now.holds [])) s.now) (sym same) each };
       tree = λ well fed. absurd (fed is);
     }
+
+pub went_nowhere : {A : Type 0} (Of : Group → Type 0) (old new : Story) (history : List ℕ) (end : Result A Stop) → IsAtRest old.now.holds old.now → new ≡ old → history ≡ [] → end ≡ Err stops.Memory → Went Of old new history end
+went_nowhere Of old new history end = nowhere (AreOf Of) old new history end (λ x there. absurd there)

@@ -1,92 +1,67 @@
 -- From a site's promise to what its run left.
-use Rattle.std.proofs.Common.{◌≡◌, ◌<◌, ◌∙◌, ℕ, true, List, [], Result, inl, inr, sym, ap, subst, map, length}
-use Rattle.std.specs.Prelude.{IsErrOf}
-use Rattle.std.proofs.lemmas.Bool.{cases_eq}
+use Rattle.std.proofs.Common.{◌≡◌, ◌∙◌, ℕ, Bool, List, [], Result, refl, sym, ap, subst, map, length}
+use Rattle.std.specs.Prelude.{IsTrue}
+use Rattle.std.proofs.lemmas.List.{length-replicate}
 use Rattle.file_tree.specs.Disk.{Map, Story}
 use Rattle.file_tree.specs.Moments.{Leaves, Since}
 use Rattle.file_tree.proofs.Moments.{since_weaker}
-use Rattle.journal.specs.Group.{Group}
-use Rattle.merge_core.specs.Keeping.{machine_of}
-use Rattle.merge_core.specs.Phase.{was_opened}
-use Rattle.merge_core.specs.Roll.{Machine, Roll, Stands, idle, phase_at}
-use Rattle.merge_core.specs.Steps.{IsTaken}
-use Rattle.merge_core.specs.Trail.{machine_after}
-use Rattle.merge_core.specs.declared.step.Step.TheVariants as steps
-use Rattle.merge_site.specs.Site.{Account, IsHeld, StoodDuring}
-use Rattle.group_run.specs.Applied.{Recovers, number}
-use Rattle.group_run.specs.Went.{Drove}
-use Rattle.group_run.specs.Working.{AreInTurn, IsAlone, IsRun, Works, group_in, is_shut, standing_at}
+use Rattle.owner_book.specs.Book.{Book, owner_in}
+use Rattle.owner_book.specs.declared.wish.Wish.{Wish}
+use Rattle.merge_core.specs.Keeping.{Keeping, machine_of}
+use Rattle.merge_core.specs.Roll.{Machine, Stands, committed, idle, resting}
+use Rattle.merge_core.specs.Trail.{Entry, machine_after}
+use Rattle.merge_site.specs.Booking.{wishes_at}
+use Rattle.merge_site.specs.Site.{Account, IsHeld, IsOpened, StoodDuring}
+use Rattle.merge_site.specs.declared.group.SiteGroup.{SiteGroup}
+use Rattle.group_run.specs.Applied.{RecoversWith, number}
+use Rattle.group_run.specs.Through.{HasEnded, IsSameSite, IsThrough}
+use Rattle.group_run.specs.Turns.{AreFirst}
+use Rattle.group_run.specs.Went.{DroveWith}
+use Rattle.group_run.specs.Working.{AreInTurn}
 use Rattle.group_run.specs.declared.stop.Stop.{Stop}
-use Rattle.group_run.specs.declared.stop.Stop.TheVariants as stops
+use Rattle.group_run.specs.declared.turn.Turn.{Turn}
+use Rattle.group_run.proofs.Caused.{unwished}
 use Rattle.group_run.proofs.Rest.{shut_if_over}
-use Rattle.group_run.proofs.Went.{IsOpened, during_recovers, order_opened, stands_recovers}
+use Rattle.group_run.proofs.Stood.{committed_rests}
 
--- no event came yet
-pub record IsFresh {T S : Type 0} (a : Account T S) : Type 0 where
-  pub events : a.events ≡ []
-  pub machine : machine_of a.keeping ≡ idle
-
-pub fresh_if : {T S : Type 0} (a : Account T S) → a.events ≡ [] → machine_after idle a.events ≡ machine_of a.keeping → IsFresh a
-fresh_if a none leads = record { events = none; machine = sym leads ∙ ap (machine_after idle) none }
-
-pub fresh_runs : {T S : Type 0} (a : Account T S) → IsFresh a → IsRun a
-fresh_runs a fresh = record {
-  leads = ap (machine_after idle) fresh.events ∙ sym fresh.machine;
-  turns = subst (λ l. AreInTurn idle l) (sym fresh.events) tt;
+stood_fresh : (opening : Map) (b : Book) (groups : List SiteGroup) (c : Map) → StoodDuring opening idle [] c → RecoversWith (AreFirst opening b groups []) opening [] c
+stood_fresh opening b groups c stands = record {
+  groups = committed idle.roll c;
+  of = record { first = []; rest = []; split = refl; are = committed_rests opening idle.roll c (λ g h other opened. absurd (cc opened)) stands; let_in = tt };
+  has = λ n none. absurd none;
+  is = stands.recovers;
 }
 
-pub fresh_taken : {T S : Type 0} (a : Account T S) (g : ℕ) → IsFresh a → g < length a.keeping.standings → IsTaken a.keeping g steps.Begin
-fresh_taken a g fresh there = record {
-  comes = (there, inl (ap (λ (m : Machine). m.stopped) fresh.machine));
-  phase = ap (λ (m : Machine). phase_at m.roll g) fresh.machine;
-  due = tt;
+-- a site that was just opened is through with no turn
+pub through_none : {T S : Type 0} (tells : Bool) (opening : Map) (a : Account T S) (b : Book) (groups : List SiteGroup) → IsOpened a b groups → machine_after idle a.events ≡ machine_of a.keeping → IsThrough tells opening [] a
+through_none tells opening a b groups opened leads = record {
+  run = record { leads = leads; turns = subst (λ (l : List Entry). AreInTurn idle l) (sym opened.events) tt };
+  going = ap (λ (k : Keeping). k.stopped) opened.keeping;
+  order = ap (λ (k : Keeping). k.order) opened.keeping;
+  told = λ h none. absurd none;
+  rest = λ h not. ap (λ (m : Machine). m.roll.standing h) (sym leads ∙ ap (machine_after idle) opened.events);
+  unwished = λ h not. ap (λ (l : List (List Wish)). wishes_at l h) opened.wishes ∙ unwished (length groups) h;
+  owners = λ q. ap (λ (k : Book). owner_in k.owned q) (opened.book ∙ sym opened.opened_book);
+  let_in = λ tl. tt;
+  stood = λ tl c during. stood_fresh opening a.opened_book a.groups c (subst (λ (l : List Entry). StoodDuring opening idle l c) opened.events during);
 }
 
-pub fresh_alone : {T S : Type 0} (a : Account T S) (g : ℕ) → IsFresh a → IsAlone g a
-fresh_alone a g fresh h other = ap (λ (m : Machine). m.roll.standing h) fresh.machine
-
-pub fresh_order : {T S : Type 0} (a : Account T S) → IsFresh a → a.keeping.order ≡ []
-fresh_order a fresh = ap (λ (m : Machine). m.roll.order) fresh.machine
-
--- what was opened is the one group
-one_opened : {T S : Type 0} (a b : Account T S) (g : ℕ) (Of : Group → Type 0) → IsFresh a → Works g a b → (was_opened (standing_at b g).phase ≡ true → Of (group_in b g))
-    → (x : Group) → IsOpened (machine_of b.keeping).roll x → Of x
-one_opened a b g Of fresh works placed x is = elim (cases_eq (number x) g) [
-  | inl same ↦ (
-      let opened = subst (λ (n : ℕ). was_opened (standing_at b n).phase ≡ true) same is.opened in
-      subst Of (sym (is.is ∙ ap (λ (n : ℕ). group_in b n) same)) (placed opened))
-  | inr other ↦ absurd (cc (ap (λ s. was_opened s.phase) (works.others (number x) other), ap (λ (m : Machine). was_opened (phase_at m.roll (number x))) fresh.machine, is.opened))
-]
-
-weaker : (P Q : Group → Type 0) (m : Map) (among : List ℕ) (c : Map) → ((x : Group) → P x → Q x) → Recovers P m among c → Recovers Q m among c
-weaker P Q m among c so h = record { groups = h.groups; of = λ x there. so x (h.of x there); has = h.has; is = h.is }
-
-pub drove : {T S A : Type 0} (a b : Account T S) (g : ℕ) (Of : Group → Type 0) (old start new : Story) (history : List ℕ) (end : Result A Stop)
-    → IsFresh a → Works g a b → start ≡ old → (was_opened (standing_at b g).phase ≡ true → Of (group_in b g)) → ((IsErrOf end stops.Device → ⊥) → is_shut (standing_at b g).phase ≡ true)
-    → history ≡ map number b.keeping.order
+pub drove : {T S A : Type 0} (tells : Bool) (turns : List Turn) (b : Account T S) (start new : Story) (history : List ℕ) (end : Result A Stop) → IsTrue tells → HasEnded tells start.now.holds turns b end → history ≡ map number b.keeping.order
     → IsHeld b.keeping b.events start new → Leaves (Stands start.now.holds (machine_of b.keeping).roll) new.now → Since (StoodDuring start.now.holds idle b.events) start new
-    → Drove Of old new history end
-drove a b g Of old start new history end fresh works same placed shut is held stands moments =
-    subst (λ (s : Story). Drove Of s new history end) same (record {
-      moments = since_weaker (StoodDuring start.now.holds idle b.events) (Recovers Of opening []) (λ c during. weaker (IsOpened r) Of opening [] c one
-          (subst (λ (m : Machine). Recovers (IsOpened m.roll) opening [] c) run.leads (during_recovers opening idle b.events c run.turns during))) start new moments;
-      crash = λ c image. subst (λ (l : List ℕ). Recovers Of opening l c) (sym is) (weaker (IsOpened r) Of opening (map number r.order) c one (stands_recovers opening r c held.order.listed (stands c image)));
-      shut = λ healthy. (r.order, (λ x there. one x (order_opened r held.order.listed x there)), (sym is, shut_if_over opening (machine_of b.keeping) new.now held.order (over healthy)));
-    }) where
-      opening : Map
-      opening = start.now.holds
+    → DroveWith (AreFirst start.now.holds b.opened_book b.groups turns) start new history end
+drove tells turns b start new history end tl ended is held stands moments =
+    let opening = start.now.holds in
+    let Run = AreFirst opening b.opened_book b.groups turns in
+    record {
+      moments = since_weaker (StoodDuring opening idle b.events) (RecoversWith Run opening []) (ended.stood tl) start new moments;
+      crash = λ c image. subst (λ (l : List ℕ). RecoversWith Run opening l c) (sym is) (ended.crash tl c (stands c image));
+      shut = λ healthy. (b.keeping.order, ended.order tl, (sym is, shut_if_over opening (machine_of b.keeping) new.now held.order (ended.shut healthy)));
+    }
 
-      r : Roll
-      r = (machine_of b.keeping).roll
+-- what is said over the opening of a site that a run leaves is said over that with which it began
+pub said_before : {T S : Type 0} (a b : Account T S) (P : T → Book → List SiteGroup → Type 0) → IsSameSite a b → a.opened ≡ a.tree → P b.opened b.opened_book b.groups → P a.tree a.opened_book a.groups
+said_before a b P same opened h =
+    subst (λ t. P t a.opened_book a.groups) (same.opened ∙ opened) (subst (λ (k : Book). P b.opened k a.groups) same.opened_book (subst (λ (l : List SiteGroup). P b.opened b.opened_book l) same.groups h))
 
-      run : IsRun b
-      run = works.run (fresh_runs a fresh)
-
-      one : (x : Group) → IsOpened r x → Of x
-      one = one_opened a b g Of fresh works placed
-
-      over : (IsErrOf end stops.Device → ⊥) → (h : ℕ) → is_shut (phase_at r h) ≡ true
-      over healthy h = elim (cases_eq h g) [
-        | inl e ↦ subst (λ (n : ℕ). is_shut (standing_at b n).phase ≡ true) (sym e) (shut healthy)
-        | inr other ↦ (ap (λ s. is_shut s.phase) (works.others h other) ∙ ap (λ (m : Machine). is_shut (phase_at m.roll h)) fresh.machine)
-      ]
+pub opened_count : {T S : Type 0} (a : Account T S) (b : Book) (groups : List SiteGroup) → IsOpened a b groups → length a.keeping.standings ≡ length a.groups
+opened_count a b groups opened = ap (λ (k : Keeping). length k.standings) opened.keeping ∙ (length-replicate (length groups) resting ∙ sym (ap length opened.brings))

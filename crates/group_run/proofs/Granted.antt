@@ -1,4 +1,4 @@
--- What the claim of a site's only group says of the book and the tree from before.
+-- What the claim of a group says of the book and the tree, where no other is under way.
 use Rattle.std.proofs.Common.{◌≡◌, ◌∙◌, ℕ, Bool, true, false, List, [], ◌∷◌, Some, None, inl, inr, refl, ap, subst}
 use Rattle.std.specs.Prelude.{IsTrue, cond}
 use Rattle.std.specs.List.{AllByRecursion}
@@ -6,53 +6,70 @@ use Rattle.std.proofs.lemmas.Bool.{both_ways, cases_eq}
 use Rattle.basics.specs.Members.{Has}
 use Rattle.file_tree.specs.Disk.{Disk, Map}
 use Rattle.journal.specs.Group.{Group, with_groups}
-use Rattle.owner_book.specs.Book.{owner_in}
+use Rattle.owner_book.specs.Book.{Book, HasOwnersOf, owner_in}
 use Rattle.owner_book.specs.declared.wish.Wish.{Wish}
 use Rattle.merge_core.specs.Keeping.{machine_of}
 use Rattle.merge_core.specs.Order.{IsInOrder}
 use Rattle.merge_core.specs.Payloads.{IsAt}
-use Rattle.merge_core.specs.Phase.{Phase, Idle, Sealed, is_live, is_settled, is_working}
-use Rattle.merge_core.specs.Roll.{Standing}
+use Rattle.merge_core.specs.Phase.{Phase, Idle, Building, Recorded, Marked, Sealed, Claimed, GatePut, Open, Placed, GateTaken, Done, Told, Abandoned, Redo, Redone, Odd, Emptied, is_live, is_working}
 use Rattle.merge_core.specs.declared.phase.Phase.TheVariants as phases
 use Rattle.merge_core.proofs.Words.{tree_kept}
-use Rattle.merge_site.specs.Booking.{IsBooked, done_by, dying_at, groups_of, is_over, parts_of, settled_by, wishes_at}
+use Rattle.merge_site.specs.Booking.{IsBooked, dying_at, parts_of, wishes_at}
 use Rattle.merge_site.specs.Claiming.{AreClear, IsClearFor, IsGranted, IsStop, IsUnownedStop, MayClaim, Stops, StopsAt}
 use Rattle.merge_site.specs.Site.{Account}
 use Rattle.merge_site.specs.declared.fault.ClaimStop.{ClaimStop}
 use Rattle.merge_site.specs.declared.fault.ClaimStop.TheVariants as claims
+use Rattle.merge_site.specs.declared.group.SiteGroup.{SiteGroup}
 use Rattle.group_run.specs.Causes.{IsRefusal, StopsRun, is_refusal}
 use Rattle.group_run.specs.Granted.{HasBuilt, IsOutside, IsUnclaimed, MayMerge}
 use Rattle.group_run.specs.Stops.{stop_of_claim}
-use Rattle.group_run.specs.Working.{IsAlone, standing_at}
+use Rattle.group_run.specs.Working.{IsAlone, Works, standing_at, stood_at}
 use Rattle.group_run.specs.declared.files.Files.{Files}
+use Rattle.group_run.specs.declared.stop.Stop.{Stop}
+use Rattle.group_run.specs.declared.stop.Stop.TheVariants as stops
 
 pub none_there : {A : Type 0} (xs : List A) → ((x : A) → Has xs x → ⊥) → xs ≡ []
 none_there [] h = refl
 none_there (x ∷ xs) h = absurd (h x (inl refl))
 
--- one group is sealed, and no other has begun
-either : {T S : Type 0} (a : Account T S) (g : ℕ) (f : Phase → Bool) → IsAt a.keeping g phases.Sealed → IsAlone g a → f Sealed ≡ false → f Idle ≡ false → (h : ℕ) → f (standing_at a h).phase ≡ false
-either a g f at alone sealed rests h = elim (cases_eq h g) [
-  | inl same ↦ (ap (λ (n : ℕ). f (standing_at a n).phase) same ∙ (ap f at.phase ∙ sealed))
-  | inr other ↦ (ap (λ (s : Standing). f s.phase) (alone h other) ∙ rests)
+-- one group is sealed, and no other is under way
+none_live : {T S : Type 0} (a : Account T S) (g : ℕ) → IsAt a.keeping g phases.Sealed → IsAlone g a → (h : ℕ) → is_live (standing_at a h).phase ≡ false
+none_live a g at alone h = elim (cases_eq h g) [
+  | inl same ↦ (ap (λ (n : ℕ). is_live (standing_at a n).phase) same ∙ ap is_live at.phase)
+  | inr other ↦ alone h other
 ]
 
-pub book_kept : {T S : Type 0} (a : Account T S) (g : ℕ) → IsAt a.keeping g phases.Sealed → IsAlone g a → IsBooked a.keeping a.events a.wishes a.opened_book a.book → IsUnclaimed a.opened_book a.book
-book_kept a g at alone booked =
-    let none = none_there (groups_of done_by a.events) (λ h there. both_ways (is_over (standing_at a h).phase) (either a g is_over at alone refl refl h) (booked.over h there)) in
-    record {
-      owners = λ q. booked.owners q ∙ ap (λ (l : List ℕ). settled_by (parts_of a.keeping a.wishes) l q (owner_in a.opened_book.owned q)) none;
-      claims = λ h. booked.claims h ∙ ap (λ (b : Bool). cond b (Some (parts_of a.keeping a.wishes h)) None) (either a g is_live at alone refl refl h);
-    }
+working_lives : (p : Phase) → is_working p ≡ true → is_live p ≡ true
+working_lives Idle w = absurd (cc w)
+working_lives Building w = absurd (cc w)
+working_lives Recorded w = absurd (cc w)
+working_lives Marked w = absurd (cc w)
+working_lives Sealed w = absurd (cc w)
+working_lives Claimed w = refl
+working_lives GatePut w = refl
+working_lives Open w = refl
+working_lives Placed w = refl
+working_lives GateTaken w = refl
+working_lives Done w = absurd (cc w)
+working_lives Told w = absurd (cc w)
+working_lives Abandoned w = absurd (cc w)
+working_lives Redo w = refl
+working_lives Redone w = refl
+working_lives Odd w = refl
+working_lives Emptied w = refl
 
-pub outside_kept : {T S : Type 0} (a : Account T S) (g : ℕ) (opening : Map) (d : Disk) → IsAt a.keeping g phases.Sealed → IsAlone g a → IsInOrder opening (machine_of a.keeping) d → IsOutside opening d.holds
+book_kept : {T S : Type 0} (a : Account T S) (g : ℕ) → IsAt a.keeping g phases.Sealed → IsAlone g a → IsBooked a.keeping a.events a.wishes a.opened_book a.book → IsUnclaimed a.book a.book
+book_kept a g at alone booked = record {
+  owners = λ q. refl;
+  claims = λ h. booked.claims h ∙ ap (λ (b : Bool). cond b (Some (parts_of a.keeping a.wishes h)) None) (none_live a g at alone h);
+}
+
+outside_kept : {T S : Type 0} (a : Account T S) (g : ℕ) (opening : Map) (d : Disk) → IsAt a.keeping g phases.Sealed → IsAlone g a → IsInOrder opening (machine_of a.keeping) d → IsOutside (stood_at opening a) d.holds
 outside_kept a g opening d at alone order q out =
-    let none = none_there (machine_of a.keeping).roll.order (λ x there. both_ways (is_settled (standing_at a x.content.group).phase) (either a g is_settled at alone refl refl x.content.group) (order.listed.only x there).0) in
-    (tree_kept opening (machine_of a.keeping) d order q out (λ h works. absurd (both_ways (is_working (standing_at a h).phase) (either a g is_working at alone refl refl h) works))).reads
-    ∙ ap (λ (l : List Group). with_groups l q (opening q)) none
+    (tree_kept opening (machine_of a.keeping) d order q out (λ h works. absurd (cc (working_lives (standing_at a h).phase works, none_live a g at alone h)))).reads
 
 pub granted : {T S : Type 0} (a : Account T S) (files : Files) (g : ℕ) (opening : Map) (d : Disk) → IsAt a.keeping g phases.Sealed → HasBuilt files g a → IsBooked a.keeping a.events a.wishes a.opened_book a.book → IsInOrder opening (machine_of a.keeping) d
-    → IsGranted a g → AreClear d.holds a g → MayMerge opening a.opened_book a.groups files g
+    → IsGranted a g → AreClear d.holds a g → MayMerge (stood_at opening a) a.book a.groups files g
 granted a files g opening d at built booked order may clear = record {
   good = built.good;
   book = a.book;
@@ -65,7 +82,7 @@ granted a files g opening d at built booked order may clear = record {
 }
 
 refused : {T S : Type 0} (tells : Bool) (a : Account T S) (files : Files) (g : ℕ) (opening : Map) (d : Disk) (s : ClaimStop) → is_refusal s ≡ true → IsAt a.keeping g phases.Sealed → HasBuilt files g a
-    → IsBooked a.keeping a.events a.wishes a.opened_book a.book → (IsTrue tells → IsInOrder opening (machine_of a.keeping) d) → IsStop a g s → (IsTrue tells → IsUnownedStop d.holds a g s) → IsRefusal tells opening a.opened_book a.groups files g s
+    → IsBooked a.keeping a.events a.wishes a.opened_book a.book → (IsTrue tells → IsInOrder opening (machine_of a.keeping) d) → IsStop a g s → (IsTrue tells → IsUnownedStop d.holds a g s) → IsRefusal tells (stood_at opening a) a.book a.groups files g s
 refused tells a files g opening d s is at built booked order stopped met = record {
   refusal = is;
   book = a.book;
@@ -76,7 +93,7 @@ refused tells a files g opening d s is at built booked order stopped met = recor
 }
 
 pub claim_stops : {T S : Type 0} (tells : Bool) (a : Account T S) (files : Files) (g : ℕ) (opening : Map) (d : Disk) (s : ClaimStop) → IsAt a.keeping g phases.Sealed → HasBuilt files g a → IsBooked a.keeping a.events a.wishes a.opened_book a.book
-    → (IsTrue tells → IsInOrder opening (machine_of a.keeping) d) → IsStop a g s → (IsTrue tells → IsUnownedStop d.holds a g s) → StopsRun tells opening a.opened_book a.groups files g (stop_of_claim s)
+    → (IsTrue tells → IsInOrder opening (machine_of a.keeping) d) → IsStop a g s → (IsTrue tells → IsUnownedStop d.holds a g s) → StopsRun tells (stood_at opening a) a.book a.groups files g (stop_of_claim s)
 claim_stops tells a files g opening d claims.Device at built booked order stopped met = tt
 claim_stops tells a files g opening d claims.Memory at built booked order stopped met = tt
 claim_stops tells a files g opening d (claims.Collision c) at built booked order stopped met = refused tells a files g opening d (claims.Collision c) refl at built booked order stopped met
@@ -84,3 +101,55 @@ claim_stops tells a files g opening d (claims.Image bad) at built booked order s
 claim_stops tells a files g opening d (claims.Removal p) at built booked order stopped met = refused tells a files g opening d (claims.Removal p) refl at built booked order stopped met
 claim_stops tells a files g opening d claims.Overlap at built booked order stopped met = refused tells a files g opening d claims.Overlap refl at built booked order stopped met
 claim_stops tells a files g opening d claims.Limit at built booked order stopped met = refused tells a files g opening d claims.Limit refl at built booked order stopped met
+
+-- ---- over other maps and books that say the same
+
+unclaimed_same : (b b' book : Book) → HasOwnersOf b' b → IsUnclaimed b book → IsUnclaimed b' book
+unclaimed_same b b' book same h = record { owners = λ q. h.owners q ∙ same q; claims = h.claims }
+
+outside_same : (m m' x : Map) → IsOutside m' m → IsOutside m x → IsOutside m' x
+outside_same m m' x same h q out = h q out ∙ same q out
+
+-- a claim that is granted over a map and the owners of a book is granted over others that say the same
+pub may_same : (m m' : Map) (b b' : Book) (groups : List SiteGroup) (files : Files) (g : ℕ) → IsOutside m' m → HasOwnersOf b' b → MayMerge m b groups files g → MayMerge m' b' groups files g
+may_same m m' b b' groups files g map owners h = record {
+  good = h.good;
+  book = h.book;
+  unclaimed = unclaimed_same b b' h.book owners h.unclaimed;
+  granted = h.granted;
+  tree = h.tree;
+  outside = outside_same m m' h.tree map h.outside;
+  clear = h.clear;
+}
+
+-- .. and so is a cause of a stop one
+pub stops_same : (tells : Bool) (m m' : Map) (b b' : Book) (groups : List SiteGroup) (files : Files) (g : ℕ) (e : Stop) → IsOutside m' m → HasOwnersOf b' b → StopsRun tells m b groups files g e → StopsRun tells m' b' groups files g e
+stops_same tells m m' b b' groups files g stops.Device map owners h = tt
+stops_same tells m m' b b' groups files g stops.Output map owners h = tt
+stops_same tells m m' b b' groups files g (stops.Image bad) map owners h = h
+stops_same tells m m' b b' groups files g (stops.Claim s) map owners h = record {
+  refusal = h.refusal;
+  book = h.book;
+  unclaimed = unclaimed_same b b' h.book owners h.unclaimed;
+  refuses = h.refuses;
+  met = λ t. let k = h.met t in (k.0, outside_same m m' k.0 map k.1, k.2);
+}
+stops_same tells m m' b b' groups files g stops.Limit map owners h = h
+stops_same tells m m' b b' groups files g stops.Memory map owners h = tt
+
+-- the map that a site has, while a group of it goes its way
+stood_same : {T S : Type 0} (opening : T → Map) (g : ℕ) (a b : Account T S) → Works g a b → b.keeping.order ≡ a.keeping.order → IsOutside (stood_at (opening a.opened) a) (stood_at (opening b.opened) b)
+stood_same opening g a b works order q out =
+    ap (λ (l : List Group). with_groups l q (opening b.opened q)) order ∙ ap (λ o. with_groups a.keeping.order q (opening o q)) works.opened
+
+pub may_before : {T S : Type 0} (opening : T → Map) (g : ℕ) (a b : Account T S) (files : Files) → Works g a b → b.keeping.order ≡ a.keeping.order → HasOwnersOf a.book b.book
+    → MayMerge (stood_at (opening b.opened) b) b.book b.groups files g → MayMerge (stood_at (opening a.opened) a) a.book a.groups files g
+may_before opening g a b files works order owners h =
+    may_same (stood_at (opening b.opened) b) (stood_at (opening a.opened) a) b.book a.book a.groups files g (stood_same opening g a b works order) owners
+    (subst (λ (l : List SiteGroup). MayMerge (stood_at (opening b.opened) b) b.book l files g) works.groups h)
+
+pub stops_before : {T S : Type 0} (tells : Bool) (opening : T → Map) (g : ℕ) (a b : Account T S) (files : Files) (e : Stop) → Works g a b → b.keeping.order ≡ a.keeping.order → HasOwnersOf a.book b.book
+    → StopsRun tells (stood_at (opening b.opened) b) b.book b.groups files g e → StopsRun tells (stood_at (opening a.opened) a) a.book a.groups files g e
+stops_before tells opening g a b files e works order owners h =
+    stops_same tells (stood_at (opening b.opened) b) (stood_at (opening a.opened) a) b.book a.book a.groups files g e (stood_same opening g a b works order) owners
+    (subst (λ (l : List SiteGroup). StopsRun tells (stood_at (opening b.opened) b) b.book l files g e) works.groups h)

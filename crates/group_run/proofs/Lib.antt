@@ -2,9 +2,14 @@ pub mod Caused
 pub mod Cleared
 pub mod Drove
 pub mod Granted
+pub mod Left
 pub mod Rest
+pub mod Settling
+pub mod Single
 pub mod Staged
+pub mod Stood
 pub mod Stopped
+pub mod Through
 pub mod Told
 pub mod Went
 pub mod Worked

@@ -1,13 +1,10 @@
 -- A machine no group of which has its gate open, over a disk in order.
-use Rattle.std.proofs.Common.{◌≡◌, ℕ, true, List, Option, Some, None, Result, Ok, Err, map, refl, ap}
+use Rattle.std.proofs.Common.{◌≡◌, ℕ, true, Option, Some, None, Result, Ok, Err, refl, ap}
 use Rattle.std.specs.Prelude.{IfErr, IsErrOf, OnOk}
 use Rattle.file_tree.specs.Disk.{Disk, Map}
-use Rattle.file_tree.specs.Moments.{Leaves}
 use Rattle.file_tree.specs.Thing.{Thing}
 use Rattle.merge_record.specs.Names.{gate_path}
-use Rattle.merge_record.specs.Recovered.{IsRecovered}
-use Rattle.journal.specs.Group.{applied}
-use Rattle.merge_core.specs.Order.{IsInOrder, IsListed}
+use Rattle.merge_core.specs.Order.{IsInOrder}
 use Rattle.merge_core.specs.Phase.{Phase, Idle, Building, Recorded, Marked, Sealed, Claimed, GatePut, Open, Placed, GateTaken, Done, Told, Abandoned, Redo, Redone, Odd, Emptied, gate_owed, is_working, may_end}
 use Rattle.merge_core.specs.Roll.{Machine, phase_at, stood}
 use Rattle.merge_core.specs.Payloads.{IsAt}
@@ -15,11 +12,9 @@ use Rattle.merge_core.specs.declared.phase.Phase.TheVariants as phases
 use Rattle.merge_site.specs.Site.{Account}
 use Rattle.merge_core.proofs.Words.{gate_kept, tree_kept}
 use Rattle.recovery.specs.Phases.{IsShut}
-use Rattle.group_run.specs.Applied.{LeavesHistory, number}
 use Rattle.group_run.specs.Working.{is_shut, standing_at}
 use Rattle.group_run.specs.declared.stop.Stop.{Stop}
 use Rattle.group_run.specs.declared.stop.Stop.TheVariants as stops
-use Rattle.group_run.proofs.Went.{IsOpened, order_opened}
 
 shut_owed : (found : Option Thing) (p : Phase) → is_shut p ≡ true → gate_owed found p ≡ Some None
 shut_owed found Idle e = refl
@@ -84,10 +79,6 @@ shut_if_over opening m d order over = record {
   outside = λ q out. tree_kept opening m d order q out (λ g w. absurd (shut_rests (phase_at m.roll g) (over g) w));
   gates = λ h small. gate_kept opening m d order h None small (shut_owed (opening (gate_path h)) (phase_at m.roll h) (over h));
 }
-
--- a crash then leaves just the groups of the order
-pub leaves_order : (opening : Map) (m : Machine) (d : Disk) (history : List ℕ) → IsListed m.roll → map number m.roll.order ≡ history → Leaves (λ c. IsRecovered c (applied opening m.roll.order)) d → LeavesHistory (IsOpened m.roll) opening history d
-leaves_order opening m d history listed are each = record { groups = m.roll.order; of = order_opened m.roll listed; are = are; each = each }
 
 pub ok_if : {A E P : Type 0} (r : Result A E) → P → OnOk r P
 ok_if (Ok a) p = p

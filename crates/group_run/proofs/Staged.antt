@@ -11,7 +11,9 @@ use Rattle.merge_core.specs.Phase.{may_end, was_opened}
 use Rattle.merge_core.specs.Roll.{Standing, group_of}
 use Rattle.merge_core.specs.declared.phase.Phase.TheVariants as phases
 use Rattle.merge_core.proofs.Standings.{set_here}
-use Rattle.merge_site.specs.Site.{Account, Adds, KeepsHistory}
+use Rattle.merge_site.specs.Booking.{with_wish}
+use Rattle.merge_site.specs.Site.{Account, Adds, KeepsHistory, is_stage}
+use Rattle.owner_book.specs.declared.wish.Wish.{Wish}
 use Rattle.merge_site.specs.Staging.{placement_of}
 use Rattle.file_tree.specs.Thing.{Thing}
 use Rattle.file_tree.specs.declared.fault.TreeFault.{TreeFault}
@@ -22,8 +24,8 @@ use Rattle.merge_site.specs.declared.fault.SiteFault.{SiteFault}
 use Rattle.merge_site.specs.declared.fault.SiteFault.TheVariants as sites
 use Rattle.merge_site.specs.declared.fault.StageFault.{StageFault}
 use Rattle.merge_site.specs.declared.fault.StageFault.TheVariants as faults
-use Rattle.group_run.specs.Working.{HasStaged, IsInTurn, Works, group_in, is_shut, object_of, placing, standing_at}
-use Rattle.group_run.proofs.Worked.{at_after, early_on, group_kept, group_of_event, is_early, order_kept, settles, standing_after, worked, works_same}
+use Rattle.group_run.specs.Working.{HasStaged, IsInTurn, Works, group_in, group_of_event, is_shut, object_of, placing, standing_at}
+use Rattle.group_run.proofs.Worked.{at_after, early_on, group_kept, is_early, order_kept, settles, standing_after, worked, worked_failed, worked_stage, works_same}
 
 -- what holds of a group behind a call that may have been its event
 pub record Early {T S : Type 0} (g : ℕ) (old new : Account T S) : Type 0 where
@@ -31,12 +33,15 @@ pub record Early {T S : Type 0} (g : ℕ) (old new : Account T S) : Type 0 where
   pub order : new.keeping.order ≡ old.keeping.order
   pub early : may_end (standing_at new g).phase ≡ true
 
-pub early_event : {T S : Type 0} (old new : Account T S) (e : Event) (ok : Bool) → IsInTurn (machine_of old.keeping) e → is_early e ≡ true → settles e ≡ false → Adds old new e ok → Early (group_of_event e) old new
-early_event old new e ok turn early settled adds = record {
-  works = worked old new e ok adds turn;
+early_by : {T S : Type 0} (old new : Account T S) (e : Event) (ok : Bool) → IsInTurn (machine_of old.keeping) e → is_early e ≡ true → settles e ≡ false → Adds old new e ok → Works (group_of_event e) old new → Early (group_of_event e) old new
+early_by old new e ok turn early settled adds works = record {
+  works = works;
   order = order_kept old new e ok adds settled;
   early = early_on old new e ok adds turn early;
 }
+
+pub early_event : {T S : Type 0} (old new : Account T S) (e : Event) (ok : Bool) → IsInTurn (machine_of old.keeping) e → is_early e ≡ true → settles e ≡ false → is_stage e ≡ false → Adds old new e ok → Early (group_of_event e) old new
+early_event old new e ok turn early settled other adds = early_by old new e ok turn early settled adds (worked old new e ok adds turn other)
 
 pub early_same : {T S : Type 0} (old new : Account T S) (g : ℕ) → may_end (standing_at old g).phase ≡ true → KeepsHistory old new → Early g old new
 early_same old new g early kept = record {
@@ -45,19 +50,21 @@ early_same old new g early kept = record {
   early = ap (λ k. may_end (standing_in k.standings g).phase) kept.keeping ∙ early;
 }
 
-pub early_stage : {A T S : Type 0} (r : Result A StageFault) (old new : Account T S) (f : Entry) (g : ℕ) → IsAt old.keeping g phases.Building → OnOk r (Adds old new (PutStage g (placement_of f) f.object) true)
-    → (IsErrOf r faults.Device → Adds old new (PutStage g (placement_of f) f.object) false) → (¬ IsErrOf r faults.Device → OnErr r (KeepsHistory old new)) → Early g old new
-early_stage (Ok a) old new f g at adds failed kept = early_event old new (PutStage g (placement_of f) f.object) true at.phase refl refl adds
-early_stage (Err faults.Device) old new f g at adds failed kept = early_event old new (PutStage g (placement_of f) f.object) false at.phase refl refl (failed refl)
-early_stage (Err (faults.Image bad)) old new f g at adds failed kept = early_same old new g (ap may_end at.phase) (kept (λ e. cc e))
-early_stage (Err faults.Limit) old new f g at adds failed kept = early_same old new g (ap may_end at.phase) (kept (λ e. cc e))
-early_stage (Err faults.Memory) old new f g at adds failed kept = early_same old new g (ap may_end at.phase) (kept (λ e. cc e))
+pub early_stage : {A T S : Type 0} (r : Result A StageFault) (old new : Account T S) (f : Entry) (w : Wish) (g : ℕ) → IsAt old.keeping g phases.Building → OnOk r (Adds old new (PutStage g (placement_of f) f.object) true)
+    → (IsErrOf r faults.Device → Adds old new (PutStage g (placement_of f) f.object) false) → (¬ IsErrOf r faults.Device → OnErr r (KeepsHistory old new)) → OnOk r (new.wishes ≡ with_wish old.wishes g w) → OnErr r (new.wishes ≡ old.wishes) → Early g old new
+early_stage (Ok a) old new f w g at adds failed kept more same =
+    early_by old new (PutStage g (placement_of f) f.object) true at.phase refl refl adds (worked_stage old new g (placement_of f) f.object w adds at.phase more)
+early_stage (Err faults.Device) old new f w g at adds failed kept more same =
+    early_by old new (PutStage g (placement_of f) f.object) false at.phase refl refl (failed refl) (worked_failed old new g (placement_of f) f.object (failed refl) at.phase same)
+early_stage (Err (faults.Image bad)) old new f w g at adds failed kept more same = early_same old new g (ap may_end at.phase) (kept (λ e. cc e))
+early_stage (Err faults.Limit) old new f w g at adds failed kept more same = early_same old new g (ap may_end at.phase) (kept (λ e. cc e))
+early_stage (Err faults.Memory) old new f w g at adds failed kept more same = early_same old new g (ap may_end at.phase) (kept (λ e. cc e))
 
 -- the record of a group that is being built
 pub early_record : {A T S : Type 0} (r : Result A SiteFault) (old new : Account T S) (g : ℕ) (removals : List (List ℕ)) → IsAt old.keeping g phases.Building → OnOk r (Adds old new (PutRecord g removals) true)
     → (IsErrOf r sites.Device → Adds old new (PutRecord g removals) false) → ((IsErrOf r sites.Device → ⊥) → OnErr r (KeepsHistory old new)) → Early g old new
-early_record (Ok a) old new g removals at adds failed kept = early_event old new (PutRecord g removals) true at.phase refl refl adds
-early_record (Err sites.Device) old new g removals at adds failed kept = early_event old new (PutRecord g removals) false at.phase refl refl (failed refl)
+early_record (Ok a) old new g removals at adds failed kept = early_event old new (PutRecord g removals) true at.phase refl refl refl adds
+early_record (Err sites.Device) old new g removals at adds failed kept = early_event old new (PutRecord g removals) false at.phase refl refl refl (failed refl)
 early_record (Err sites.Limit) old new g removals at adds failed kept = early_same old new g (ap may_end at.phase) (kept (λ e. cc e))
 early_record (Err sites.Memory) old new g removals at adds failed kept = early_same old new g (ap may_end at.phase) (kept (λ e. cc e))
 
@@ -76,8 +83,8 @@ pub record EarlyKept {T S : Type 0} (g : ℕ) (old new : Account T S) : Type 0 w
   pub group : group_in new g ≡ group_in old g
 
 pub early_token : {A T S : Type 0} (r : Result A TreeFault) (old new : Account T S) (g : ℕ) → IsAt old.keeping g phases.Recorded → ((IsErrOf r trees.Memory → ⊥) → Adds old new (PutToken g) (is_ok r)) → (IsErrOf r trees.Memory → KeepsHistory old new) → EarlyKept g old new
-early_token (Ok a) old new g at adds kept = let e = adds (λ x. cc x) in record { early = early_event old new (PutToken g) true at.phase refl refl e; group = group_kept old new (PutToken g) true e refl }
-early_token (Err trees.Failed) old new g at adds kept = let e = adds (λ x. cc x) in record { early = early_event old new (PutToken g) false at.phase refl refl e; group = group_kept old new (PutToken g) false e refl }
+early_token (Ok a) old new g at adds kept = let e = adds (λ x. cc x) in record { early = early_event old new (PutToken g) true at.phase refl refl refl e; group = group_kept old new (PutToken g) true e refl }
+early_token (Err trees.Failed) old new g at adds kept = let e = adds (λ x. cc x) in record { early = early_event old new (PutToken g) false at.phase refl refl refl e; group = group_kept old new (PutToken g) false e refl }
 early_token (Err trees.Memory) old new g at adds kept = let k = kept refl in record { early = early_same old new g (ap may_end at.phase) k; group = ap (λ x. group_of g (standing_in x.standings g)) k.keeping }
 
 -- what holds of a group behind its claim, granted or not: its gate wasn't opened
@@ -92,7 +99,7 @@ pub claims_on : {A T S : Type 0} (r : Result A ClaimStop) (old new : Account T S
 claims_on (Ok a) old new g at adds kept =
     let s = standing_after old new g (Claim g) _ adds (set_here (machine_of old.keeping).roll g _) in
     record {
-      works = worked old new (Claim g) true adds at.phase;
+      works = worked old new (Claim g) true adds at.phase refl;
       order = order_kept old new (Claim g) true adds refl;
       group = group_kept old new (Claim g) true adds refl;
       shut = ap (λ (x : Standing). is_shut x.phase) s;

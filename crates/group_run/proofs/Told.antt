@@ -1,6 +1,9 @@
 -- The line of a group that is done.
-use Rattle.std.proofs.Common.{◌≡◌, ◌<◌, ◌++◌, ◌∙◌, ℕ, zero, suc, Bool, true, false, List, [], ◌∷◌, Some, refl, sym, ap, subst, length, take, append-nil, arith}
+use Rattle.std.proofs.Common.{◌≡◌, ◌<◌, ◌++◌, ◌∙◌, ℕ, zero, suc, Bool, true, false, List, [], ◌∷◌, Some, refl, sym, ap, subst, length, take, append-nil, append_assoc, inl, inr, ◌⊎◌, arith}
+use Rattle.std.specs.List.{flat_map}
 use Rattle.std.specs.Prelude.{slice_get}
+use Rattle.std.proofs.lemmas.Grind.{flat_map-append}
+use Rattle.std.proofs.lemmas.List.{length-append}
 use Rattle.merge_core.specs.Event.{Acknowledge, answered}
 use Rattle.merge_core.specs.Keeping.{machine_of}
 use Rattle.merge_core.specs.Payloads.{IsAt}
@@ -9,8 +12,9 @@ use Rattle.merge_core.specs.declared.phase.Phase.TheVariants as phases
 use Rattle.merge_core.proofs.Standings.{set_here}
 use Rattle.merge_site.specs.Site.{Account, Adds, Writes}
 use Rattle.merge_site.specs.declared.group.SiteGroup.{SiteGroup}
-use Rattle.group_run.specs.Lines.{AreLines, line_in, line_or_none}
+use Rattle.group_run.specs.Lines.{AreLines, Wrote, line_in, line_or_none}
 use Rattle.group_run.specs.Working.{is_shut, standing_at}
+use Rattle.group_run.proofs.Worked.{at_after}
 
 group_there : (xs : List SiteGroup) (g : ℕ) → g < length xs → (x : SiteGroup) × (slice_get xs g ≡ Some x)
 group_there [] g lt = absurd (omega (arith, lt))
@@ -28,6 +32,9 @@ part_written xs g ok old new lt writes =
     let p = writes.part k.0 k.1 in
     (p.0, p.1 ∙ ap (λ x. old ++ take p.0 (line_or_none x)) (sym k.1))
 
+pub told_at : {T S : Type 0} (old new : Account T S) (g : ℕ) → IsAt old.keeping g phases.Done → Adds old new (Acknowledge g) true → IsAt new.keeping g phases.Told
+told_at old new g at adds = at_after old new g (Acknowledge g) phases.Told _ adds at.running refl (set_here (machine_of old.keeping).roll g _) refl
+
 told_answered : (m : Machine) (g : ℕ) (ok : Bool) → is_shut (m.roll.standing g).phase ≡ true → is_shut ((answered m (Acknowledge g) ok).roll.standing g).phase ≡ true
 told_answered m g true shut = ap (λ (s : Standing). is_shut s.phase) (set_here m.roll g _)
 told_answered m g false shut = shut
@@ -39,14 +46,74 @@ told_shut old new g ok at adds = ap (λ (m : Machine). is_shut (m.roll.standing 
 pub lines_none : (line : ℕ → List ℕ) (history acknowledged : List ℕ) → acknowledged ≡ [] → AreLines line history acknowledged []
 lines_none line history acknowledged none = subst (λ (a : List ℕ). AreLines line history a []) (sym none) (record { rest = history; order = refl; cut = []; begun = (0, refl); whole = refl })
 
--- the line of one group, which is acknowledged
-pub lines_whole : (line : ℕ → List ℕ) (g : ℕ) (history acknowledged : List ℕ) → history ≡ g ∷ [] → acknowledged ≡ g ∷ [] → AreLines line history acknowledged (line g)
-lines_whole line g history acknowledged one told =
-    subst (λ (h : List ℕ). AreLines line h acknowledged (line g)) (sym one) (subst (λ (a : List ℕ). AreLines line (g ∷ []) a (line g)) (sym told)
-    (record { rest = []; order = refl; cut = []; begun = (0, refl); whole = sym (append-nil (line g ++ []) ∙ append-nil (line g)) }))
+pub take_none : (n : ℕ) → take {A = ℕ} n [] ≡ []
+take_none zero = refl
+take_none (suc n) = refl
 
--- some beginning of it, where it isn't
-pub lines_cut : (line : ℕ → List ℕ) (g n : ℕ) (history acknowledged : List ℕ) → history ≡ g ∷ [] → acknowledged ≡ [] → AreLines line history acknowledged (take n (line g))
-lines_cut line g n history acknowledged one none =
-    subst (λ (h : List ℕ). AreLines line h acknowledged (take n (line g))) (sym one) (subst (λ (a : List ℕ). AreLines line (g ∷ []) a (take n (line g))) (sym none)
-    (record { rest = g ∷ []; order = refl; cut = take n (line g); begun = (n, ap (take n) (sym (append-nil (line g)))); whole = refl }))
+pub none_of : {A : Type 0} (xs : List A) → length xs ≡ 0 → xs ≡ []
+none_of [] e = refl
+none_of (x ∷ xs) e = absurd (omega (arith, e))
+
+nothing_behind : (xs ys : List ℕ) → xs ≡ xs ++ ys → ys ≡ []
+nothing_behind xs ys is = none_of ys (let n = ap length is ∙ length-append xs ys in omega (arith, n))
+
+-- where all groups are acknowledged, just their lines were written
+lines_all : (line : ℕ → List ℕ) (history text : List ℕ) → AreLines line history history text → text ≡ flat_map line history
+lines_all line history text lines =
+    let none = nothing_behind history lines.rest lines.order in
+    lines.whole
+    ∙ (ap (λ (l : List ℕ). flat_map line history ++ l) (lines.begun.1 ∙ (ap (λ (l : List ℕ). take lines.begun.0 (flat_map line l)) none ∙ take_none lines.begun.0)) ∙ append-nil (flat_map line history))
+
+-- some groups more, of whose lines a beginning was written
+lines_on : (line : ℕ → List ℕ) (history more text new : List ℕ) (n : ℕ) → new ≡ history ++ more → AreLines line history history text → AreLines line new history (text ++ take n (flat_map line more))
+lines_on line history more text new n is lines = record {
+  rest = more;
+  order = is;
+  cut = take n (flat_map line more);
+  begun = (n, refl);
+  whole = ap (λ (l : List ℕ). l ++ take n (flat_map line more)) (lines_all line history text lines);
+}
+
+one_line : (line : ℕ → List ℕ) (g : ℕ) → flat_map line (g ∷ []) ≡ line g
+one_line line g = append-nil (line g)
+
+module _ (line : ℕ → List ℕ) (g : ℕ) (history acknowledged start old new : List ℕ) (told : acknowledged ≡ history) (wrote : Wrote (AreLines line history acknowledged) start old) where
+  lines_now : AreLines line history history wrote.0
+  lines_now = subst (λ (l : List ℕ). AreLines line history l wrote.0) told wrote.1
+
+  -- nothing was written, whether the group is in the tree or not
+  pub wrote_none : (history' acknowledged' : List ℕ) → (history' ≡ history) ⊎ (history' ≡ history ++ g ∷ []) → acknowledged' ≡ acknowledged → new ≡ old → Wrote (AreLines line history' acknowledged') start new
+  wrote_none history' acknowledged' (inl same) untold is =
+      (wrote.0, subst (λ (l : List ℕ). AreLines line l acknowledged' wrote.0) (sym same) (subst (λ (l : List ℕ). AreLines line history l wrote.0) (sym untold) wrote.1), is ∙ wrote.2)
+  wrote_none history' acknowledged' (inr more) untold is = (
+    wrote.0 ++ take 0 (flat_map line (g ∷ [])),
+    subst (λ (l : List ℕ). AreLines line history' l (wrote.0 ++ take 0 (flat_map line (g ∷ [])))) (sym (untold ∙ told)) (lines_on line history (g ∷ []) wrote.0 history' 0 more lines_now),
+    is ∙ (wrote.2 ∙ ap (λ (l : List ℕ). start ++ l) (sym (append-nil wrote.0))),
+  )
+
+  -- a beginning of the line of a group that is in the tree
+  pub wrote_part : (history' acknowledged' : List ℕ) (n : ℕ) → history' ≡ history ++ g ∷ [] → acknowledged' ≡ acknowledged → new ≡ old ++ take n (line g) → Wrote (AreLines line history' acknowledged') start new
+  wrote_part history' acknowledged' n more untold is = (
+    wrote.0 ++ take n (flat_map line (g ∷ [])),
+    subst (λ (l : List ℕ). AreLines line history' l (wrote.0 ++ take n (flat_map line (g ∷ [])))) (sym (untold ∙ told)) (lines_on line history (g ∷ []) wrote.0 history' n more lines_now),
+    is
+        ∙ (ap (λ (l : List ℕ). l ++ take n (line g)) wrote.2
+        ∙ (append_assoc start wrote.0 (take n (line g)) ∙ ap (λ (l : List ℕ). start ++ (wrote.0 ++ take n l)) (sym (one_line line g)))),
+  )
+
+  -- its whole line
+  pub wrote_whole : (history' acknowledged' : List ℕ) → history' ≡ history ++ g ∷ [] → acknowledged' ≡ acknowledged ++ g ∷ [] → new ≡ old ++ line g → Wrote (AreLines line history' acknowledged') start new
+  wrote_whole history' acknowledged' more all is =
+      let both : acknowledged' ≡ history' = all ∙ (ap (λ (l : List ℕ). l ++ g ∷ []) told ∙ sym more) in (
+        wrote.0 ++ line g,
+        subst (λ (l : List ℕ). AreLines line history' l (wrote.0 ++ line g)) (sym both) (record {
+          rest = [];
+          order = sym (append-nil history');
+          cut = [];
+          begun = (0, refl);
+          whole = ap (λ (l : List ℕ). l ++ line g) (lines_all line history wrote.0 lines_now)
+              ∙ (ap (λ (l : List ℕ). flat_map line history ++ l) (sym (one_line line g))
+              ∙ (sym (flat_map-append line history (g ∷ [])) ∙ (ap (flat_map line) (sym more) ∙ sym (append-nil (flat_map line history')))));
+        }),
+        is ∙ (ap (λ (l : List ℕ). l ++ line g) wrote.2 ∙ append_assoc start wrote.0 (line g)),
+      )

@@ -1,19 +1,12 @@
 -- What a crash leaves while groups are merged by a site, and what the tree holds at the end.
-use Rattle.std.proofs.Common.{◌≡◌, ℕ, Bool, true, false, List, [], ◌∷◌, refl, sym, ap, subst, ◌∙◌, inl, inr, map}
+use Rattle.std.proofs.Common.{◌≡◌, ℕ, Bool, true, false, List, [], ◌∷◌, refl, sym, ap, ◌∙◌, inl, inr}
 use Rattle.std.proofs.lemmas.Bool.{cases_Bool}
-use Rattle.basics.specs.Members.{Has}
-use Rattle.file_tree.specs.Disk.{Map}
-use Rattle.journal.specs.Group.{Group}
 use Rattle.merge_core.specs.Event.{Abandon, Acknowledge, Begin, Claim, CloseGate, Event, OpenGate, PlacePath, PutRecord, PutStage, PutToken, RemovePath, SyncClosed, SyncGate, SyncPlaced, SyncSealed, answered, begun, done}
-use Rattle.merge_core.specs.Order.{IsListed}
-use Rattle.merge_core.specs.Phase.{Phase, Idle, Building, Recorded, Marked, Sealed, Claimed, GatePut, Open, Placed, GateTaken, Done, Told, Abandoned, Redo, Redone, Odd, Emptied, may_end, was_opened}
-use Rattle.merge_core.specs.Roll.{Machine, Roll, Standing, Stands, committed, group_at, phase_at, set}
+use Rattle.merge_core.specs.Phase.{Phase, Idle, Building, Recorded, Marked, Sealed, Claimed, GatePut, Open, Placed, GateTaken, Done, Told, Abandoned, Redo, Redone, Odd, Emptied, is_settled, may_end, was_opened}
+use Rattle.merge_core.specs.Roll.{Machine, Roll, Standing, group_at, group_of, phase_at, set}
 use Rattle.merge_core.specs.Trail.{Entry, machine_after}
 use Rattle.merge_core.proofs.Standings.{by_group}
 use Rattle.merge_core.proofs.Stays.{Stays, on_stays, shut_stays, stays_then}
-use Rattle.merge_core.proofs.Images.{settled_opened}
-use Rattle.merge_site.specs.Site.{StoodDuring}
-use Rattle.group_run.specs.Applied.{AreOf, Recovers, number}
 use Rattle.group_run.specs.Working.{AreInTurn, IsInTurn}
 
 pub not_opened : (p : Phase) → may_end p ≡ true → was_opened p ≡ false
@@ -96,63 +89,12 @@ opens_begun m (SyncClosed g) true h a shut opened = absurd (cc (shut, opened))
 opens_begun m (Acknowledge g) true h a shut opened = absurd (cc (shut, opened))
 opens_begun m (Abandon g) true h a shut opened = absurd (cc (shut, opened))
 
-begun_stays : (m : Machine) (e : Event) (ok : Bool) → IsInTurn m e → Stays (begun m e).roll (answered m e ok).roll
+pub begun_stays : (m : Machine) (e : Event) (ok : Bool) → IsInTurn m e → Stays (begun m e).roll (answered m e ok).roll
 begun_stays m e ok a h opened = elim (cases_Bool (was_opened (phase_at m.roll h))) [
   | inl was ↦ (let one = stays_answered m e ok a h was in let two = stays_begun m e a h was in (one.0, one.1 ∙ sym two.1))
   | inr shut ↦ (let same = opens_begun m e ok h a shut opened in (ap (λ (r : Roll). was_opened (phase_at r h)) same ∙ opened, ap (λ (r : Roll). group_at r h) same))
 ]
 
-stays_along : (m : Machine) (es : List Entry) → AreInTurn m es → Stays m.roll (machine_after m es).roll
+pub stays_along : (m : Machine) (es : List Entry) → AreInTurn m es → Stays m.roll (machine_after m es).roll
 stays_along m [] all = λ h o. (o, refl)
 stays_along m (e ∷ es) all = stays_then m.roll (answered m e.0 e.1).roll (machine_after (answered m e.0 e.1) es).roll (stays_answered m e.0 e.1 all.0) (stays_along (answered m e.0 e.1) es all.1)
-
--- a group of a roll whose gate was opened, just as it stands there
-pub record IsOpened (r : Roll) (x : Group) : Type 0 where
-  pub opened : was_opened (phase_at r (number x)) ≡ true
-  pub is : x ≡ group_at r (number x)
-
-stood_recovers : (opening : Map) (r end : Roll) (c : Map) → Stays r end → Stands opening r c → Recovers (IsOpened end) opening [] c
-stood_recovers opening r end c stays stands = record {
-  groups = committed r c;
-  of = λ x has.
-      let was = stands.opened x has in
-      let then = stays (number x) was.0 in
-      record { opened = then.0; is = was.1 ∙ sym then.1 };
-  has = λ n none. absurd none;
-  is = stands.recovers;
-}
-
-pub during_recovers : (opening : Map) (m : Machine) (es : List Entry) (c : Map) → AreInTurn m es → StoodDuring opening m es c → Recovers (IsOpened (machine_after m es).roll) opening [] c
-during_recovers opening m [] c all stood = stood_recovers opening m.roll m.roll c (λ h o. (o, refl)) stood
-during_recovers opening m (e ∷ es) c all (inl stood) =
-    let next = answered m e.0 e.1 in
-    stood_recovers opening (begun m e.0).roll (machine_after next es).roll c (stays_then (begun m e.0).roll next.roll (machine_after next es).roll (begun_stays m e.0 e.1 all.0) (stays_along next es all.1)) stood
-during_recovers opening m (e ∷ es) c all (inr later) = during_recovers opening (answered m e.0 e.1) es c all.1 later
-
--- ---- at the end
-
-has_number : (xs : List Group) (x : Group) → Has xs x → Has (map number xs) (number x)
-has_number [] x has = absurd has
-has_number (y ∷ ys) x (inl e) = inl (ap number e)
-has_number (y ∷ ys) x (inr has) = inr (has_number ys x has)
-
-of_number : (xs : List Group) (n : ℕ) → Has (map number xs) n → (x : Group) × Has xs x × (number x ≡ n)
-of_number [] n has = absurd has
-of_number (y ∷ ys) n (inl e) = (y, inl refl, e)
-of_number (y ∷ ys) n (inr has) = let k = of_number ys n has in (k.0, inr k.1, k.2)
-
--- each crash recovers with all groups of the history
-pub stands_recovers : (opening : Map) (r : Roll) (c : Map) → IsListed r → Stands opening r c → Recovers (IsOpened r) opening (map number r.order) c
-stands_recovers opening r c listed stands = record {
-  groups = committed r c;
-  of = λ x has. let was = stands.opened x has in record { opened = was.0; is = was.1 };
-  has = λ n there.
-      let k = of_number r.order n there in
-      let settled = listed.only k.0 k.1 in
-      let stood = stands.settled (number k.0) settled.0 in
-      subst (λ (i : ℕ). Has (map number (committed r c)) i) k.2 (has_number (committed r c) (group_at r (number k.0)) stood);
-  is = stands.recovers;
-}
-
-pub order_opened : (r : Roll) → IsListed r → AreOf (IsOpened r) r.order
-order_opened r listed x has = let is = listed.only x has in record { opened = settled_opened (phase_at r (number x)) is.0; is = is.1 }

@@ -10,30 +10,42 @@ use Rattle.merge_record.specs.Recovered.{IsRecovered}
 abbrev pub number : Group → ℕ
 number g = g.content.group
 
--- all of these groups are of a run
+-- all of these groups are of one kind
 abbrev pub AreOf : (Group → Type 0) → List Group → Type 0
 AreOf Of groups = (x : Group) → Has groups x → Of x
 
--- a map recovers to m with some groups of the run applied, those with these numbers among them
-pub record Recovers (Of : Group → Type 0) (m : Map) (among : List ℕ) (c : Map) : Type 0 where
+-- a map recovers to m with the groups of such a run applied, those with these numbers among them
+pub record RecoversWith (Run : List Group → Type 0) (m : Map) (among : List ℕ) (c : Map) :
+    Type 0 where
   pub groups : List Group
-  pub of : AreOf Of groups
+  pub of : Run groups
   pub has : (n : ℕ) → Has among n → Has (map number groups) n
   pub is : IsRecovered c (applied m groups)
 
 -- a crash leaves what recovers to m with just the groups of the history applied, in this order
-pub record LeavesHistory (Of : Group → Type 0) (m : Map) (history : List ℕ) (d : Disk) :
+pub record LeavesWith (Run : List Group → Type 0) (m : Map) (history : List ℕ) (d : Disk) :
     Type 0 where
   pub groups : List Group
-  pub of : AreOf Of groups
+  pub of : Run groups
   pub are : map number groups ≡ history
   pub each : Leaves (λ c. IsRecovered c (applied m groups)) d
 
 -- the disk reads as m with just the groups of the history applied, in this order, with nothing
 -- below the journal's folder, and a crash leaves just that
-pub record HasHistory (Of : Group → Type 0) (m : Map) (history : List ℕ) (d : Disk) : Type 0 where
+pub record ReadsWith (Run : List Group → Type 0) (m : Map) (history : List ℕ) (d : Disk) :
+    Type 0 where
   pub groups : List Group
-  pub of : AreOf Of groups
+  pub of : Run groups
   pub are : map number groups ≡ history
   pub reads : (q : List ℕ) → d.holds q ≡ applied m groups q
   pub untouched : IsUntouched d
+
+-- the same where a run is any list of groups that are all of one kind
+abbrev pub Recovers : (Group → Type 0) → Map → List ℕ → Map → Type 0
+Recovers Of = RecoversWith (AreOf Of)
+
+abbrev pub LeavesHistory : (Group → Type 0) → Map → List ℕ → Disk → Type 0
+LeavesHistory Of = LeavesWith (AreOf Of)
+
+abbrev pub HasHistory : (Group → Type 0) → Map → List ℕ → Disk → Type 0
+HasHistory Of = ReadsWith (AreOf Of)

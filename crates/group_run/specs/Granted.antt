@@ -35,8 +35,8 @@ pub record IsUnclaimed (opened book : Book) : Type 0 where
 abbrev pub IsOutside : Map → Map → Type 0
 IsOutside opening m = (q : List ℕ) → is_below jobs q ≡ false → m q ≡ opening q
 
--- the claim of a package's group is granted: its files may be placed, the book from before the run
--- takes their paths, and nothing that nobody owns was in their way
+-- the claim of a package's group is granted over a map and the owners of a book: its files may be
+-- placed, the book takes their paths, and nothing that nobody owns was in their way
 pub record MayMerge (opening : Map) (opened : Book) (groups : List SiteGroup) (files : Files)
     (g : ℕ) : Type 0 where
   pub good : AreGood (all_in files)
@@ -53,7 +53,7 @@ IsLetIn opening opened groups files g x =
     (x ≡ placing g (all_in files)) × MayMerge opening opened groups files g
 
 -- a site has staged all that a package places and wishes, which may be placed, and no other group
--- of it has begun
+-- of it is under way
 pub record HasBuilt {T S : Type 0} (files : Files) (g : ℕ) (a : Account T S) : Type 0 where
   pub placed : group_in a g ≡ placing g (all_in files)
   pub wished : wishes_at a.wishes g ≡ wishes_in files

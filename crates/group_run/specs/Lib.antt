@@ -3,5 +3,7 @@ pub mod Causes
 pub mod Granted
 pub mod Lines
 pub mod Stops
+pub mod Through
+pub mod Turns
 pub mod Went
 pub mod Working

@@ -1,5 +1,6 @@
 -- How a run of groups over a tree at rest ended.
-use Rattle.std.specs.Prelude.{◌≡◌, ℕ, List, [], IsErrOf, Result, length, map}
+use Rattle.std.specs.Prelude.{◌≡◌, ℕ, suc, List, [], IsErrOf, Result, length, map, take}
+use Rattle.basics.specs.Members.{Has}
 use Rattle.file_tree.specs.Disk.{Story}
 use Rattle.file_tree.specs.Moments.{Leaves, Since}
 use Rattle.journal.specs.Group.{Group, with_groups}
@@ -7,20 +8,24 @@ use Rattle.merge_core.specs.Core.{standing_in}
 use Rattle.merge_core.specs.Keeping.{Keeping}
 use Rattle.merge_core.specs.Roll.{resting}
 use Rattle.recovery.specs.Phases.{IsShut}
-use Rattle.group_run.specs.Applied.{AreOf, HasHistory, LeavesHistory, Recovers, number}
+use Rattle.group_run.specs.Applied.{AreOf, LeavesWith, ReadsWith, RecoversWith, number}
 use Rattle.group_run.specs.declared.stop.Stop.{Stop}
 use Rattle.group_run.specs.declared.stop.Stop.TheVariants as stops
 
--- Each crash image of each moment recovers to the tree from before with some groups of the run
+-- Each crash image of each moment recovers to the tree from before with the groups of such a run
 -- applied, and at the end all groups of the history are among these. Unless the device failed it is
 -- just these; unless memory ran out either, the tree reads so, and nothing is unsynced.
-pub record Went {A : Type 0} (Of : Group → Type 0) (old new : Story) (history : List ℕ)
+pub record WentWith {A : Type 0} (Run : List Group → Type 0) (old new : Story) (history : List ℕ)
     (end : Result A Stop) : Type 0 where
-  pub moments : Since (Recovers Of old.now.holds []) old new
-  pub crash : Leaves (Recovers Of old.now.holds history) new.now
-  pub left : ¬ IsErrOf end stops.Device → LeavesHistory Of old.now.holds history new.now
+  pub moments : Since (RecoversWith Run old.now.holds []) old new
+  pub crash : Leaves (RecoversWith Run old.now.holds history) new.now
+  pub left : ¬ IsErrOf end stops.Device → LeavesWith Run old.now.holds history new.now
   pub tree : ¬ IsErrOf end stops.Device → ¬ IsErrOf end stops.Memory →
-      HasHistory Of old.now.holds history new.now
+      ReadsWith Run old.now.holds history new.now
+
+-- the same where a run is any list of groups that are all of one kind
+abbrev pub Went : {A : Type 0} → (Group → Type 0) → Story → Story → List ℕ → Result A Stop → Type 0
+Went Of = WentWith (AreOf Of)
 
 -- the machine of so many groups, of which only this one has begun, with this history
 pub record HasRun (g n : ℕ) (history : List ℕ) (k : Keeping) : Type 0 where
@@ -28,11 +33,19 @@ pub record HasRun (g n : ℕ) (history : List ℕ) (k : Keeping) : Type 0 where
   pub count : length k.standings ≡ n
   pub alone : (h : ℕ) → ¬ (h ≡ g) → standing_in k.standings h ≡ resting
 
+-- the machine of so many groups with this history: of these it has begun only those of the history
+-- and the next one, and no other
+pub record HaveRun (gs : List ℕ) (n : ℕ) (history : List ℕ) (k : Keeping) : Type 0 where
+  pub order : history ≡ map number k.order
+  pub count : length k.standings ≡ n
+  pub rest : (h : ℕ) → ¬ Has (take (suc (length history)) gs) h →
+      standing_in k.standings h ≡ resting
+
 -- The same before the journal is cleared: unless the device failed no gate is open over the tree
 -- with just the groups of the history.
-pub record Drove {A : Type 0} (Of : Group → Type 0) (old new : Story) (history : List ℕ)
-    (end : Result A Stop) : Type 0 where
-  pub moments : Since (Recovers Of old.now.holds []) old new
-  pub crash : Leaves (Recovers Of old.now.holds history) new.now
-  pub shut : ¬ IsErrOf end stops.Device → (groups : List Group) × AreOf Of groups ×
+pub record DroveWith {A : Type 0} (Run : List Group → Type 0) (old new : Story)
+    (history : List ℕ) (end : Result A Stop) : Type 0 where
+  pub moments : Since (RecoversWith Run old.now.holds []) old new
+  pub crash : Leaves (RecoversWith Run old.now.holds history) new.now
+  pub shut : ¬ IsErrOf end stops.Device → (groups : List Group) × Run groups ×
       ((map number groups ≡ history) × IsShut (λ q. with_groups groups q (old.now.holds q)) new.now)

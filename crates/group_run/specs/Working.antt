@@ -1,5 +1,7 @@
 -- One group of a site on its way, step by step.
 use Rattle.std.specs.Prelude.{◌≡◌, ◌++◌, ℕ, Bool, true, false, List, [], ◌∷◌, length, map, ⊤}
+use Rattle.std.specs.List.{AllByRecursion}
+use Rattle.file_tree.specs.Disk.{Map}
 use Rattle.file_tree.specs.Thing.{Thing}
 use Rattle.file_tree.specs.declared.objects.Entry.{Entry}
 use Rattle.journal.specs.Group.{Group}
@@ -10,13 +12,32 @@ use Rattle.merge_core.specs.Event.{SyncClosed, SyncGate, SyncPlaced, SyncSealed,
 use Rattle.merge_core.specs.Keeping.{machine_of}
 use Rattle.merge_core.specs.Phase.{Phase, Building, Claimed, Done, Emptied, GatePut, GateTaken}
 use Rattle.merge_core.specs.Phase.{Idle, Marked, Odd, Open, Placed, Recorded, Redo, Redone, Sealed}
-use Rattle.merge_core.specs.Phase.{may_end}
-use Rattle.merge_core.specs.Roll.{Machine, Standing, group_of, idle, phase_at, resting}
+use Rattle.merge_core.specs.Phase.{is_live, may_end}
+use Rattle.merge_core.specs.Roll.{Machine, Standing, group_of, idle, phase_at, stood}
 use Rattle.merge_core.specs.Trail as trail
 use Rattle.merge_core.specs.Trail.{machine_after}
 use Rattle.group_run.specs.declared.files.Files.{Files}
+use Rattle.merge_site.specs.Booking.{wishes_at}
 use Rattle.merge_site.specs.Site.{Account}
 use Rattle.merge_site.specs.Staging.{placement_of}
+
+-- the group of an event
+abbrev pub group_of_event : Event → ℕ
+group_of_event (Begin g) = g
+group_of_event (PutStage g p o) = g
+group_of_event (PutRecord g removals) = g
+group_of_event (PutToken g) = g
+group_of_event (SyncSealed g) = g
+group_of_event (Claim g) = g
+group_of_event (OpenGate g) = g
+group_of_event (SyncGate g) = g
+group_of_event (PlacePath g) = g
+group_of_event (RemovePath g) = g
+group_of_event (SyncPlaced g) = g
+group_of_event (CloseGate g) = g
+group_of_event (SyncClosed g) = g
+group_of_event (Acknowledge g) = g
+group_of_event (Abandon g) = g
 
 -- the group of the event stands at the phase that the event asks for
 abbrev pub IsInTurn : Machine → Event → Type 0
@@ -46,19 +67,46 @@ pub record IsRun {T S : Type 0} (a : Account T S) : Type 0 where
   pub leads : machine_after idle a.events ≡ machine_of a.keeping
   pub turns : AreInTurn idle a.events
 
+-- a group in this phase takes no more stages
+abbrev pub is_staged : Phase → Bool
+is_staged Idle = false
+is_staged Building = false
+is_staged p = true
+
 -- how far a group of a site has come
 abbrev pub standing_at : {T S : Type 0} → Account T S → ℕ → Standing
 standing_at a g = standing_in a.keeping.standings g
 
--- no other group of the site has begun
+-- no other group of the site is under way from its claim until its closed gate is durable
 abbrev pub IsAlone : {T S : Type 0} → ℕ → Account T S → Type 0
-IsAlone g a = (h : ℕ) → ¬ (h ≡ g) → standing_at a h ≡ resting
+IsAlone g a = (h : ℕ) → ¬ (h ≡ g) → is_live (standing_at a h).phase ≡ false
 
--- a stretch of events of one group
+-- the map with the groups of a site that are in the tree for good
+abbrev pub stood_at : {T S : Type 0} → Map → Account T S → Map
+stood_at opening a = stood opening (machine_of a.keeping).roll
+
+-- events of one group, each in its turn, led from one machine to the other
+pub record Stretch (g : ℕ) (old : Machine) (es : List trail.Entry) (new : Machine) : Type 0 where
+  pub mine : AllByRecursion (λ e. group_of_event e.0 ≡ g) es
+  pub turns : AreInTurn old es
+  pub leads : machine_after old es ≡ new
+
+-- no other group wishes anything new, nor does this one once its record is put
+pub record KeepsWishes {T S : Type 0} (g : ℕ) (old new : Account T S) : Type 0 where
+  pub rows : length new.wishes ≡ length old.wishes
+  pub others : (h : ℕ) → ¬ (h ≡ g) → wishes_at new.wishes h ≡ wishes_at old.wishes h
+  pub mine : is_staged (standing_at old g).phase ≡ true →
+      (is_staged (standing_at new g).phase ≡ true) ×
+      (wishes_at new.wishes g ≡ wishes_at old.wishes g)
+
+-- a stretch of events of one group of a site
 pub record Works {T S : Type 0} (g : ℕ) (old new : Account T S) : Type 0 where
-  pub run : IsRun old → IsRun new
-  pub others : (h : ℕ) → (¬ (h ≡ g)) → standing_at new h ≡ standing_at old h
+  pub events : List trail.Entry
+  pub adds : new.events ≡ old.events ++ events
+  pub stretch : Stretch g (machine_of old.keeping) events (machine_of new.keeping)
+  pub others : (h : ℕ) → ¬ (h ≡ g) → standing_at new h ≡ standing_at old h
   pub count : length new.keeping.standings ≡ length old.keeping.standings
+  pub wishes : KeepsWishes g old new
   pub groups : new.groups ≡ old.groups
   pub opened_book : new.opened_book ≡ old.opened_book
   pub opened : new.opened ≡ old.opened

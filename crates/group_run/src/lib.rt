@@ -1,21 +1,26 @@
-//! A group merged into a tree at rest through a site, from its beginning to the cleared journal.
+//! Groups merged one after another into a tree at rest through one site, from the beginning of the
+//! first to the cleared journal; and one group, as the run of just that.
 //!
 //! **A contract sees** the tree as its story, the groups that a crash leaves and the tree holds
-//! (`Went`), the sink as the bytes that it took, and the machine as its standings and its order.
+//! (`WentWith`, and `Went` of one group), the sink as the bytes that it took, and the machine as its
+//! standings and its order.
 //!
-//! **Proved**: each crash image of each moment recovers to the tree from before with some groups of
-//! the run applied, at the end all of the history among them; unless the device failed just these;
-//! unless memory ran out either, the tree reads so, with no journal and nothing unsynced. A group
-//! is applied only where the book from before the run takes its claim, and where nothing that
-//! nobody owns was in its way (`IsLetIn`). The history is the machine's order, whatever failed, and
-//! no other group of the machine has begun. What was written is the line of a group that was
-//! acknowledged, or some beginning of it. A run that a file, a limit or the claim stopped has its
-//! cause (`HasCause`); only want of memory comes without one.
+//! **Proved**: each crash image of each moment recovers to the tree from before with the first
+//! groups of the run applied, in their order, at the end all of the history among them; unless the
+//! device failed just these; unless memory ran out either, the tree reads so, with no journal and
+//! nothing unsynced. A group is applied only where its claim is granted over what those before it
+//! left (`AreLetIn`): a book that has the owners from before the run, and these groups' paths as
+//! their own, takes its paths, and nothing that nobody owns was in its way in the tree with them.
+//! The history is the machine's order, whatever failed. The first group that is stopped ends the
+//! run: no later one has begun. The acknowledged groups are the first of the history; what was
+//! written is their lines, and then some beginning of the next one's. A run that a file, a limit or
+//! a claim stopped has its cause, over what the groups of the history left (`StopsBehind`); only
+//! want of memory comes without one.
 //!
 //! **Only tested**: with ample memory a group is merged, or refused for its first collision.
 //!
 //! ```
-//! let merged = merge_group(alloc, tree, sink, task);
+//! let merged = merge_groups(alloc, tree, sink, batch);
 //! ```
 #![tactic(auto)]
 
@@ -30,7 +35,9 @@ mod sealing;
 mod staging;
 mod stop;
 mod telling;
+mod turn;
 
 pub use files::Files;
-pub use run::{Merged, Task, merge_group};
+pub use run::{Batch, Merged, Task, merge_group, merge_groups};
 pub use stop::Stop;
+pub use turn::Turn;

@@ -8,9 +8,9 @@ ghost use Rattle.merge_core.specs.declared.phase.Phase.TheVariants as phases;
 ghost use Rattle.merge_core.specs.declared.step.Step.TheVariants as steps;
 ghost use Rattle.merge_site.specs.Booking.{wishes_at};
 ghost use Rattle.group_run.specs.Causes.{StopsRun};
-ghost use Rattle.group_run.specs.Granted.{IsLetIn};
+ghost use Rattle.group_run.specs.Granted.{MayMerge, wishes_in};
 ghost use Rattle.group_run.specs.Working.{IsAlone, Works, all_in, group_in, is_shut, placing};
-ghost use Rattle.group_run.specs.Working.{standing_at};
+ghost use Rattle.group_run.specs.Working.{standing_at, stood_at};
 
 use crate::claiming::claim;
 use crate::files::Files;
@@ -40,19 +40,23 @@ pub(crate) fn build<T: Tree, S: Sink>(
     ensures shut { is_shut (standing_at site.new group).phase ≡ true }
     ensures unopened { was_opened (standing_at site.new group).phase ≡ false }
     ensures quiet { IfErr result (λ e. ¬ (e ≡ Stop.Output)) }
+    ensures wishes { OnOk result (wishes_at site.new.wishes group ≡ wishes_in files) }
     ensures let_in { IsTrue T.tells → OnOk result
-        (IsLetIn (T.story site.old.opened).now.holds site.old.opened_book site.old.groups files
-        group (group_in site.new group)) }
-    ensures cause { IfErr result (StopsRun T.tells (T.story site.old.opened).now.holds
-        site.old.opened_book site.old.groups files group) }
+        (MayMerge (stood_at (T.story site.old.opened).now.holds site.old) site.old.book
+        site.old.groups files group) }
+    ensures cause { IfErr result (StopsRun T.tells
+        (stood_at (T.story site.old.opened).now.holds site.old) site.old.book site.old.groups
+        files group) }
     ensures sink { site.new.sink ≡ site.old.sink }
     ensures faults { CountsFault (IsErrOf result Stop.Device) (T.faults site.old.tree)
         (T.faults site.new.tree) }
 {
+    site.promise();
     begin(site, group);
     stage_files(site, group, files)?;
     record(alloc, site, group)?;
     mark(site, group)?;
+    site.promise();
     claim(site, group)
 }
 

@@ -1,28 +1,45 @@
-ghost use Rattle.std.specs.Prelude.{◌≡◌, ◌⊎◌, ◌∷◌, ◌<◌, ◌^◌, [], ℕ, true, length};
-ghost use Rattle.std.specs.Prelude.{IfErr, IsErrOf, IsTrue, MatchOption, OnErr, OnOk};
+ghost use Rattle.std.specs.Prelude.{◌≡◌, ◌⊎◌, ◌∷◌, ◌+◌, ◌<◌, ◌≤◌, ◌^◌, [], ℕ, true, length};
+ghost use Rattle.std.specs.Prelude.{IfErr, IfOk, IsErrOf, IsTrue, MatchOption, OnErr, OnOk};
 ghost use Rattle.std.specs.Prelude.{vec_capacity, vec_len};
+ghost use Rattle.basics.specs.Members.{AreDistinct, Has};
 ghost use Rattle.file_tree.specs.Disk.{CountsFault};
 ghost use Rattle.merge_core.specs.Trail.{IsAtRest};
 ghost use Rattle.group_run.specs.Causes.{HasCause, IsOfGroup};
 ghost use Rattle.group_run.specs.Granted.{IsLetIn};
-ghost use Rattle.group_run.specs.Lines.{AreLines, Wrote, line_in};
-ghost use Rattle.group_run.specs.Went.{HasRun, Went};
+ghost use Rattle.group_run.specs.Lines.{AreLines, IsBeginning, Wrote, line_in};
+ghost use Rattle.group_run.specs.Turns.{AreFirst, HaveCause, numbers};
+ghost use Rattle.group_run.specs.Went.{HasRun, HaveRun, Went, WentWith};
+ghost use Rattle.group_run.specs.declared.turn.Turn.{Turn};
 
 use crate::clearing::clear;
 use crate::files::Files;
 use crate::running::drive;
 use crate::stop::Stop;
+use crate::turn::Turn;
 use file_tree::{Sink, Tree};
 use merge_core::Core;
 use merge_site::{Site, SiteGroup};
 use owner_book::OwnerBook;
-use std::alloc::Global;
+use std::alloc::{AllocError, Global};
 
 /// A group that is to be merged, and what its run takes, made before the first change of the tree.
 #[derive(Drop)]
 pub struct Task {
     pub group: u32,
     pub files: Files,
+    /// Who owns what; nothing is claimed.
+    pub book: OwnerBook,
+    /// What the site is opened for.
+    pub groups: Vec<SiteGroup>,
+    pub history: Vec<u32>,
+    pub acknowledged: Vec<u32>,
+}
+
+/// Groups that are to be merged in this order, and what their run takes, made before the first
+/// change of the tree.
+#[derive(Drop)]
+pub struct Batch {
+    pub turns: Vec<Turn>,
     /// Who owns what; nothing is claimed.
     pub book: OwnerBook,
     /// What the site is opened for.
@@ -43,6 +60,72 @@ pub struct Merged<T, S> {
     pub history: Vec<u32>,
     /// The groups whose line was written, in order.
     pub acknowledged: Vec<u32>,
+}
+
+/// Merges groups one after another into a tree at rest through one site, writes the line of each, and
+/// clears the journal. The first that is stopped ends the run: no later one begins.
+pub fn merge_groups<T: Tree, S: Sink>(alloc: Global, tree: T, sink: S, batch: Batch) -> Merged<T, S>
+    requires rest { IsTrue T.tells → IsAtRest (T.story tree).now.holds (T.story tree).now }
+    requires small { length batch.groups.items < 2 ^ 32 }
+    requires there { (t : Turn) → Has batch.turns.items t → t.group < length batch.groups.items }
+    requires once { AreDistinct (numbers batch.turns.items) }
+    requires unclaimed { batch.book.claims ≡ [] }
+    requires none { batch.history.items ≡ [] }
+    requires untold { batch.acknowledged.items ≡ [] }
+    requires room { vec_len batch.history + length batch.turns.items ≤
+        vec_capacity batch.history }
+    requires more { vec_len batch.acknowledged + length batch.turns.items ≤
+        vec_capacity batch.acknowledged }
+    ensures went { IsTrue T.tells → WentWith (AreFirst (T.story tree).now.holds batch.book
+        batch.groups.items batch.turns.items)
+        (T.story tree) (T.story result.tree) result.history.items result.end }
+    ensures machine { MatchOption result.machine (result.history.items ≡ [])
+        (HaveRun (numbers batch.turns.items) (length batch.groups.items) result.history.items) }
+    ensures first { IsBeginning (numbers batch.turns.items) result.history.items }
+    ensures kept { IsBeginning result.history.items result.acknowledged.items }
+    ensures merged { OnOk result.end (result.history.items ≡ numbers batch.turns.items) }
+    ensures told { OnOk result.end (result.acknowledged.items ≡ numbers batch.turns.items) }
+    ensures written { IsTrue S.tells → Wrote
+        (AreLines (line_in batch.groups.items) result.history.items result.acknowledged.items)
+        (S.written sink) (S.written result.sink) }
+    ensures cause { IfErr result.end (HaveCause T.tells (T.story tree).now.holds batch.book
+        batch.groups.items batch.turns.items (length result.history.items) result.machine) }
+    ensures device { CountsFault (IsErrOf result.end Stop.Device) (T.faults tree)
+        (T.faults result.tree) }
+    ensures output { CountsFault (IsErrOf result.end Stop.Output) (S.faults sink)
+        (S.faults result.sink) }
+{
+    let Batch {
+        turns,
+        book,
+        groups,
+        mut history,
+        mut acknowledged,
+    } = batch;
+    let mut site = match Site::open(alloc, tree, sink, book, groups) {
+        Ok(site) => site,
+        Err((_, tree, sink)) => {
+            return Merged {
+                tree,
+                sink,
+                machine: None,
+                end: Err(Stop::Memory),
+                history,
+                acknowledged,
+            };
+        }
+    };
+    let end = drive(alloc, &mut site, turns, &mut history, &mut acknowledged);
+    let (mut tree, sink, machine) = site.into_parts();
+    let end = clear(alloc, &mut tree, end);
+    Merged {
+        tree,
+        sink,
+        machine: Some(machine),
+        end,
+        history,
+        acknowledged,
+    }
 }
 
 /// Merges a group into a tree at rest through a site, writes its line, and clears the journal.
@@ -81,38 +164,35 @@ pub fn merge_group<T: Tree, S: Sink>(alloc: Global, tree: T, sink: S, task: Task
         files,
         book,
         groups,
-        mut history,
-        mut acknowledged,
+        history,
+        acknowledged,
     } = task;
-    let mut site = match Site::open(alloc, tree, sink, book, groups) {
-        Ok(site) => site,
-        Err((_, tree, sink)) => {
-            return Merged {
-                tree,
-                sink,
-                machine: None,
-                end: Err(Stop::Memory),
+    match only_turn(alloc, group, files) {
+        Ok(turns) => {
+            let batch = Batch {
+                turns,
+                book,
+                groups,
                 history,
                 acknowledged,
             };
+            merge_groups(alloc, tree, sink, batch)
         }
-    };
-    let end = drive(
-        alloc,
-        &mut site,
-        group,
-        files,
-        &mut history,
-        &mut acknowledged,
-    );
-    let (mut tree, sink, machine) = site.into_parts();
-    let end = clear(alloc, &mut tree, end);
-    Merged {
-        tree,
-        sink,
-        machine: Some(machine),
-        end,
-        history,
-        acknowledged,
+        Err(_) => Merged {
+            tree,
+            sink,
+            machine: None,
+            end: Err(Stop::Memory),
+            history,
+            acknowledged,
+        },
     }
+}
+
+fn only_turn(alloc: Global, group: u32, files: Files) -> Result<Vec<Turn>, AllocError>
+    ensures { IfOk result (λ v. v.items ≡ (record { group = group; files = files }) ∷ []) }
+{
+    let mut turns = Vec::with_capacity(alloc, 1)?;
+    turns.push(Turn { group, files })?;
+    Ok(turns)
 }

@@ -1,9 +1,10 @@
-ghost use Rattle.std.specs.Prelude.{◌≡◌, ◌++◌, ◌∷◌, ◌<◌, [], ℕ, true, length, take};
-ghost use Rattle.std.specs.Prelude.{IfErr, IsErrOf, IsTrue, OnOk, vec_capacity, vec_len};
+ghost use Rattle.std.specs.Prelude.{◌≡◌, ◌++◌, ◌∷◌, ◌<◌, [], ℕ, suc, true, length, take};
+ghost use Rattle.std.specs.Prelude.{IfErr, IsErrOf, IsTrue, OnOk};
 ghost use Rattle.file_tree.specs.Disk.{CountsFault};
 ghost use Rattle.merge_core.specs.Payloads.{IsAt};
 ghost use Rattle.merge_core.specs.declared.phase.Phase.TheVariants as phases;
-ghost use Rattle.group_run.specs.Lines.{AreLines, Wrote, line_in};
+ghost use Rattle.group_run.specs.Lines.{line_in};
+ghost use Rattle.group_run.specs.Through.{HasRoom};
 ghost use Rattle.group_run.specs.Working.{Works, group_in, is_shut, standing_at};
 
 use crate::stop::Stop;
@@ -12,8 +13,9 @@ use merge_site::Site;
 
 /// Puts a number behind a list that has the room.
 pub(crate) fn add(list: &mut Vec<u32>, number: u32)
-    requires { vec_len list.old < vec_capacity list.old }
-    ensures { list.new.items ≡ list.old.items ++ number ∷ [] }
+    requires room { HasRoom 1 list.old }
+    ensures items { list.new.items ≡ list.old.items ++ number ∷ [] }
+    ensures left { (n : ℕ) → HasRoom (suc n) list.old → HasRoom n list.new }
 {
     list.push(number).unwrap();
 }
@@ -25,6 +27,7 @@ pub(crate) fn tell<T: Tree, S: Sink>(site: &mut Site<T, S>, group: u32) -> Resul
     ensures works { Works group site.old site.new }
     ensures order { site.new.keeping.order ≡ site.old.keeping.order }
     ensures group { group_in site.new group ≡ group_in site.old group }
+    ensures at { OnOk result (IsAt site.new.keeping group phases.Told) }
     ensures shut { is_shut (standing_at site.new group).phase ≡ true }
     ensures written { IsTrue S.tells → OnOk result (S.written site.new.sink ≡
         S.written site.old.sink ++ line_in site.old.groups group) }

@@ -1,14 +1,16 @@
 use Rattle.std.proofs.Common.{◌<◌, ◌∙◌, ap, length, subst, sym}
-use Rattle.merge_site.specs.Booking.{wishes_at}
-use Rattle.std.specs.Prelude.{IfErr, OnOk}
+use Rattle.merge_core.specs.Phase.{is_live}
+use Rattle.merge_core.specs.Roll.{Standing}
+use Rattle.merge_site.specs.Booking.{is_over, wishes_at}
 use Rattle.group_run.specs.Causes.{StopsRun}
-use Rattle.group_run.specs.Granted.{MayMerge}
-use Rattle.group_run.specs.Working.{all_in}
+use Rattle.group_run.specs.Working.{all_in, is_staged, stood_at}
+use Rattle.group_run.proofs.Granted.{may_before, stops_before}
+use Rattle.group_run.proofs.Settling.{owners_same}
 use Rattle.group_run.proofs.Rest.{ends_shut, ok_if}
 use Rattle.group_run.proofs.Went.{not_opened}
 use Rattle.group_run.proofs.Worked.{works_then}
 use Rattle.std.proofs.lemmas.Result.{err_from_is_err_and, on_ok_weaker}
-use Rattle.group_run.proofs.Caused.{plain_cause, record_cause, staged_cause, works_back}
+use Rattle.group_run.proofs.Caused.{err_weaker, plain_cause, record_cause, staged_cause}
 use Rattle.group_run.proofs.merging.build.Goals as goal
 
 pub returns-in_err-stage_files-clause-works : goal.returns-in_err-stage_files-clause-works
@@ -54,17 +56,26 @@ returns-in_err-mark-clause-shut g c = ends_shut _ c.mark.ensures.early
 pub returns-in_err-mark-clause-unopened : goal.returns-in_err-mark-clause-unopened
 returns-in_err-mark-clause-unopened g c = not_opened _ c.mark.ensures.early
 
+pub returns-clause-wishes : goal.returns-clause-wishes
+returns-clause-wishes g c =
+    ok_if c.claim.result ((c.claim.ensures.works.wishes.mine (ap is_staged c.in_ok-mark.ensures.at.phase)).1
+    ∙ (ap (λ l. wishes_at l c.args.group) (c.in_ok-mark.ensures.wishes ∙ c.in_ok-record.ensures.wishes) ∙ c.in_ok-stage_files.ensures.wishes))
+
 pub returns-clause-cause : goal.returns-clause-cause
 returns-clause-cause g c =
     let one = works_then c.args.group c.args.site.now c.begin.new.site c.stage_files.new.site c.begin.ensures.works c.stage_files.ensures.works in
     let two = works_then c.args.group c.args.site.now c.stage_files.new.site c.record.new.site one c.record.ensures.works in
     let three = works_then c.args.group c.args.site.now c.record.new.site c.mark.new.site two c.mark.ensures.works in
-    works_back c.args.group c.args.site.now c.mark.new.site (λ o b xs. IfErr c.claim.result (StopsRun g.T.Tree.tells (g.T.Tree.story o).now.holds b xs c.args.files c.args.group)) three
+    let order = c.mark.ensures.order ∙ (c.record.ensures.order ∙ (c.stage_files.ensures.order ∙ c.begin.ensures.order)) in
+    let owners = owners_same c.args.group c.args.site.now c.mark.new.site three c.promise.ensures.booked c.promise-2.ensures.booked (ap is_over c.requires.taken.phase) (ap is_over c.in_ok-mark.ensures.at.phase) in
+    err_weaker (StopsRun g.T.Tree.tells (stood_at (g.T.Tree.story c.mark.new.site.opened).now.holds c.mark.new.site) c.mark.new.site.book c.mark.new.site.groups c.args.files c.args.group)
+    (StopsRun g.T.Tree.tells (stood_at (g.T.Tree.story c.args.site.now.opened).now.holds c.args.site.now) c.args.site.now.book c.args.site.now.groups c.args.files c.args.group)
+    (λ e h. stops_before g.T.Tree.tells (λ o. (g.T.Tree.story o).now.holds) c.args.group c.args.site.now c.mark.new.site c.args.files e three order owners h) c.claim.result
     (c.claim.ensures.cause c.args.files (record {
       placed = c.mark.ensures.group ∙ c.in_ok-record.ensures.group (all_in c.args.files) c.in_ok-stage_files.ensures.staged;
       wished = ap (λ l. wishes_at l c.args.group) (c.in_ok-mark.ensures.wishes ∙ c.in_ok-record.ensures.wishes) ∙ c.in_ok-stage_files.ensures.wishes;
       good = c.in_ok-stage_files.ensures.good;
-      alone = λ h other. three.others h other ∙ c.requires.alone h other;
+      alone = λ h other. ap (λ (s : Standing). is_live s.phase) (three.others h other) ∙ c.requires.alone h other;
     }))
 
 pub returns-clause-let_in : goal.returns-clause-let_in
@@ -72,15 +83,15 @@ returns-clause-let_in g c t =
     let one = works_then c.args.group c.args.site.now c.begin.new.site c.stage_files.new.site c.begin.ensures.works c.stage_files.ensures.works in
     let two = works_then c.args.group c.args.site.now c.stage_files.new.site c.record.new.site one c.record.ensures.works in
     let three = works_then c.args.group c.args.site.now c.record.new.site c.mark.new.site two c.mark.ensures.works in
-    let placed = c.mark.ensures.group ∙ c.in_ok-record.ensures.group (all_in c.args.files) c.in_ok-stage_files.ensures.staged in
-    on_ok_weaker c.claim.result (λ may. (c.claim.ensures.group ∙ placed, may))
-    (works_back c.args.group c.args.site.now c.mark.new.site (λ o b xs. OnOk c.claim.result (MayMerge (g.T.Tree.story o).now.holds b xs c.args.files c.args.group)) three
+    let order = c.mark.ensures.order ∙ (c.record.ensures.order ∙ (c.stage_files.ensures.order ∙ c.begin.ensures.order)) in
+    let owners = owners_same c.args.group c.args.site.now c.mark.new.site three c.promise.ensures.booked c.promise-2.ensures.booked (ap is_over c.requires.taken.phase) (ap is_over c.in_ok-mark.ensures.at.phase) in
+    on_ok_weaker c.claim.result (λ may. may_before (λ o. (g.T.Tree.story o).now.holds) c.args.group c.args.site.now c.mark.new.site c.args.files three order owners may)
     (c.claim.ensures.granted c.args.files (record {
-      placed = placed;
+      placed = c.mark.ensures.group ∙ c.in_ok-record.ensures.group (all_in c.args.files) c.in_ok-stage_files.ensures.staged;
       wished = ap (λ l. wishes_at l c.args.group) (c.in_ok-mark.ensures.wishes ∙ c.in_ok-record.ensures.wishes) ∙ c.in_ok-stage_files.ensures.wishes;
       good = c.in_ok-stage_files.ensures.good;
-      alone = λ h other. three.others h other ∙ c.requires.alone h other;
-    }) t))
+      alone = λ h other. ap (λ (s : Standing). is_live s.phase) (three.others h other) ∙ c.requires.alone h other;
+    }) t)
 
 pub stage_files-requires-clause-row : goal.stage_files-requires-clause-row
 stage_files-requires-clause-row g c = subst (λ l. c.args.group < length l) (sym c.begin.ensures.wishes) c.requires.row
@@ -91,15 +102,15 @@ stage_files-requires-clause-unwished g c = ap (λ l. wishes_at l c.args.group) c
 pub returns-in_err-stage_files-clause-cause : goal.returns-in_err-stage_files-clause-cause
 returns-in_err-stage_files-clause-cause g c =
     let p = err_from_is_err_and c.from_residual.result c.from_residual.ensures.1 in
-    rw (p.1, p.2) (staged_cause g.T.Tree.tells (g.T.Tree.story c.args.site.now.opened).now.holds c.args.site.now.opened_book c.args.site.now.groups c.args.files c.args.group _ c.in_err-stage_files.ensures.cause)
+    rw (p.1, p.2) (staged_cause g.T.Tree.tells (stood_at (g.T.Tree.story c.args.site.now.opened).now.holds c.args.site.now) c.args.site.now.book c.args.site.now.groups c.args.files c.args.group _ c.in_err-stage_files.ensures.cause)
 
 pub returns-in_err-record-clause-cause : goal.returns-in_err-record-clause-cause
 returns-in_err-record-clause-cause g c =
     let p = err_from_is_err_and c.from_residual-in_err-record.result c.from_residual-in_err-record.ensures.1 in
-    rw (p.1, p.2) (record_cause g.T.Tree.tells (g.T.Tree.story c.args.site.now.opened).now.holds c.args.site.now.opened_book c.args.site.now.groups c.args.files c.args.group _
+    rw (p.1, p.2) (record_cause g.T.Tree.tells (stood_at (g.T.Tree.story c.args.site.now.opened).now.holds c.args.site.now) c.args.site.now.book c.args.site.now.groups c.args.files c.args.group _
     (c.in_err-record.ensures.cause (all_in c.args.files) c.in_ok-stage_files.ensures.staged))
 
 pub returns-in_err-mark-clause-cause : goal.returns-in_err-mark-clause-cause
 returns-in_err-mark-clause-cause g c =
     let p = err_from_is_err_and c.from_residual-in_err-mark.result c.from_residual-in_err-mark.ensures.1 in
-    rw (p.1, p.2) (plain_cause g.T.Tree.tells (g.T.Tree.story c.args.site.now.opened).now.holds c.args.site.now.opened_book c.args.site.now.groups c.args.files c.args.group _ c.in_err-mark.ensures.plain)
+    rw (p.1, p.2) (plain_cause g.T.Tree.tells (stood_at (g.T.Tree.story c.args.site.now.opened).now.holds c.args.site.now) c.args.site.now.book c.args.site.now.groups c.args.files c.args.group _ c.in_err-mark.ensures.plain)

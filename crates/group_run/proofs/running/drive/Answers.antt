@@ -1,41 +1,35 @@
-use Rattle.std.proofs.Common.{◌≡◌, ◌∙◌, ap, map, sym, subst, true}
+use Rattle.std.proofs.Common.{◌∙◌, length, sym}
 use Rattle.std.specs.Prelude.{IfErr}
-use Rattle.merge_core.specs.Phase.{was_opened}
-use Rattle.group_run.specs.Applied.{number}
-use Rattle.group_run.specs.Causes.{StopsRun}
-use Rattle.group_run.specs.Granted.{IsLetIn}
-use Rattle.group_run.specs.Working.{group_in, standing_at}
-use Rattle.group_run.proofs.Drove.{drove, fresh_alone, fresh_if, fresh_order, fresh_taken}
+use Rattle.group_run.specs.Turns.{AreFirst, StopsBehind}
+use Rattle.group_run.specs.Went.{DroveWith}
+use Rattle.group_run.proofs.Drove.{drove, opened_count, said_before, through_none}
 use Rattle.group_run.proofs.running.drive.Goals as goal
 
-pub merge_and_tell-end-requires-clause-taken : goal.merge_and_tell-end-requires-clause-taken
-merge_and_tell-end-requires-clause-taken g c = fresh_taken c.args.site.now c.args.group (fresh_if c.args.site.now c.requires.events c.promise.ensures.leads) c.requires.here
+pub merge_all-end-requires-clause-begun : goal.merge_all-end-requires-clause-begun
+merge_all-end-requires-clause-begun g c = through_none g.T.Tree.tells (g.T.Tree.story c.args.site.now.opened).now.holds c.args.site.now c.args.site.now.opened_book c.args.site.now.groups c.requires.opened c.promise.ensures.leads
 
-pub merge_and_tell-end-requires-clause-alone : goal.merge_and_tell-end-requires-clause-alone
-merge_and_tell-end-requires-clause-alone g c = fresh_alone c.args.site.now c.args.group (fresh_if c.args.site.now c.requires.events c.promise.ensures.leads)
-
-pub merge_and_tell-end-requires-clause-history : goal.merge_and_tell-end-requires-clause-history
-merge_and_tell-end-requires-clause-history g c = c.requires.none ∙ ap (map number) (sym (fresh_order c.args.site.now (fresh_if c.args.site.now c.requires.events c.promise.ensures.leads)))
+pub merge_all-end-requires-clause-count : goal.merge_all-end-requires-clause-count
+merge_all-end-requires-clause-count g c = sym (opened_count c.args.site.now c.args.site.now.opened_book c.args.site.now.groups c.requires.opened)
 
 pub returns-clause-drove : goal.returns-clause-drove
 returns-clause-drove g c t =
     let a = c.args.site.now in
-    let b = c.merge_and_tell-end.new.site in
-    let e = c.merge_and_tell-end.ensures in
+    let b = c.merge_all-end.new.site in
+    let e = c.merge_all-end.ensures in
     let p = c.promise-2.ensures in
-    let files = c.args.files in
-    let group = c.args.group in
-    let let_in = subst (λ x. was_opened (standing_at b group).phase ≡ true → IsLetIn (g.T.Tree.story x).now.holds a.opened_book a.groups files group (group_in b group)) c.requires.opened (e.let_in t) in
-    drove a b group (IsLetIn (g.T.Tree.story a.tree).now.holds a.opened_book a.groups files group) (g.T.Tree.story a.tree) (g.T.Tree.story b.opened) (g.T.Tree.story b.tree) c.merge_and_tell-end.new.history.items c.merge_and_tell-end.result
-    (fresh_if a c.requires.events c.promise.ensures.leads) e.works (ap g.T.Tree.story (e.works.opened ∙ c.requires.opened)) let_in e.shut e.history (p.held t) (p.stands t) (p.moments t)
+    let turns = c.args.turns.items in
+    let history = c.merge_all-end.new.history.items in
+    let end = c.merge_all-end.result in
+    said_before a b (λ o k l. DroveWith (AreFirst (g.T.Tree.story o).now.holds k l turns) (g.T.Tree.story o) (g.T.Tree.story b.tree) history end) e.same c.requires.opened.opened
+    (drove g.T.Tree.tells turns b (g.T.Tree.story b.opened) (g.T.Tree.story b.tree) history end t e.ended e.history (p.held t) (p.stands t) (p.moments t))
 
 pub returns-clause-cause : goal.returns-clause-cause
 returns-clause-cause g c =
-    let a = c.args.site.now in
-    subst (λ x. IfErr c.merge_and_tell-end.result (StopsRun g.T.Tree.tells (g.T.Tree.story x).now.holds a.opened_book a.groups c.args.files c.args.group)) c.requires.opened c.merge_and_tell-end.ensures.cause
+    let n = length c.merge_all-end.new.history.items in
+    said_before c.args.site.now c.merge_all-end.new.site (λ o k l. IfErr c.merge_all-end.result (StopsBehind g.T.Tree.tells (g.T.Tree.story o).now.holds k l c.args.turns.items n)) c.merge_all-end.ensures.same c.requires.opened.opened
+    c.merge_all-end.ensures.cause
 
 pub returns-clause-machine : goal.returns-clause-machine
 returns-clause-machine g c =
-    let e = c.merge_and_tell-end.ensures in
-    let fresh = fresh_if c.args.site.now c.requires.events c.promise.ensures.leads in
-    record { order = e.history; count = e.works.count; alone = λ h other. e.works.others h other ∙ fresh_alone c.args.site.now c.args.group fresh h other }
+    let e = c.merge_all-end.ensures in
+    record { order = e.history; count = e.same.count ∙ opened_count c.args.site.now c.args.site.now.opened_book c.args.site.now.groups c.requires.opened; rest = e.rest }

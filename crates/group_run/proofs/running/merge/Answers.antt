@@ -3,8 +3,8 @@ use Rattle.std.proofs.lemmas.List.{map-append}
 use Rattle.journal.specs.Group.{Group}
 use Rattle.std.proofs.lemmas.Result.{err_from_is_err_and}
 use Rattle.group_run.specs.Applied.{number}
-use Rattle.group_run.specs.Working.{group_in}
-use Rattle.group_run.proofs.Rest.{done_shut}
+use Rattle.group_run.specs.Working.{group_in, is_staged, stood_at}
+use Rattle.group_run.proofs.Rest.{done_shut, ok_if}
 use Rattle.group_run.proofs.Worked.{works_then}
 use Rattle.group_run.specs.Causes.{StopsRun}
 use Rattle.group_run.specs.declared.stop.Stop.TheVariants as stops
@@ -25,14 +25,14 @@ returns-clause-works g c =
     works_then c.args.group c.args.site.now c.commit.new.site c.close.new.site (works_then c.args.group c.args.site.now c.build.new.site c.commit.new.site c.build.ensures.works c.commit.ensures.works) c.close.ensures.works
 
 pub returns-in_err-commit-clause-let_in : goal.returns-in_err-commit-clause-let_in
-returns-in_err-commit-clause-let_in g c t opened = (c.commit.ensures.group ∙ c.in_ok-build.ensures.group, (c.in_ok-build.ensures.let_in t).1)
+returns-in_err-commit-clause-let_in g c t opened = (c.commit.ensures.group ∙ c.in_ok-build.ensures.group, c.in_ok-build.ensures.let_in t)
 
 pub returns-clause-let_in : goal.returns-clause-let_in
-returns-clause-let_in g c t opened = (c.close.ensures.group ∙ (c.commit.ensures.group ∙ c.in_ok-build.ensures.group), (c.in_ok-build.ensures.let_in t).1)
+returns-clause-let_in g c t opened = (c.close.ensures.group ∙ (c.commit.ensures.group ∙ c.in_ok-build.ensures.group), c.in_ok-build.ensures.let_in t)
 
 pub returns-clause-history : goal.returns-clause-history
 returns-clause-history g c =
-    c.add.ensures ∙ (ap (λ l. l ++ c.args.group ∷ []) (c.requires.history ∙ ap (map number) (sym c.build.ensures.order))
+    c.add.ensures.items ∙ (ap (λ l. l ++ c.args.group ∷ []) (c.requires.history ∙ ap (map number) (sym c.build.ensures.order))
     ∙ (sym (map-append number c.build.new.site.keeping.order (group_in c.build.new.site c.args.group ∷ [])) ∙ ap (map number) (sym (c.close.ensures.order ∙ c.in_ok-commit.ensures.settled))))
 
 pub returns-clause-shut : goal.returns-clause-shut
@@ -45,4 +45,13 @@ returns-in_err-commit-clause-cause g c =
 
 pub returns-clause-cause : goal.returns-clause-cause
 returns-clause-cause g c =
-    only_err (StopsRun g.T.Tree.tells (g.T.Tree.story c.args.site.now.opened).now.holds c.args.site.now.opened_book c.args.site.now.groups c.args.files c.args.group) stops.Device tt c.close.result c.close.ensures.only
+    only_err (StopsRun g.T.Tree.tells (stood_at (g.T.Tree.story c.args.site.now.opened).now.holds c.args.site.now) c.args.site.now.book c.args.site.now.groups c.args.files c.args.group) stops.Device tt c.close.result c.close.ensures.only
+
+pub returns-clause-group : goal.returns-clause-group
+returns-clause-group g c = ok_if c.close.result (c.close.ensures.group ∙ (c.commit.ensures.group ∙ c.in_ok-build.ensures.group))
+
+pub returns-clause-wishes : goal.returns-clause-wishes
+returns-clause-wishes g c =
+    let one = c.commit.ensures.works.wishes.mine (ap is_staged c.in_ok-build.ensures.at.phase) in
+    let two = c.close.ensures.works.wishes.mine one.0 in
+    ok_if c.close.result (two.1 ∙ (one.1 ∙ c.in_ok-build.ensures.wishes))

@@ -1,8 +1,13 @@
-use Rattle.std.proofs.Common.{◌∙◌, ◌++◌, ◌∷◌, [], ap, sym, append-nil, take}
+use Rattle.std.proofs.Common.{◌∙◌, ◌++◌, ap, refl, take}
 use Rattle.std.proofs.lemmas.Result.{err_from_is_err_and}
+use Rattle.journal.specs.Group.{Group}
 use Rattle.merge_core.specs.Phase.{was_opened}
+use Rattle.merge_site.specs.Booking.{is_over}
 use Rattle.group_run.specs.Lines.{line_in}
-use Rattle.group_run.proofs.Told.{lines_cut, lines_none, lines_whole}
+use Rattle.group_run.specs.Granted.{wishes_in}
+use Rattle.group_run.specs.Working.{is_staged}
+use Rattle.group_run.proofs.Settling.{owners_settled}
+use Rattle.group_run.proofs.Told.{wrote_none, wrote_part, wrote_whole}
 use Rattle.group_run.proofs.Worked.{works_then}
 use Rattle.group_run.proofs.running.merge_and_tell.Goals as goal
 
@@ -13,25 +18,36 @@ pub returns-clause-works : goal.returns-clause-works
 returns-clause-works g c = works_then c.args.group c.args.site.now c.merge.new.site c.tell.new.site c.merge.ensures.works c.tell.ensures.works
 
 pub returns-in_err-merge-clause-written : goal.returns-in_err-merge-clause-written
-returns-in_err-merge-clause-written g c t =
-    ([], lines_none (line_in c.args.site.now.groups) c.merge.new.history.items c.args.acknowledged.now.items c.requires.untold, ap g.S.Sink.written c.merge.ensures.sink ∙ sym (append-nil _))
+returns-in_err-merge-clause-written g c t start wrote =
+    let told = c.args.acknowledged.now.items in
+    wrote_none (line_in c.args.site.now.groups) c.args.group c.args.history.now.items told start (g.S.Sink.written c.args.site.now.sink) (g.S.Sink.written c.merge.new.site.sink) c.requires.all_told wrote c.merge.new.history.items told c.merge.ensures.one refl
+    (ap g.S.Sink.written c.merge.ensures.sink)
 
 pub returns-in_err-tell-clause-written : goal.returns-in_err-tell-clause-written
-returns-in_err-tell-clause-written g c t =
+returns-in_err-tell-clause-written g c t start wrote =
     let p = c.tell.ensures.part t in
-    let line = line_in c.args.site.now.groups in (
-      take p.0 (line c.args.group),
-      lines_cut line c.args.group p.0 c.merge.new.history.items c.args.acknowledged.now.items (c.in_ok-merge.ensures.merged ∙ ap (λ l. l ++ c.args.group ∷ []) c.requires.none) c.requires.untold,
-      p.1 ∙ (ap (λ x. g.S.Sink.written x ++ take p.0 (line_in c.merge.new.site.groups c.args.group)) c.merge.ensures.sink ∙ ap (λ l. g.S.Sink.written c.args.site.now.sink ++ take p.0 (line_in l c.args.group)) c.merge.ensures.works.groups),
-    )
+    let told = c.args.acknowledged.now.items in
+    wrote_part (line_in c.args.site.now.groups) c.args.group c.args.history.now.items told start (g.S.Sink.written c.args.site.now.sink) (g.S.Sink.written c.tell.new.site.sink) c.requires.all_told wrote c.merge.new.history.items told p.0 c.in_ok-merge.ensures.merged refl
+    (p.1
+    ∙ (ap (λ x. g.S.Sink.written x ++ take p.0 (line_in c.merge.new.site.groups c.args.group)) c.merge.ensures.sink ∙ ap (λ l. g.S.Sink.written c.args.site.now.sink ++ take p.0 (line_in l c.args.group)) c.merge.ensures.works.groups))
 
 pub returns-clause-written : goal.returns-clause-written
-returns-clause-written g c t =
-    let line = line_in c.args.site.now.groups in (
-      line c.args.group,
-      lines_whole line c.args.group c.merge.new.history.items c.add.new.list.items (c.in_ok-merge.ensures.merged ∙ ap (λ l. l ++ c.args.group ∷ []) c.requires.none) (c.add.ensures ∙ ap (λ l. l ++ c.args.group ∷ []) c.requires.untold),
-      c.in_ok-tell.ensures.written t ∙ (ap (λ x. g.S.Sink.written x ++ line_in c.merge.new.site.groups c.args.group) c.merge.ensures.sink ∙ ap (λ l. g.S.Sink.written c.args.site.now.sink ++ line_in l c.args.group) c.merge.ensures.works.groups),
-    )
+returns-clause-written g c t start wrote =
+    wrote_whole (line_in c.args.site.now.groups) c.args.group c.args.history.now.items c.args.acknowledged.now.items start (g.S.Sink.written c.args.site.now.sink) (g.S.Sink.written c.tell.new.site.sink) c.requires.all_told wrote c.merge.new.history.items c.add.new.list.items
+    c.in_ok-merge.ensures.merged c.add.ensures.items
+    (c.in_ok-tell.ensures.written t
+    ∙ (ap (λ x. g.S.Sink.written x ++ line_in c.merge.new.site.groups c.args.group) c.merge.ensures.sink ∙ ap (λ l. g.S.Sink.written c.args.site.now.sink ++ line_in l c.args.group) c.merge.ensures.works.groups))
+
+pub returns-clause-group : goal.returns-clause-group
+returns-clause-group g c = c.tell.ensures.group ∙ c.in_ok-merge.ensures.group
+
+pub returns-clause-settled : goal.returns-clause-settled
+returns-clause-settled g c =
+    let works = works_then c.args.group c.args.site.now c.merge.new.site c.tell.new.site c.merge.ensures.works c.tell.ensures.works in
+    let wished = (c.tell.ensures.works.wishes.mine (ap is_staged c.in_ok-merge.ensures.at.phase)).1 ∙ c.in_ok-merge.ensures.wishes in
+    let group = c.tell.ensures.group ∙ c.in_ok-merge.ensures.group in
+    owners_settled c.args.group c.args.site.now c.tell.new.site (wishes_in c.args.files) works c.promise.ensures.booked c.promise-2.ensures.booked (ap is_over c.requires.taken.phase) (ap is_over c.in_ok-tell.ensures.at.phase) wished
+    (ap (λ (x : Group). x.content.removals) group)
 
 pub returns-in_err-tell-clause-cause : goal.returns-in_err-tell-clause-cause
 returns-in_err-tell-clause-cause g c =

@@ -34,7 +34,7 @@ loop-file-preserved g c =
     let long : c.into_iter-file-iterator.result.rest.len ≡ length c.args.files.items = cc in
     let known = YieldsList-from_vec c.args.files.items c.into_iter-file-iterator.ensures.into_iter_gives.0 long in
     let t = YieldsList-turn known c.loop-file.yielded _ c.loop-file.yielded_by c.next.result c.next.new.self c.in-Some.file c.in-Some.is c.next.ensures.steps in
-    let e = early_stage c.stage.result c.loop-file.site c.stage.new.self c.in-Some.file c.args.group i.2 c.stage.ensures.ok c.stage.ensures.failed c.stage.ensures.kept in (
+    let e = early_stage c.stage.result c.loop-file.site c.stage.new.self c.in-Some.file (wish_for c.args.owner c.args.folder c.in-Some.file) c.args.group i.2 c.stage.ensures.ok c.stage.ensures.failed c.stage.ensures.kept c.stage.ensures.wishes c.stage.ensures.unwished in (
       works_then c.args.group c.args.site.now c.loop-file.site c.stage.new.self i.0 e.works,
       e.order ∙ i.1,
       building_on c.loop-file.site c.stage.new.self c.in-Some.file c.args.group i.2 c.in_ok-stage.ensures.ok,
@@ -51,13 +51,13 @@ loop-file-preserved g c =
 pub returns-in_err-stage-clause-works : goal.returns-in_err-stage-clause-works
 returns-in_err-stage-clause-works g c =
     let i = c.loop-file.invariant in
-    let e = early_stage c.stage.result c.loop-file.site c.stage.new.self c.in-Some.file c.args.group i.2 c.stage.ensures.ok c.stage.ensures.failed c.stage.ensures.kept in
+    let e = early_stage c.stage.result c.loop-file.site c.stage.new.self c.in-Some.file (wish_for c.args.owner c.args.folder c.in-Some.file) c.args.group i.2 c.stage.ensures.ok c.stage.ensures.failed c.stage.ensures.kept c.stage.ensures.wishes c.stage.ensures.unwished in
     works_then c.args.group c.args.site.now c.loop-file.site c.stage.new.self i.0 e.works
 
 pub returns-in_err-stage-clause-early : goal.returns-in_err-stage-clause-early
 returns-in_err-stage-clause-early g c =
     let i = c.loop-file.invariant in
-    (early_stage c.stage.result c.loop-file.site c.stage.new.self c.in-Some.file c.args.group i.2 c.stage.ensures.ok c.stage.ensures.failed c.stage.ensures.kept).early
+    (early_stage c.stage.result c.loop-file.site c.stage.new.self c.in-Some.file (wish_for c.args.owner c.args.folder c.in-Some.file) c.args.group i.2 c.stage.ensures.ok c.stage.ensures.failed c.stage.ensures.kept c.stage.ensures.wishes c.stage.ensures.unwished).early
 
 pub returns-in_err-stage-clause-quiet : goal.returns-in_err-stage-clause-quiet
 returns-in_err-stage-clause-quiet g c =

@@ -3,7 +3,7 @@ use Rattle.std.specs.Prelude.{is_ok}
 use Rattle.merge_core.specs.Event.{Acknowledge}
 use Rattle.merge_core.specs.declared.phase.Phase.TheVariants as phases
 use Rattle.merge_core.specs.declared.step.Step.TheVariants as steps
-use Rattle.group_run.proofs.Told.{part_written, told_shut, whole_written}
+use Rattle.group_run.proofs.Told.{part_written, told_at, told_shut, whole_written}
 use Rattle.group_run.proofs.Worked.{group_kept, step_worked, taken_at}
 use Rattle.group_run.proofs.telling.tell.Goals as goal
 
@@ -42,3 +42,6 @@ returns-in-Err-clause-part g c =
 pub returns-in-Ok-clause-written : goal.returns-in-Ok-clause-written
 returns-in-Ok-clause-written g c =
     λ t. whole_written c.args.site.now.groups c.args.group (g.S.Sink.written c.args.site.now.sink) (g.S.Sink.written c.acknowledge.new.self.sink) c.requires.there (c.in-Ok.ensures.writes t)
+
+pub returns-in-Ok-clause-at : goal.returns-in-Ok-clause-at
+returns-in-Ok-clause-at g c = told_at c.args.site.now c.acknowledge.new.self c.args.group c.requires.at c.in-Ok.ensures.event

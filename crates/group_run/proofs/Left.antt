@@ -1,0 +1,166 @@
+-- What the groups of some turns leave: the map, the owners, and the rest of the run.
+use Rattle.std.proofs.Common.{◌≡◌, ◌⊎◌, ◌<◌, ◌≤◌, ◌++◌, ◌||◌, ◌∙◌, ℕ, zero, suc, Bool, false, cond, List, [], ◌∷◌, None, inl, inr, refl, sym, ap, subst, length, take, drop, get_or, map, is_some, append_assoc, append-nil, arith}
+use Rattle.std.specs.Map.{lookup}
+use Rattle.std.specs.Prelude.{bytes_eq}
+use Rattle.std.proofs.Math.Seq.{drop-cons, take-append_seam}
+use Rattle.std.proofs.lemmas.Bool.{cases_Bool, cases_eq, cond-false}
+use Rattle.std.proofs.lemmas.List.{length-append, map-append, take-append-drop}
+use Rattle.basics.specs.Members.{AreDistinct, Has}
+use Rattle.basics.proofs.Membership.{distinct-apart}
+use Rattle.file_tree.specs.Disk.{Map}
+use Rattle.file_tree.specs.Paths.{is_below}
+use Rattle.merge_record.specs.Names.{jobs}
+use Rattle.merge_record.specs.declared.record.OwnerKey.{OwnerKey}
+use Rattle.journal.specs.Group.{Group, applied, with_group, with_groups}
+use Rattle.owner_book.specs.Book.{Book, HasOwnersOf, HasSettled, Parts, key_in, owner_in, settled_owner}
+use Rattle.owner_book.specs.declared.wish.Wish.{Wish}
+use Rattle.merge_site.specs.declared.group.SiteGroup.{SiteGroup}
+use Rattle.group_run.specs.Applied.{number}
+use Rattle.group_run.specs.Causes.{IsOfGroup, StopsRun}
+use Rattle.group_run.specs.Granted.{MayMerge, wishes_in}
+use Rattle.group_run.specs.Lines.{IsBeginning}
+use Rattle.group_run.specs.Through.{settled_all}
+use Rattle.group_run.specs.Turns.{AreFirst, AreLetIn, StopsBehind, group_for, numbers, settled}
+use Rattle.group_run.specs.declared.files.Files.{Files}
+use Rattle.group_run.specs.declared.stop.Stop.{Stop}
+use Rattle.group_run.specs.declared.stop.Stop.TheVariants as stops
+use Rattle.group_run.specs.declared.turn.Turn.{Turn}
+
+-- ---- lists
+
+-- the item behind the first ones of a list
+pub split_at : {A : Type 0} (xs front : List A) (x : A) → front ≡ take (length front) xs → length front < length xs → x ≡ get_or xs (length front) x → xs ≡ front ++ x ∷ drop (suc (length front)) xs
+split_at xs front x is lt at =
+    sym (take-append-drop (length front) xs)
+    ∙ (ap (λ l. l ++ drop (length front) xs) (sym is) ∙ ap (λ l. front ++ l) (drop-cons xs (length front) x lt ∙ ap (λ y. y ∷ drop (suc (length front)) xs) (sym at)))
+
+pub has_or_not : (ns : List ℕ) (n : ℕ) → Has ns n ⊎ (Has ns n → ⊥)
+has_or_not [] n = inr (λ h. h)
+has_or_not (k ∷ ns) n = elim (cases_eq k n) [
+  | inl same ↦ inl (inl same)
+  | inr other ↦ elim (has_or_not ns n) [ inl has ↦ inl (inr has) | inr not ↦ inr (λ h. elim h [ inl e ↦ other e | inr has ↦ not has ]) ]
+]
+
+pub has_take : (xs ys : List ℕ) (n h : ℕ) → length xs ≤ n → Has xs h → Has (take n (xs ++ ys)) h
+has_take [] ys n h le has = absurd has
+has_take (x ∷ xs) ys zero h le has = absurd (omega (arith, le))
+has_take (x ∷ xs) ys (suc n) h le (inl e) = inl e
+has_take (x ∷ xs) ys (suc n) h le (inr has) = inr (has_take xs ys n h (omega (arith, le)) has)
+
+pub numbers_then : (ts us : List Turn) → numbers (ts ++ us) ≡ numbers ts ++ numbers us
+numbers_then ts us = map-append (λ (t : Turn). t.group) ts us
+
+pub numbers_of : (ts : List Turn) → map number (map group_for ts) ≡ numbers ts
+numbers_of [] = refl
+numbers_of (t ∷ ts) = ap (λ (l : List ℕ). t.group ∷ l) (numbers_of ts)
+
+pub groups_push : (ts : List Turn) (t : Turn) → map group_for (ts ++ t ∷ []) ≡ map group_for ts ++ group_for t ∷ []
+groups_push ts t = map-append group_for ts (t ∷ [])
+
+pub beginning : (xs ys : List ℕ) → IsBeginning (xs ++ ys) xs
+beginning xs ys = (length xs, sym (take-append_seam xs ys))
+
+pub beginning_of : (whole xs ys : List ℕ) → whole ≡ xs ++ ys → IsBeginning whole xs
+beginning_of whole xs ys is = subst (λ (l : List ℕ). IsBeginning l xs) (sym is) (beginning xs ys)
+
+-- a turn of a run in which each number stands once is new
+pub new_turn : (ts us : List Turn) (t : Turn) → AreDistinct (numbers (ts ++ t ∷ us)) → Has (numbers ts) t.group → ⊥
+new_turn ts us t once has =
+    distinct-apart (numbers ts) (numbers (t ∷ us)) t.group (subst (λ (l : List ℕ). AreDistinct l) (numbers_then ts (t ∷ us)) once) has (inl refl)
+
+-- what a turn adds to the history and to the acknowledged groups
+pub one_longer : (old new : List ℕ) (g : ℕ) → (new ≡ old) ⊎ (new ≡ old ++ g ∷ []) → length old ≤ length new
+one_longer old new g (inl same) = let n = ap length same in omega (arith, n)
+one_longer old new g (inr more) = let n = ap length more ∙ length-append old (g ∷ []) in omega (arith, n)
+
+pub first_numbers : (all ts us : List Turn) (t : Turn) (old new : List ℕ) → all ≡ ts ++ t ∷ us → old ≡ numbers ts → (new ≡ old) ⊎ (new ≡ old ++ t.group ∷ []) → IsBeginning (numbers all) new
+first_numbers all ts us t old new is front (inl same) =
+    beginning_of (numbers all) new (numbers (t ∷ us)) (ap numbers is ∙ (numbers_then ts (t ∷ us) ∙ ap (λ (l : List ℕ). l ++ numbers (t ∷ us)) (sym (same ∙ front))))
+first_numbers all ts us t old new is front (inr more) =
+    beginning_of (numbers all) new (numbers us)
+    (ap numbers is ∙ (numbers_then ts (t ∷ us) ∙ (sym (append_assoc (numbers ts) (t.group ∷ []) (numbers us)) ∙ ap (λ (l : List ℕ). l ++ numbers us) (sym (more ∙ ap (λ (l : List ℕ). l ++ t.group ∷ []) front)))))
+
+pub told_first : (old new told : List ℕ) (g : ℕ) → told ≡ old → (new ≡ old) ⊎ (new ≡ old ++ g ∷ []) → IsBeginning new told
+told_first old new told g is (inl same) = beginning_of new told [] (same ∙ (sym is ∙ sym (append-nil told)))
+told_first old new told g is (inr more) = beginning_of new told (g ∷ []) (more ∙ ap (λ (l : List ℕ). l ++ g ∷ []) (sym is))
+
+-- ---- the map
+
+abbrev pub left_all : Map → List Turn → Map
+left_all m [] = m
+left_all m (t ∷ ts) = left_all (applied m (group_for t ∷ [])) ts
+
+pub left_outside : (m : Map) (ts : List Turn) (q : List ℕ) → is_below jobs q ≡ false → left_all m ts q ≡ with_groups (map group_for ts) q (m q)
+left_outside m [] q out = refl
+left_outside m (t ∷ ts) q out =
+    left_outside (applied m (group_for t ∷ [])) ts q out ∙ ap (with_groups (map group_for ts) q) (cond-false (is_below jobs q) None (with_group (group_for t) q (m q)) out)
+
+-- ---- the owners
+
+abbrev pair_of : Wish → List ℕ × OwnerKey
+pair_of w = (w.path, w.owner)
+
+named_first : (ws : List Wish) (owned : List (List ℕ × OwnerKey)) (q : List ℕ) → lookup (bytes_eq q) (map pair_of ws ++ owned) ≡ cond (is_some (key_in ws q) || false) (key_in ws q) (lookup (bytes_eq q) owned)
+named_first [] owned q = refl
+named_first (w ∷ ws) owned q = elim (cases_Bool (bytes_eq q w.path)) [
+  | inl e ↦ rw (e) refl
+  | inr e ↦ rw (e) (named_first ws owned q)
+]
+
+pub settled_has : (b : Book) (files : Files) → HasSettled b (settled files b) (record { placed = wishes_in files; removed = [] })
+settled_has b files q = named_first (wishes_in files) b.owned q
+
+pub settled_push : (ts : List Turn) (t : Turn) (b : Book) → settled_all (ts ++ t ∷ []) b ≡ settled t.files (settled_all ts b)
+settled_push [] t b = refl
+settled_push (u ∷ ts) t b = settled_push ts t (settled u.files b)
+
+-- owners that are settled further
+pub owners_push : (ts : List Turn) (t : Turn) (b old new : Book) → HasOwnersOf (settled_all ts b) old → HasSettled old new (record { placed = wishes_in t.files; removed = [] }) → HasOwnersOf (settled_all (ts ++ t ∷ []) b) new
+owners_push ts t b old new owners more q =
+    let parts : Parts = record { placed = wishes_in t.files; removed = [] } in
+    more q
+    ∙ (ap (settled_owner parts q) (owners q)
+    ∙ (sym (settled_has (settled_all ts b) t.files q) ∙ ap (λ (k : Book). owner_in k.owned q) (sym (settled_push ts t b))))
+
+-- ---- who was let in
+
+pub let_in_push : (m : Map) (b : Book) (groups : List SiteGroup) (ts : List Turn) (t : Turn) → AreLetIn m b groups ts → MayMerge (left_all m ts) (settled_all ts b) groups t.files t.group → AreLetIn m b groups (ts ++ t ∷ [])
+let_in_push m b groups [] t all may = (may, tt)
+let_in_push m b groups (u ∷ ts) t all may = (all.0, let_in_push (applied m (group_for u ∷ [])) (settled u.files b) groups ts t all.1 may)
+
+pub first_more : (m : Map) (b : Book) (groups : List SiteGroup) (ts us : List Turn) (xs : List Group) → AreFirst m b groups ts xs → AreFirst m b groups (ts ++ us) xs
+first_more m b groups ts us xs h = record {
+  first = h.first;
+  rest = h.rest ++ us;
+  split = ap (λ (l : List Turn). l ++ us) h.split ∙ append_assoc h.first h.rest us;
+  are = h.are;
+  let_in = h.let_in;
+}
+
+-- ---- why a run ended
+
+pub plain_run : (tells : Bool) (m : Map) (b : Book) (groups : List SiteGroup) (files : Files) (g : ℕ) (e : Stop) → (IsOfGroup e → ⊥) → StopsRun tells m b groups files g e
+plain_run tells m b groups files g stops.Device h = tt
+plain_run tells m b groups files g stops.Output h = tt
+plain_run tells m b groups files g (stops.Image bad) h = absurd (h tt)
+plain_run tells m b groups files g (stops.Claim s) h = absurd (h tt)
+plain_run tells m b groups files g stops.Limit h = absurd (h tt)
+plain_run tells m b groups files g stops.Memory h = tt
+
+pub plain_behind : (tells : Bool) (m : Map) (b : Book) (groups : List SiteGroup) (ts : List Turn) (n : ℕ) (e : Stop) → (IsOfGroup e → ⊥) → StopsBehind tells m b groups ts n e
+plain_behind tells m b groups [] n e h = h
+plain_behind tells m b groups (t ∷ ts) zero e h = plain_run tells m b groups t.files t.group e h
+plain_behind tells m b groups (t ∷ ts) (suc n) e h = plain_behind tells (applied m (group_for t ∷ [])) (settled t.files b) groups ts n e h
+
+pub stops_behind : (tells : Bool) (m : Map) (b : Book) (groups : List SiteGroup) (ts us : List Turn) (t : Turn) (e : Stop) → StopsRun tells (left_all m ts) (settled_all ts b) groups t.files t.group e
+    → StopsBehind tells m b groups (ts ++ t ∷ us) (length ts) e
+stops_behind tells m b groups [] us t e h = h
+stops_behind tells m b groups (u ∷ ts) us t e h = stops_behind tells (applied m (group_for u ∷ [])) (settled u.files b) groups ts us t e h
+
+pub of_group_or_not : (e : Stop) → IsOfGroup e ⊎ (IsOfGroup e → ⊥)
+of_group_or_not stops.Device = inr (λ h. h)
+of_group_or_not stops.Output = inr (λ h. h)
+of_group_or_not (stops.Image bad) = inl tt
+of_group_or_not (stops.Claim s) = inl tt
+of_group_or_not stops.Limit = inl tt
+of_group_or_not stops.Memory = inr (λ h. h)

@@ -1,0 +1,59 @@
+-- Groups that are merged one after another.
+use Rattle.std.specs.Prelude.{◌≡◌, ◌++◌, ℕ, zero, suc, Bool, List, [], ◌∷◌, map}
+use Rattle.std.specs.Prelude.{Option, Some, None, ⊤}
+use Rattle.file_tree.specs.Disk.{Map}
+use Rattle.journal.specs.Group.{Group, applied}
+use Rattle.owner_book.specs.Book.{Book}
+use Rattle.merge_core.specs.Keeping.{Keeping}
+use Rattle.merge_site.specs.declared.group.SiteGroup.{SiteGroup}
+use Rattle.group_run.specs.Causes.{IsOfGroup, StopsRun}
+use Rattle.group_run.specs.Granted.{MayMerge, wishes_in}
+use Rattle.group_run.specs.Working.{all_in, placing}
+use Rattle.group_run.specs.declared.files.Files.{Files}
+use Rattle.group_run.specs.declared.stop.Stop.{Stop}
+use Rattle.group_run.specs.declared.stop.Stop.TheVariants as stops
+use Rattle.group_run.specs.declared.turn.Turn.{Turn}
+
+abbrev pub numbers : List Turn → List ℕ
+numbers turns = map (λ t. t.group) turns
+
+-- the group of a turn: it places just what its package has
+abbrev pub group_for : Turn → Group
+group_for t = placing t.group (all_in t.files)
+
+-- the owners once the claim of a package is settled: each of its paths has the one that it names
+abbrev pub settled : Files → Book → Book
+settled files b = record {
+  owned = map (λ w. (w.path, w.owner)) (wishes_in files) ++ b.owned;
+  claims = [];
+}
+
+-- the claim of each group is granted, over the map and the owners that those before it left
+abbrev pub AreLetIn : Map → Book → List SiteGroup → List Turn → Type 0
+AreLetIn m b groups [] = ⊤
+AreLetIn m b groups (t ∷ ts) =
+    MayMerge m b groups t.files t.group ×
+    AreLetIn (applied m (group_for t ∷ [])) (settled t.files b) groups ts
+
+-- these are the groups of the first turns, in their order, and the claim of each is granted
+pub record AreFirst (m : Map) (b : Book) (groups : List SiteGroup) (turns : List Turn)
+    (xs : List Group) : Type 0 where
+  pub first : List Turn
+  pub rest : List Turn
+  pub split : turns ≡ first ++ rest
+  pub are : xs ≡ map group_for first
+  pub let_in : AreLetIn m b groups first
+
+-- why a run ended behind the groups of its first n turns: the next group is stopped so, over the map
+-- and the owners that those left
+abbrev pub StopsBehind : Bool → Map → Book → List SiteGroup → List Turn → ℕ → Stop → Type 0
+StopsBehind tells m b groups [] n e = ¬ IsOfGroup e
+StopsBehind tells m b groups (t ∷ ts) zero e = StopsRun tells m b groups t.files t.group e
+StopsBehind tells m b groups (t ∷ ts) (suc n) e =
+    StopsBehind tells (applied m (group_for t ∷ [])) (settled t.files b) groups ts n e
+
+-- where no site was opened, it is for want of memory
+abbrev pub HaveCause : Bool → Map → Book → List SiteGroup → List Turn → ℕ → Option Keeping →
+    Stop → Type 0
+HaveCause tells m b groups turns n (Some k) e = StopsBehind tells m b groups turns n e
+HaveCause tells m b groups turns n None e = e ≡ stops.Memory
