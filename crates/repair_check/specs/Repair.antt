@@ -1,0 +1,59 @@
+-- When a plan of at most one group repairs the packages that are there, and else what is told.
+use Rattle.std.specs.Prelude.{◌≡◌, ℕ, Bool, not, List, Option, None, Some, bytes_eq, map}
+use Rattle.std.specs.List.{list_any}
+use Rattle.dep_group.specs.Trees.{no_trees}
+use Rattle.pkg_state.specs.Consistent.{AreConsistent}
+use Rattle.pkg_state.specs.Fault as state
+use Rattle.pkg_state.specs.Package.{Package, line_of}
+use Rattle.plan_law.specs.Accepted.{IsAccepted}
+use Rattle.plan_law.specs.Plans.{Group, changed, group_at}
+use Rattle.plan_check.specs.PackageRules.{plan_rule}
+use Rattle.plan_check.specs.Refusals.{Refusal, Refusal as refused}
+use Rattle.plan_check.specs.Verdicts.{both}
+
+-- the package as if it needed nothing: it blocks nothing either, and asks nothing of its flags
+abbrev pub bare : Package → Package
+bare p =
+    record {
+      facts = p.facts;
+      eapi = p.eapi;
+      rdepend = no_trees;
+      pdepend = no_trees;
+      depend = no_trees;
+      bdepend = no_trees;
+      idepend = no_trees;
+      required = no_trees;
+    }
+
+-- the package is on none of the lines
+abbrev pub is_elsewhere : List (List ℕ) → Package → Bool
+is_elsewhere lines p = not (list_any (λ line. bytes_eq line (line_of p.facts)) lines)
+
+-- the packages behind the one group of a plan; without one they are as they were
+abbrev pub behind : List Group → List Package → List Package
+behind plan start = changed (group_at plan 0) start
+
+-- the plan repairs the packages
+pub record IsRepair (plan : List Group) (start : List Package) : Type 0 where
+  -- it is accepted over them as if they needed nothing, so what comes fits
+  pub accepted : IsAccepted plan (map bare start)
+  -- and what is there then goes together
+  pub consistent : AreConsistent (behind plan start)
+
+-- the rule of a plan that fits what is wrong with packages
+abbrev pub refusal_of : state.Fault → Refusal
+refusal_of (state.SlotTwice one other) = refused.Occupied 1 one other
+refusal_of (state.RequiredUse one) = refused.RequiredUse one
+refusal_of (state.Blocked one by) = refused.Blocked by one
+refusal_of (state.Runtime one missing) = refused.Unsafe one missing
+
+-- the packages go together, or what is first wrong with them is told
+abbrev pub consistent_rule : List Package → Option Refusal → Type 0
+consistent_rule ps None = AreConsistent ps
+consistent_rule ps (Some e) =
+    (fault : state.Fault) × state.IsFirstFault ps fault × (e ≡ refusal_of fault)
+
+-- the rules for what comes, and then that for what is there
+abbrev pub repair_rule : List Group → List Package → Option Refusal → Type 0
+repair_rule plan start =
+    both (plan_rule plan (map bare start)) (consistent_rule (behind plan start))
