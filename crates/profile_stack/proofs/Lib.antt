@@ -1,0 +1,5 @@
+pub mod Followed
+pub mod Members
+pub mod Once
+pub mod Places
+pub mod Steps

@@ -1,0 +1,6 @@
+pub mod Begins
+pub mod Folders
+pub mod Machine
+pub mod Parents
+pub mod Places
+pub mod Texts

@@ -1,0 +1,10 @@
+ghost use Rattle.std.specs.Prelude.{◌≡◌, ℕ, List, Option};
+ghost use Rattle.file_tree.specs.Disk.{Map};
+ghost use Rattle.profile_stack.specs.Folders.{Walks};
+ghost use Rattle.profile_stack.specs.declared.fault.ProfileFault.{ProfileFault};
+
+/// A law: the profile at a path of a map is read in one way at most, and so has one first fault.
+pub fn one_walk()
+    ensures { (m : Map) (path : List ℕ) (xs ys : List (List ℕ)) (e f : Option ProfileFault) →
+        Walks m path xs e → Walks m path ys f → (xs ≡ ys) × (e ≡ f) }
+{}

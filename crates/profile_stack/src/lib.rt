@@ -1,0 +1,30 @@
+//! The profile of a tree: the folders that it is made of, in the order in which they count.
+//!
+//! **A contract sees** a tree as its story and a profile as the list of its folders.
+//! `Reads` (`specs/Folders.antt`) is the rule: a profile's parents come before it, in the order of
+//! the lines of its file `parent`.
+//!
+//! **Proved**: the folders are exactly those of the tree's profile, in this order, where it has no
+//! fault. Else the first fault is told with its file and line, and beside it the folders whose
+//! profiles were read to their end before it. The tree is only read.
+//!
+//! **Only tested**: that with ample memory a profile is read.
+//!
+//! ```
+//! let walk = find_folders(alloc, &mut tree, &path);
+//! walk.end?;
+//! ```
+#![tactic(auto)]
+
+mod fault;
+mod folders;
+mod law;
+mod parents;
+mod place;
+mod start;
+mod text;
+
+pub use fault::ProfileFault;
+pub use folders::{MOST_PROFILES, Walk, find_folders};
+pub use law::one_walk;
+pub use parents::Parent;
