@@ -1,4 +1,5 @@
 pub mod Followed
+pub mod Listed
 pub mod Members
 pub mod Once
 pub mod Places

@@ -1,5 +1,6 @@
 pub mod Begins
 pub mod Folders
+pub mod LineFiles
 pub mod Machine
 pub mod Parents
 pub mod Places

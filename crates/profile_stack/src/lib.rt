@@ -19,6 +19,7 @@
 mod fault;
 mod folders;
 mod law;
+mod line_file;
 mod parents;
 mod place;
 mod start;
@@ -27,4 +28,5 @@ mod text;
 pub use fault::ProfileFault;
 pub use folders::{MOST_PROFILES, Walk, find_folders};
 pub use law::one_walk;
+pub use line_file::{FileLine, read_lines};
 pub use parents::Parent;

@@ -1,6 +1,7 @@
 ghost use Rattle.std.specs.Prelude.{◌≡◌, IfOk, MatchOption, None, Some, [], if◌then◌else◌, map};
 ghost use Rattle.profile_stack.specs.Places.{around, begins_at_top, followed, is_here, led};
-ghost use Rattle.profile_stack.specs.Places.{link_place, parts, path_of, path_with, place, place_from};
+ghost use Rattle.profile_stack.specs.Places.{link_place, parts, path_of, path_with, place};
+ghost use Rattle.profile_stack.specs.Places.{place_from};
 
 use file_tree::{Path, PathFault};
 use std::alloc::{AllocError, Global};
