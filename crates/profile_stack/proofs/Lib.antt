@@ -3,4 +3,5 @@ pub mod Listed
 pub mod Members
 pub mod Once
 pub mod Places
+pub mod Standing
 pub mod Steps

@@ -4,4 +4,5 @@ pub mod LineFiles
 pub mod Machine
 pub mod Parents
 pub mod Places
+pub mod Stacks
 pub mod Texts

@@ -22,11 +22,13 @@ mod law;
 mod line_file;
 mod parents;
 mod place;
+mod stack;
 mod start;
 mod text;
 
 pub use fault::ProfileFault;
 pub use folders::{MOST_PROFILES, Walk, find_folders};
-pub use law::one_walk;
+pub use law::{last_word_counts, one_walk};
 pub use line_file::{FileLine, read_lines};
 pub use parents::Parent;
+pub use stack::stacked;
