@@ -6,49 +6,9 @@ ghost use Rattle.required_use.specs.View as required;
 
 use dep_atom::Facts;
 use dep_tree::DepTree;
-use pkg_state::{Eapi, Pkg};
+use pkg_state::{Eapi, Pkg, copy_facts};
 use required_use::RequiredUse;
 use std::alloc::{AllocError, Global};
-
-fn copy_facts(facts: &Facts) -> Result<Facts, AllocError>
-    ensures { IfOk result (λ copy. copy ≡ facts.now) }
-{
-    let id = facts.id.try_clone()?;
-    let slot = facts.slot.try_clone()?;
-    let subslot = facts.subslot.try_clone()?;
-    let iuse = facts.iuse.try_clone()?;
-    let enabled = facts.enabled.try_clone()?;
-    Ok(Facts {
-        id,
-        slot,
-        subslot,
-        iuse,
-        enabled,
-    })
-}
-
-/// The same package, in memory of its own.
-pub(crate) fn copy_package(pkg: &Pkg) -> Result<Pkg, AllocError>
-    ensures { IfOk result (λ copy. copy ≡ pkg.now) }
-{
-    let facts = copy_facts(&pkg.facts)?;
-    let rdepend = pkg.rdepend.try_clone()?;
-    let pdepend = pkg.pdepend.try_clone()?;
-    let depend = pkg.depend.try_clone()?;
-    let bdepend = pkg.bdepend.try_clone()?;
-    let idepend = pkg.idepend.try_clone()?;
-    let required_use = pkg.required_use.try_clone()?;
-    Ok(Pkg {
-        facts,
-        eapi: pkg.eapi,
-        rdepend,
-        pdepend,
-        depend,
-        bdepend,
-        idepend,
-        required_use,
-    })
-}
 
 /// The package with these facts that needs nothing.
 pub(crate) fn needing_nothing(alloc: Global, facts: &Facts) -> Result<Pkg, AllocError>

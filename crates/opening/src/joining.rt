@@ -4,10 +4,10 @@ ghost use Rattle.pkg_state.specs.Consistent.{AreConsistent};
 ghost use Rattle.pkg_state.specs.Fault.{told};
 ghost use Rattle.run_law.specs.Openings.{MayJoin, packages_of};
 
-use crate::copies::{copy_package, needing_nothing};
+use crate::copies::needing_nothing;
 use crate::places::is_taken;
 use dep_atom::Facts;
-use pkg_state::{Broken, Pkg, consistent, one_fault};
+use pkg_state::{Broken, Pkg, consistent, copy_package, one_fault};
 use record_read::Installed;
 use std::alloc::{AllocError, Global};
 

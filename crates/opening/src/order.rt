@@ -3,8 +3,7 @@ ghost use Rattle.pkg_state.specs.Package.{line_of};
 ghost use Rattle.run_law.specs.Openings.{packages_of};
 ghost use Rattle.opening.specs.Order.{AreInLineOrder, line_cmp};
 
-use crate::copies::copy_package;
-use pkg_state::{LineName, Pkg};
+use pkg_state::{LineName, Pkg, copy_package};
 use record_read::Installed;
 use std::alloc::{AllocError, Global};
 use std::cmp::Ordering;

@@ -5,8 +5,7 @@ ghost use Rattle.required_use.specs.View as required;
 ghost use Rattle.repair_check.specs.Repair.{bare};
 
 use dep_tree::DepTree;
-use pkg_copy::copy_facts;
-use pkg_state::Pkg;
+use pkg_state::{Pkg, copy_facts};
 use required_use::RequiredUse;
 use std::alloc::{AllocError, Global};
 

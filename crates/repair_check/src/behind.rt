@@ -3,8 +3,7 @@ ghost use Rattle.std.specs.List.{list_any};
 ghost use Rattle.plan_law.specs.Plans.{changed, removed_line};
 ghost use Rattle.repair_check.specs.Repair.{behind, is_elsewhere};
 
-use pkg_copy::copy_package;
-use pkg_state::{LineName, Pkg};
+use pkg_state::{LineName, Pkg, copy_package};
 use plan_check::{Group, Plan, Removal};
 use std::alloc::{AllocError, Global};
 
@@ -36,7 +35,7 @@ fn copies(alloc: Global, packages: &[Pkg]) -> Result<Vec<Pkg>, AllocError>
 {
     let mut copies = Vec::with_capacity(alloc, packages.len())?;
     for pkg in packages {
-        copies.push(copy_package(alloc, pkg)?)?;
+        copies.push(copy_package(pkg)?)?;
     }
     Ok(copies)
 }
@@ -61,7 +60,7 @@ fn add_others(
 {
     for pkg in packages {
         if is_elsewhere(alloc, pkg, lines)? {
-            all.push(copy_package(alloc, pkg)?)?;
+            all.push(copy_package(pkg)?)?;
         }
     }
     Ok(())

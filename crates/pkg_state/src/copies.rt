@@ -1,9 +1,8 @@
 ghost use Rattle.std.specs.Prelude.{◌≡◌, IfOk};
 
-use crate::expressions::copy_required;
+use crate::package::Pkg;
 use dep_atom::Facts;
-use pkg_state::Pkg;
-use std::alloc::{AllocError, Global};
+use std::alloc::AllocError;
 
 /// The same facts, in memory of their own.
 pub fn copy_facts(facts: &Facts) -> Result<Facts, AllocError>
@@ -24,7 +23,7 @@ pub fn copy_facts(facts: &Facts) -> Result<Facts, AllocError>
 }
 
 /// The same package, in memory of its own.
-pub fn copy_package(alloc: Global, pkg: &Pkg) -> Result<Pkg, AllocError>
+pub fn copy_package(pkg: &Pkg) -> Result<Pkg, AllocError>
     ensures { IfOk result (λ copy. copy ≡ pkg.now) }
 {
     let facts = copy_facts(&pkg.facts)?;
@@ -33,7 +32,7 @@ pub fn copy_package(alloc: Global, pkg: &Pkg) -> Result<Pkg, AllocError>
     let depend = pkg.depend.try_clone()?;
     let bdepend = pkg.bdepend.try_clone()?;
     let idepend = pkg.idepend.try_clone()?;
-    let required_use = copy_required(alloc, &pkg.required_use)?;
+    let required_use = pkg.required_use.try_clone()?;
     Ok(Pkg {
         facts,
         eapi: pkg.eapi,
