@@ -20,6 +20,7 @@ use Rattle.merge_site.specs.Site.{Account}
 use Rattle.merge_site.specs.declared.fault.ClaimStop.{ClaimStop}
 use Rattle.merge_site.specs.declared.fault.ClaimStop.TheVariants as claims
 use Rattle.merge_site.specs.declared.group.SiteGroup.{SiteGroup}
+use Rattle.merge_core.proofs.Paths.{live_if_working}
 use Rattle.group_run.specs.Causes.{IsRefusal, StopsRun, is_refusal}
 use Rattle.group_run.specs.Granted.{HasBuilt, IsOutside, IsUnclaimed, MayMerge}
 use Rattle.group_run.specs.Stops.{stop_of_claim}
@@ -39,25 +40,6 @@ none_live a g at alone h = elim (cases_eq h g) [
   | inr other ↦ alone h other
 ]
 
-working_lives : (p : Phase) → is_working p ≡ true → is_live p ≡ true
-working_lives Idle w = absurd (cc w)
-working_lives Building w = absurd (cc w)
-working_lives Recorded w = absurd (cc w)
-working_lives Marked w = absurd (cc w)
-working_lives Sealed w = absurd (cc w)
-working_lives Claimed w = refl
-working_lives GatePut w = refl
-working_lives Open w = refl
-working_lives Placed w = refl
-working_lives GateTaken w = refl
-working_lives Done w = absurd (cc w)
-working_lives Told w = absurd (cc w)
-working_lives Abandoned w = absurd (cc w)
-working_lives Redo w = refl
-working_lives Redone w = refl
-working_lives Odd w = refl
-working_lives Emptied w = refl
-
 book_kept : {T S : Type 0} (a : Account T S) (g : ℕ) → IsAt a.keeping g phases.Sealed → IsAlone g a → IsBooked a.keeping a.events a.wishes a.opened_book a.book → IsUnclaimed a.book a.book
 book_kept a g at alone booked = record {
   owners = λ q. refl;
@@ -66,7 +48,7 @@ book_kept a g at alone booked = record {
 
 outside_kept : {T S : Type 0} (a : Account T S) (g : ℕ) (opening : Map) (d : Disk) → IsAt a.keeping g phases.Sealed → IsAlone g a → IsInOrder opening (machine_of a.keeping) d → IsOutside (stood_at opening a) d.holds
 outside_kept a g opening d at alone order q out =
-    (tree_kept opening (machine_of a.keeping) d order q out (λ h works. absurd (cc (working_lives (standing_at a h).phase works, none_live a g at alone h)))).reads
+    (tree_kept opening (machine_of a.keeping) d order q out (λ h works. absurd (cc (live_if_working (standing_at a h).phase works, none_live a g at alone h)))).reads
 
 pub granted : {T S : Type 0} (a : Account T S) (files : Files) (g : ℕ) (opening : Map) (d : Disk) → IsAt a.keeping g phases.Sealed → HasBuilt files g a → IsBooked a.keeping a.events a.wishes a.opened_book a.book → IsInOrder opening (machine_of a.keeping) d
     → IsGranted a g → AreClear d.holds a g → MayMerge (stood_at opening a) a.book a.groups files g

@@ -44,8 +44,8 @@ pub record AreFirst (m : Map) (b : Book) (groups : List SiteGroup) (turns : List
   pub are : xs ≡ map group_for first
   pub let_in : AreLetIn m b groups first
 
--- why a run ended behind the groups of its first n turns: the next group is stopped so, over the map
--- and the owners that those left
+-- why a run ended behind the groups of its first n turns: the next group is stopped so, over the
+-- map and the owners that those left
 abbrev pub StopsBehind : Bool → Map → Book → List SiteGroup → List Turn → ℕ → Stop → Type 0
 StopsBehind tells m b groups [] n e = ¬ IsOfGroup e
 StopsBehind tells m b groups (t ∷ ts) zero e = StopsRun tells m b groups t.files t.group e

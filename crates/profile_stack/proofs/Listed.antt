@@ -12,6 +12,7 @@ use Rattle.basics.specs.Members.{Has}
 use Rattle.basics.proofs.Membership.{contains-from_has, has-filter, has-filter_back, has-from_contains}
 use Rattle.basics.proofs.Texts.{less_one_way}
 use Rattle.config_text.proofs.BadBytes.{no_bad_byte}
+use Rattle.basics.proofs.Each.{all_has}
 use Rattle.file_tree.specs.Disk.{Lists, Map}
 use Rattle.file_tree.specs.Paths.{is_below}
 use Rattle.profile_stack.specs.LineFiles.{AreFiles, AreFilesIn, AreLines, HasBadByte, HasText, IsLinesFault, is_file_in, is_shown, lines_of}
@@ -23,14 +24,9 @@ use Rattle.profile_stack.proofs.Followed.{split_at}
 abbrev IsRising : List (List ℕ) → Type 0
 IsRising ts = IsStrictlySortedBy (slice_cmp nat_cmp) ts
 
-each_has : {A : Type 0} (P : A → Type 0) (xs : List A) (x : A) → AllByRecursion P xs → Has xs x → P x
-each_has P [] x all has = absurd has
-each_has P (y ∷ ys) x all (inl e) = subst P e all.0
-each_has P (y ∷ ys) x all (inr has) = each_has P ys x all.1 has
-
 behind_head : (x y : List ℕ) (xs : List (List ℕ)) → IsRising (x ∷ xs) → Has xs y → slice_cmp nat_cmp x y ≡ Less
 unfolding IsStrictlySortedBy
-behind_head x y xs rise has = each_has (λ (z : List ℕ). slice_cmp nat_cmp x z ≡ Less) xs y rise.0 has
+behind_head x y xs rise has = all_has (λ (z : List ℕ). slice_cmp nat_cmp x z ≡ Less) xs y rise.0 has
 
 tail_rises : (x : List ℕ) (xs : List (List ℕ)) → IsRising (x ∷ xs) → IsRising xs
 unfolding IsStrictlySortedBy

@@ -2,8 +2,8 @@ ghost use Rattle.std.specs.Prelude.{◌≡◌, ◌⊎◌, ◌++◌, ◌∷◌, [
 ghost use Rattle.std.specs.Prelude.{MatchResult, OnOk, filter};
 ghost use Rattle.std.specs.List.{list_any};
 ghost use Rattle.file_tree.specs.Disk.{CountsFault};
-ghost use Rattle.profile_stack.specs.LineFiles.{AreFiles, AreFilesIn, AreLines, HasBadByte, HasText};
-ghost use Rattle.profile_stack.specs.LineFiles.{IsLinesFault, is_file_in, is_hidden, is_shown};
+ghost use Rattle.profile_stack.specs.LineFiles.{AreFiles, AreFilesIn, AreLines, HasBadByte};
+ghost use Rattle.profile_stack.specs.LineFiles.{HasText, IsLinesFault, is_file_in, is_hidden, is_shown};
 ghost use Rattle.profile_stack.specs.LineFiles.{lines_of};
 ghost use Rattle.profile_stack.specs.Machine.{IsOfMachine};
 ghost use Rattle.profile_stack.specs.Places.{is_slash};
