@@ -40,7 +40,8 @@ pub record IsRepair (plan : List Group) (start : List Package) : Type 0 where
   -- and what is there then goes together
   pub consistent : AreConsistent (behind plan start)
 
--- the rule of a plan that fits what is wrong with packages
+-- the rule of a plan that fits what is wrong with packages; two on one line don't come behind a
+-- plan that is accepted
 abbrev pub refusal_of : state.Fault → Refusal
 refusal_of (state.SlotTwice one other) = refused.Occupied 1 one other
 refusal_of (state.RequiredUse one) = refused.RequiredUse one

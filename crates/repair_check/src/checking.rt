@@ -53,7 +53,8 @@ fn judge(alloc: Global, start: &[Pkg], plan: &Plan) -> Result<(), PlanRefused>
 }
 
 /// Accepts a plan of at most one group that repairs the packages, or tells the first rule that it
-/// breaks. The packages that are there may be broken, but no two of them on one line.
+/// breaks. The packages that are there may be broken; two of them on one line are told as a broken
+/// opening, and one version on two lines is told as in any plan.
 pub fn check_repair(alloc: Global, start: &[Pkg], plan: &Plan) -> Result<(), PlanRefused>
     requires { length plan.now ≤ 1 }
     ensures ok { OnOk result (IsRepair plan.now start.now) }
