@@ -5,3 +5,4 @@ pub mod Once
 pub mod Places
 pub mod Standing
 pub mod Steps
+pub mod Variables

@@ -1,4 +1,5 @@
 pub mod Begins
+pub mod Defaults
 pub mod Folders
 pub mod LineFiles
 pub mod Machine

@@ -53,8 +53,10 @@ begins_at_top (b ∷ bytes) = b == 47
 abbrev pub place_from : List ℕ → List ℕ → Option (List ℕ)
 place_from folder text = if begins_at_top text then None else place (parts folder) text
 
--- the path to which a link at a path leads: from the folder in which the link is, or from the top
+-- the path to which a link at a path leads: from the folder in which the link is, or from the top;
+-- an empty target leads nowhere
 abbrev pub link_place : List ℕ → List ℕ → Option (List ℕ)
 link_place path target =
-    if begins_at_top target then place [] target
+    if bytes_eq target [] then None
+    else if begins_at_top target then place [] target
     else option_and_then (λ folder. place folder target) (around (parts path))

@@ -16,6 +16,7 @@
 //! ```
 #![tactic(auto)]
 
+mod defaults;
 mod fault;
 mod folders;
 mod law;
@@ -26,6 +27,7 @@ mod stack;
 mod start;
 mod text;
 
+pub use defaults::read_defaults;
 pub use fault::ProfileFault;
 pub use folders::{MOST_PROFILES, Walk, find_folders};
 pub use law::{last_word_counts, one_walk};

@@ -30,6 +30,9 @@ pub(crate) fn link_place(
     ensures { IfOk result (λ r. MatchOption r (link_place path.now target.now ≡ None)
         (λ p. link_place path.now target.now ≡ Some p)) }
 {
+    if target == "" {
+        return Ok(None);
+    }
     if begins_at_top(target.as_bytes()) {
         return place(alloc, Vec::new(alloc), target);
     }
