@@ -18,7 +18,7 @@
 //! sound over every order of its groups; any other text is refused for the first fault of these
 //! three (`specs/Judged.antt`).
 //!
-//! **Only tested**: nothing yet.
+//! **Only tested**: that with ample memory a text is linked and judged.
 //!
 //! Each addition takes time that is linear in the number of packages that are offered.
 //!
