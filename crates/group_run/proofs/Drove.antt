@@ -20,7 +20,7 @@ use Rattle.group_run.specs.Went.{DroveWith}
 use Rattle.group_run.specs.Working.{AreInTurn}
 use Rattle.group_run.specs.declared.stop.Stop.{Stop}
 use Rattle.group_run.specs.declared.turn.Turn.{Turn}
-use Rattle.group_run.proofs.Caused.{unwished}
+use Rattle.merge_site.proofs.Booked.{unwished}
 use Rattle.group_run.proofs.Rest.{shut_if_over}
 use Rattle.group_run.proofs.Stood.{committed_rests}
 
