@@ -13,6 +13,7 @@ use Rattle.owner_book.specs.Book.{Book}
 use Rattle.merge_site.specs.declared.fault.ClaimStop.{ClaimStop}
 use Rattle.merge_site.specs.declared.fault.ClaimStop.TheVariants as claims
 use Rattle.group_run.specs.Causes.{IsOfGroup}
+use Rattle.group_run.specs.Granted.{IsLetIn}
 use Rattle.group_run.specs.Applied.{HasHistory, LeavesHistory, Recovers, number}
 use Rattle.group_run.specs.Went.{Went}
 use Rattle.group_run.specs.declared.stop.Stop.{Stop}
@@ -59,7 +60,7 @@ module _ (ps : List Installed) (f : Facts) (image : List Entry) (book : Book) (o
 
   went_of : WentFor book f (key_at (length ps)) image old new history end → Went Of old new history end
   went_of (inl w) = went_weaker (λ x. ⊥) Of (λ x none. absurd none) old new history end w
-  went_of (inr (files, groups, is_for, w)) = went_weaker _ Of (λ x is. (book, owners, (files, groups, is_for, is))) old new history end w
+  went_of (inr (files, groups, is_for, w)) = went_weaker (IsLetIn old.now.holds book groups files GROUP) Of (λ x is. (book, owners, (files, groups, is_for, is))) old new history end w
 
   claim_asks : (s : ClaimStop) → MayStop (stops.Claim s) → StopsAt ps f image m (stops.Claim s) → AsksMerge ps f image m (status_of_claim s)
   claim_asks claims.Device may h = absurd may
