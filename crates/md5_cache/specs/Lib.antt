@@ -1,3 +1,5 @@
+pub mod Entries
+pub mod EntryFaults
 pub mod FieldFaults
 pub mod Fields
 pub mod PairFaults
