@@ -5,6 +5,8 @@
 #![tactic(auto)]
 
 #[cfg(test)]
+mod entries;
+#[cfg(test)]
 mod entry_fields;
 #[cfg(test)]
 mod entry_pairs;
