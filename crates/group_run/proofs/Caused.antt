@@ -26,11 +26,10 @@ use Rattle.merge_site.specs.declared.fault.SiteFault.TheVariants as sites
 use Rattle.merge_site.specs.declared.fault.StageFault.{StageFault}
 use Rattle.merge_site.specs.declared.fault.StageFault.TheVariants as stages
 use Rattle.merge_site.specs.declared.group.SiteGroup.{SiteGroup}
-use Rattle.group_run.specs.Causes.{IsPlain, StopsRecord, StopsRun, StopsStages}
+use Rattle.group_run.specs.Causes.{IsPlain, StopsChanges, StopsRecord, StopsStages}
 use Rattle.group_run.specs.Granted.{wishes_for}
-use Rattle.group_run.specs.declared.files.Files.{Files}
 use Rattle.group_run.specs.Stops.{stop_of_site, stop_of_stage, stop_of_tree}
-use Rattle.group_run.specs.Working.{HasStaged, all_in, object_of, standing_at}
+use Rattle.group_run.specs.Working.{Changes, HasStaged, object_of, standing_at}
 use Rattle.group_run.specs.declared.stop.Stop.{Stop}
 use Rattle.group_run.specs.declared.stop.Stop.TheVariants as stops
 
@@ -48,39 +47,39 @@ tree_plain trees.Failed = tt
 tree_plain trees.Memory = tt
 
 -- a record that the site refused passes a limit
-pub record_stops : {T S : Type 0} (f : SiteFault) (a : Account T S) (files : List Entry) (g : ℕ) (removals : List (List ℕ)) → removals ≡ [] → HasStaged files (standing_at a g)
-    → (f ≡ sites.Limit → PassesLimit (put_content (machine_of a.keeping) g removals)) → StopsRecord g files (stop_of_site f)
-record_stops sites.Device a files g removals none has limit = tt
-record_stops sites.Limit a files g removals none has limit =
-    subst (λ (l : List (List ℕ)). PassesLimit (record { group = g; removals = l; placements = map placement_of files })) none
+pub record_stops : {T S : Type 0} (f : SiteFault) (a : Account T S) (c : Changes) (g : ℕ) (removals : List (List ℕ)) → removals ≡ c.removals → HasStaged c.files (standing_at a g)
+    → (f ≡ sites.Limit → PassesLimit (put_content (machine_of a.keeping) g removals)) → StopsRecord g c (stop_of_site f)
+record_stops sites.Device a c g removals is has limit = tt
+record_stops sites.Limit a c g removals is has limit =
+    subst (λ (l : List (List ℕ)). PassesLimit (record { group = g; removals = l; placements = map placement_of c.files })) is
     (subst (λ (l : List Placement). PassesLimit (record { group = g; removals = removals; placements = l })) has.placements (limit refl))
-record_stops sites.Memory a files g removals none has limit = tt
+record_stops sites.Memory a c g removals is has limit = tt
 
-pub plain_cause : (tells : Bool) (m : Map) (b : Book) (xs : List SiteGroup) (files : Files) (g : ℕ) (e : Stop) → IsPlain e → StopsRun tells m b xs files g e
-plain_cause tells m b xs files g stops.Device h = tt
-plain_cause tells m b xs files g stops.Output h = tt
-plain_cause tells m b xs files g (stops.Image bad) h = absurd h
-plain_cause tells m b xs files g (stops.Claim s) h = absurd h
-plain_cause tells m b xs files g stops.Limit h = absurd h
-plain_cause tells m b xs files g stops.Memory h = tt
+pub plain_cause : (tells : Bool) (m : Map) (b : Book) (xs : List SiteGroup) (c : Changes) (g : ℕ) (e : Stop) → IsPlain e → StopsChanges tells m b xs c g e
+plain_cause tells m b xs c g stops.Device h = tt
+plain_cause tells m b xs c g stops.Output h = tt
+plain_cause tells m b xs c g (stops.Image bad) h = absurd h
+plain_cause tells m b xs c g (stops.Claim s) h = absurd h
+plain_cause tells m b xs c g stops.Limit h = absurd h
+plain_cause tells m b xs c g stops.Memory h = tt
 
-pub staged_cause : (tells : Bool) (m : Map) (b : Book) (xs : List SiteGroup) (files : Files) (g : ℕ) (e : Stop) → StopsStages [] (all_in files) e → StopsRun tells m b xs files g e
-staged_cause tells m b xs files g stops.Device h = tt
-staged_cause tells m b xs files g stops.Output h = tt
-staged_cause tells m b xs files g (stops.Image bad) h = h
-staged_cause tells m b xs files g (stops.Claim s) h = absurd h
-staged_cause tells m b xs files g stops.Limit h =
-    let n = length-map (all_in files) placement_of in
+pub staged_cause : (tells : Bool) (m : Map) (b : Book) (xs : List SiteGroup) (c : Changes) (g : ℕ) (e : Stop) → StopsStages [] c.files e → StopsChanges tells m b xs c g e
+staged_cause tells m b xs c g stops.Device h = tt
+staged_cause tells m b xs c g stops.Output h = tt
+staged_cause tells m b xs c g (stops.Image bad) h = h
+staged_cause tells m b xs c g (stops.Claim s) h = absurd h
+staged_cause tells m b xs c g stops.Limit h =
+    let n = length-map c.files placement_of in
     inr (inl (omega (arith, h, n)))
-staged_cause tells m b xs files g stops.Memory h = tt
+staged_cause tells m b xs c g stops.Memory h = tt
 
-pub record_cause : (tells : Bool) (m : Map) (b : Book) (xs : List SiteGroup) (files : Files) (g : ℕ) (e : Stop) → StopsRecord g (all_in files) e → StopsRun tells m b xs files g e
-record_cause tells m b xs files g stops.Device h = tt
-record_cause tells m b xs files g stops.Output h = tt
-record_cause tells m b xs files g (stops.Image bad) h = absurd h
-record_cause tells m b xs files g (stops.Claim s) h = absurd h
-record_cause tells m b xs files g stops.Limit h = h
-record_cause tells m b xs files g stops.Memory h = tt
+pub record_cause : (tells : Bool) (m : Map) (b : Book) (xs : List SiteGroup) (c : Changes) (g : ℕ) (e : Stop) → StopsRecord g c e → StopsChanges tells m b xs c g e
+record_cause tells m b xs c g stops.Device h = tt
+record_cause tells m b xs c g stops.Output h = tt
+record_cause tells m b xs c g (stops.Image bad) h = absurd h
+record_cause tells m b xs c g (stops.Claim s) h = absurd h
+record_cause tells m b xs c g stops.Limit h = h
+record_cause tells m b xs c g stops.Memory h = tt
 
 -- ---- files that are staged one after the other
 

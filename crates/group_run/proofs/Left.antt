@@ -1,14 +1,17 @@
 -- What the groups of some turns leave: the map, the owners, and the rest of the run.
-use Rattle.std.proofs.Common.{◌≡◌, ◌⊎◌, ◌<◌, ◌≤◌, ◌++◌, ◌||◌, ◌∙◌, ℕ, zero, suc, Bool, false, cond, List, [], ◌∷◌, None, inl, inr, refl, sym, ap, subst, length, take, drop, get_or, map, is_some, append_assoc, append-nil, arith}
+use Rattle.std.proofs.Common.{◌≡◌, ◌⊎◌, ◌<◌, ◌≤◌, ◌++◌, ◌||◌, ◌∙◌, ℕ, zero, suc, Bool, true, false, cond, not, filter, Option, List, [], ◌∷◌, None, inl, inr, refl, sym, ap, subst, length, take, drop, get_or, map, is_some, append_assoc, append-nil, arith}
 use Rattle.std.specs.Map.{lookup}
 use Rattle.std.specs.Prelude.{bytes_eq}
 use Rattle.std.proofs.Math.Seq.{drop-cons, take-append_seam}
 use Rattle.std.proofs.lemmas.Bool.{cases_Bool, cases_eq, cond-false}
 use Rattle.std.proofs.lemmas.List.{length-append, map-append, take-append-drop}
+use Rattle.std.proofs.lemmas.Map.Entries.{lookup-filter-keys}
+use Rattle.std.proofs.lemmas.Slice.Eq.{bytes_eq-Decides}
 use Rattle.basics.specs.Members.{AreDistinct, Has}
 use Rattle.basics.proofs.Membership.{distinct-apart}
 use Rattle.file_tree.specs.Disk.{Map}
 use Rattle.file_tree.specs.Paths.{is_below}
+use Rattle.merge_record.specs.Judging.{is_in}
 use Rattle.merge_record.specs.Names.{jobs}
 use Rattle.merge_record.specs.declared.record.OwnerKey.{OwnerKey}
 use Rattle.journal.specs.Group.{Group, applied, with_group, with_groups}
@@ -16,12 +19,12 @@ use Rattle.owner_book.specs.Book.{Book, HasOwnersOf, HasSettled, Parts, key_in, 
 use Rattle.owner_book.specs.declared.wish.Wish.{Wish}
 use Rattle.merge_site.specs.declared.group.SiteGroup.{SiteGroup}
 use Rattle.group_run.specs.Applied.{number}
-use Rattle.group_run.specs.Causes.{IsOfGroup, StopsRun}
-use Rattle.group_run.specs.Granted.{MayMerge, wishes_in}
+use Rattle.group_run.specs.Causes.{IsOfGroup, StopsChanges}
+use Rattle.group_run.specs.Granted.{MayChange}
 use Rattle.group_run.specs.Lines.{IsBeginning}
 use Rattle.group_run.specs.Through.{settled_all}
-use Rattle.group_run.specs.Turns.{AreFirst, AreLetIn, StopsBehind, group_for, numbers, settled}
-use Rattle.group_run.specs.declared.files.Files.{Files}
+use Rattle.group_run.specs.Turns.{AreFirst, AreLetIn, StopsBehind, changes_of, group_for, numbers, settled}
+use Rattle.group_run.specs.Working.{Changes}
 use Rattle.group_run.specs.declared.stop.Stop.{Stop}
 use Rattle.group_run.specs.declared.stop.Stop.TheVariants as stops
 use Rattle.group_run.specs.declared.turn.Turn.{Turn}
@@ -100,33 +103,45 @@ left_outside m (t ∷ ts) q out =
 abbrev pair_of : Wish → List ℕ × OwnerKey
 pair_of w = (w.path, w.owner)
 
-named_first : (ws : List Wish) (owned : List (List ℕ × OwnerKey)) (q : List ℕ) → lookup (bytes_eq q) (map pair_of ws ++ owned) ≡ cond (is_some (key_in ws q) || false) (key_in ws q) (lookup (bytes_eq q) owned)
-named_first [] owned q = refl
-named_first (w ∷ ws) owned q = elim (cases_Bool (bytes_eq q w.path)) [
+named_first : (ws : List Wish) (rest : List (List ℕ × OwnerKey)) (q : List ℕ) (gone : Bool) (o : Option OwnerKey) → lookup (bytes_eq q) rest ≡ cond gone None o → lookup (bytes_eq q) (map pair_of ws ++ rest) ≡ cond (is_some (key_in ws q) || gone) (key_in ws q) o
+named_first [] rest q gone o is = is
+named_first (w ∷ ws) rest q gone o is = elim (cases_Bool (bytes_eq q w.path)) [
   | inl e ↦ rw (e) refl
-  | inr e ↦ rw (e) (named_first ws owned q)
+  | inr e ↦ rw (e) (named_first ws rest q gone o is)
 ]
 
-pub settled_has : (b : Book) (files : Files) → HasSettled b (settled files b) (record { placed = wishes_in files; removed = [] })
-settled_has b files q = named_first (wishes_in files) b.owned q
+unless : {A : Type 0} (gone : Bool) (o : Option A) → cond (not gone) o None ≡ cond gone None o
+unless true o = refl
+unless false o = refl
 
-pub settled_push : (ts : List Turn) (t : Turn) (b : Book) → settled_all (ts ++ t ∷ []) b ≡ settled t.files (settled_all ts b)
+-- the owners without those of the paths that go
+left_owned : (rs : List (List ℕ)) (owned : List (List ℕ × OwnerKey)) (q : List ℕ) → lookup (bytes_eq q) (filter (λ o. not (is_in rs o.0)) owned) ≡ cond (is_in rs q) None (lookup (bytes_eq q) owned)
+left_owned rs owned q =
+    lookup-filter-keys (bytes_eq q) (λ k. not (is_in rs k)) (not (is_in rs q)) (λ k same. ap (λ p. not (is_in rs p)) (sym ((bytes_eq-Decides q k).0 same))) owned
+    ∙ unless (is_in rs q) (lookup (bytes_eq q) owned)
+
+abbrev pub parts_in : Changes → Parts
+parts_in c = record { placed = c.wishes; removed = c.removals }
+
+pub settled_has : (b : Book) (c : Changes) → HasSettled b (settled c b) (parts_in c)
+settled_has b c q = named_first c.wishes (filter (λ o. not (is_in c.removals o.0)) b.owned) q (is_in c.removals q) (lookup (bytes_eq q) b.owned) (left_owned c.removals b.owned q)
+
+pub settled_push : (ts : List Turn) (t : Turn) (b : Book) → settled_all (ts ++ t ∷ []) b ≡ settled (changes_of t) (settled_all ts b)
 settled_push [] t b = refl
-settled_push (u ∷ ts) t b = settled_push ts t (settled u.files b)
+settled_push (u ∷ ts) t b = settled_push ts t (settled (changes_of u) b)
 
 -- owners that are settled further
-pub owners_push : (ts : List Turn) (t : Turn) (b old new : Book) → HasOwnersOf (settled_all ts b) old → HasSettled old new (record { placed = wishes_in t.files; removed = [] }) → HasOwnersOf (settled_all (ts ++ t ∷ []) b) new
+pub owners_push : (ts : List Turn) (t : Turn) (b old new : Book) → HasOwnersOf (settled_all ts b) old → HasSettled old new (parts_in (changes_of t)) → HasOwnersOf (settled_all (ts ++ t ∷ []) b) new
 owners_push ts t b old new owners more q =
-    let parts : Parts = record { placed = wishes_in t.files; removed = [] } in
     more q
-    ∙ (ap (settled_owner parts q) (owners q)
-    ∙ (sym (settled_has (settled_all ts b) t.files q) ∙ ap (λ (k : Book). owner_in k.owned q) (sym (settled_push ts t b))))
+    ∙ (ap (settled_owner (parts_in (changes_of t)) q) (owners q)
+    ∙ (sym (settled_has (settled_all ts b) (changes_of t) q) ∙ ap (λ (k : Book). owner_in k.owned q) (sym (settled_push ts t b))))
 
 -- ---- who was let in
 
-pub let_in_push : (m : Map) (b : Book) (groups : List SiteGroup) (ts : List Turn) (t : Turn) → AreLetIn m b groups ts → MayMerge (left_all m ts) (settled_all ts b) groups t.files t.group → AreLetIn m b groups (ts ++ t ∷ [])
+pub let_in_push : (m : Map) (b : Book) (groups : List SiteGroup) (ts : List Turn) (t : Turn) → AreLetIn m b groups ts → MayChange (left_all m ts) (settled_all ts b) groups (changes_of t) t.group → AreLetIn m b groups (ts ++ t ∷ [])
 let_in_push m b groups [] t all may = (may, tt)
-let_in_push m b groups (u ∷ ts) t all may = (all.0, let_in_push (applied m (group_for u ∷ [])) (settled u.files b) groups ts t all.1 may)
+let_in_push m b groups (u ∷ ts) t all may = (all.0, let_in_push (applied m (group_for u ∷ [])) (settled (changes_of u) b) groups ts t all.1 may)
 
 pub first_more : (m : Map) (b : Book) (groups : List SiteGroup) (ts us : List Turn) (xs : List Group) → AreFirst m b groups ts xs → AreFirst m b groups (ts ++ us) xs
 first_more m b groups ts us xs h = record {
@@ -139,23 +154,23 @@ first_more m b groups ts us xs h = record {
 
 -- ---- why a run ended
 
-pub plain_run : (tells : Bool) (m : Map) (b : Book) (groups : List SiteGroup) (files : Files) (g : ℕ) (e : Stop) → (IsOfGroup e → ⊥) → StopsRun tells m b groups files g e
-plain_run tells m b groups files g stops.Device h = tt
-plain_run tells m b groups files g stops.Output h = tt
-plain_run tells m b groups files g (stops.Image bad) h = absurd (h tt)
-plain_run tells m b groups files g (stops.Claim s) h = absurd (h tt)
-plain_run tells m b groups files g stops.Limit h = absurd (h tt)
-plain_run tells m b groups files g stops.Memory h = tt
+pub plain_run : (tells : Bool) (m : Map) (b : Book) (groups : List SiteGroup) (c : Changes) (g : ℕ) (e : Stop) → (IsOfGroup e → ⊥) → StopsChanges tells m b groups c g e
+plain_run tells m b groups c g stops.Device h = tt
+plain_run tells m b groups c g stops.Output h = tt
+plain_run tells m b groups c g (stops.Image bad) h = absurd (h tt)
+plain_run tells m b groups c g (stops.Claim s) h = absurd (h tt)
+plain_run tells m b groups c g stops.Limit h = absurd (h tt)
+plain_run tells m b groups c g stops.Memory h = tt
 
 pub plain_behind : (tells : Bool) (m : Map) (b : Book) (groups : List SiteGroup) (ts : List Turn) (n : ℕ) (e : Stop) → (IsOfGroup e → ⊥) → StopsBehind tells m b groups ts n e
 plain_behind tells m b groups [] n e h = h
-plain_behind tells m b groups (t ∷ ts) zero e h = plain_run tells m b groups t.files t.group e h
-plain_behind tells m b groups (t ∷ ts) (suc n) e h = plain_behind tells (applied m (group_for t ∷ [])) (settled t.files b) groups ts n e h
+plain_behind tells m b groups (t ∷ ts) zero e h = plain_run tells m b groups (changes_of t) t.group e h
+plain_behind tells m b groups (t ∷ ts) (suc n) e h = plain_behind tells (applied m (group_for t ∷ [])) (settled (changes_of t) b) groups ts n e h
 
-pub stops_behind : (tells : Bool) (m : Map) (b : Book) (groups : List SiteGroup) (ts us : List Turn) (t : Turn) (e : Stop) → StopsRun tells (left_all m ts) (settled_all ts b) groups t.files t.group e
+pub stops_behind : (tells : Bool) (m : Map) (b : Book) (groups : List SiteGroup) (ts us : List Turn) (t : Turn) (e : Stop) → StopsChanges tells (left_all m ts) (settled_all ts b) groups (changes_of t) t.group e
     → StopsBehind tells m b groups (ts ++ t ∷ us) (length ts) e
 stops_behind tells m b groups [] us t e h = h
-stops_behind tells m b groups (u ∷ ts) us t e h = stops_behind tells (applied m (group_for u ∷ [])) (settled u.files b) groups ts us t e h
+stops_behind tells m b groups (u ∷ ts) us t e h = stops_behind tells (applied m (group_for u ∷ [])) (settled (changes_of u) b) groups ts us t e h
 
 pub of_group_or_not : (e : Stop) → IsOfGroup e ⊎ (IsOfGroup e → ⊥)
 of_group_or_not stops.Device = inr (λ h. h)

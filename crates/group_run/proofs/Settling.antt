@@ -138,10 +138,10 @@ owners_same g a b works old new not still q =
     owners_on g a b works old new not q ∙ ap (λ (l : List ℕ). settled_by (parts_of b.keeping b.wishes) l q (owner_in a.book.owned q)) (none_done g a b works still)
 
 -- one that is done by then has its claim settled
-pub owners_settled : {T S : Type 0} (g : ℕ) (a b : Account T S) (ws : List Wish) → Works g a b → IsBooked a.keeping a.events a.wishes a.opened_book a.book → IsBooked b.keeping b.events b.wishes b.opened_book b.book
-    → is_over (standing_at a g).phase ≡ false → is_over (standing_at b g).phase ≡ true → wishes_at b.wishes g ≡ ws → (standing_at b g).removals ≡ [] → HasSettled a.book b.book (record { placed = ws; removed = [] })
-owners_settled g a b ws works old new not done wished none q =
+pub owners_settled : {T S : Type 0} (g : ℕ) (a b : Account T S) (ws : List Wish) (rs : List (List ℕ)) → Works g a b → IsBooked a.keeping a.events a.wishes a.opened_book a.book → IsBooked b.keeping b.events b.wishes b.opened_book b.book
+    → is_over (standing_at a g).phase ≡ false → is_over (standing_at b g).phase ≡ true → wishes_at b.wishes g ≡ ws → (standing_at b g).removals ≡ rs → HasSettled a.book b.book (record { placed = ws; removed = rs })
+owners_settled g a b ws rs works old new not done wished gone q =
     owners_on g a b works old new not q
     ∙ (ap (λ (l : List ℕ). settled_by (parts_of b.keeping b.wishes) l q (owner_in a.book.owned q)) (one_done g a b works not done)
     ∙ (ap (λ (l : List Wish). settled_owner (record { placed = l; removed = (standing_at b g).removals }) q (owner_in a.book.owned q)) wished
-    ∙ ap (λ (l : List (List ℕ)). settled_owner (record { placed = ws; removed = l }) q (owner_in a.book.owned q)) none))
+    ∙ ap (λ (l : List (List ℕ)). settled_owner (record { placed = ws; removed = l }) q (owner_in a.book.owned q)) gone))

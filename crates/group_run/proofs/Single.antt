@@ -9,10 +9,10 @@ use Rattle.owner_book.specs.Book.{Book}
 use Rattle.merge_core.specs.Keeping.{Keeping}
 use Rattle.merge_site.specs.declared.group.SiteGroup.{SiteGroup}
 use Rattle.group_run.specs.Applied.{AreOf, RecoversWith}
-use Rattle.group_run.specs.Causes.{HasCause, IsOfGroup}
-use Rattle.group_run.specs.Granted.{IsLetIn}
+use Rattle.group_run.specs.Causes.{HasCause, IsOfGroup, StopsChanges}
+use Rattle.group_run.specs.Granted.{IsAdmitted, IsLetIn, bringing, changes_in}
 use Rattle.group_run.specs.Lines.{IsBeginning}
-use Rattle.group_run.specs.Turns.{AreFirst, AreLetIn, HaveCause, group_for}
+use Rattle.group_run.specs.Turns.{AreFirst, AreLetIn, HaveCause, changes_of, group_for}
 use Rattle.group_run.specs.Went.{HasRun, HaveRun, Went, WentWith}
 use Rattle.group_run.specs.declared.stop.Stop.{Stop}
 use Rattle.group_run.specs.declared.turn.Turn.{Turn}
@@ -22,15 +22,17 @@ use Rattle.group_run.proofs.Told.{none_of, take_none}
 
 -- ---- who was let in
 
-first_of_one : (m : Map) (b : Book) (groups : List SiteGroup) (t : Turn) (xs : List Group) (first rest : List Turn) → t ∷ [] ≡ first ++ rest → xs ≡ map group_for first → AreLetIn m b groups first → AreOf (IsLetIn m b groups t.files t.group) xs
-first_of_one m b groups t xs [] rest split are all x has = absurd (subst (λ (l : List Group). Has l x) are has)
-first_of_one m b groups t xs (u ∷ []) rest split are all x has =
+first_of_one : (m : Map) (b : Book) (groups : List SiteGroup) (t : Turn) (xs : List Group) (first rest : List Turn) → t.removals.items ≡ [] → t ∷ [] ≡ first ++ rest → xs ≡ map group_for first → AreLetIn m b groups first → AreOf (IsLetIn m b groups t.files t.group) xs
+first_of_one m b groups t xs [] rest none split are all x has = absurd (subst (λ (l : List Group). Has l x) are has)
+first_of_one m b groups t xs (u ∷ []) rest none split are all x has =
     let same : u ≡ t = cc split in
     elim (subst (λ (l : List Group). Has l x) are has) [
-      | inl is ↦ subst (λ (v : Turn). IsLetIn m b groups v.files v.group x) same (sym is, all.0)
-      | inr none ↦ absurd none
+      | inl is ↦
+          subst (λ (l : List (List ℕ)). IsAdmitted m b groups (changes_in l t.files) t.group x) none
+          (subst (λ (v : Turn). IsAdmitted m b groups (changes_of v) v.group x) same (sym is, all.0))
+      | inr gone ↦ absurd gone
     ]
-first_of_one m b groups t xs (u ∷ v ∷ vs) rest split are all x has = let n = ap length split in absurd (omega (arith, n))
+first_of_one m b groups t xs (u ∷ v ∷ vs) rest none split are all x has = let n = ap length split in absurd (omega (arith, n))
 
 went_weaker : {A : Type 0} (P Q : List Group → Type 0) (old new : Story) (history : List ℕ) (end : Result A Stop) → ((xs : List Group) → P xs → Q xs) → WentWith P old new history end → WentWith Q old new history end
 went_weaker P Q old new history end so h = record {
@@ -40,10 +42,10 @@ went_weaker P Q old new history end so h = record {
   tree = λ healthy fed. let k = h.tree healthy fed in record { groups = k.groups; of = so k.groups k.of; are = k.are; reads = k.reads; untouched = k.untouched };
 }
 
-pub went_single : {A : Type 0} (m : Map) (b : Book) (groups : List SiteGroup) (t : Turn) (turns : List Turn) (old new : Story) (history : List ℕ) (end : Result A Stop) → turns ≡ t ∷ [] → WentWith (AreFirst m b groups turns) old new history end
+pub went_single : {A : Type 0} (m : Map) (b : Book) (groups : List SiteGroup) (t : Turn) (turns : List Turn) (old new : Story) (history : List ℕ) (end : Result A Stop) → t.removals.items ≡ [] → turns ≡ t ∷ [] → WentWith (AreFirst m b groups turns) old new history end
     → Went (IsLetIn m b groups t.files t.group) old new history end
-went_single m b groups t turns old new history end is =
-    went_weaker (AreFirst m b groups turns) (AreOf (IsLetIn m b groups t.files t.group)) old new history end (λ xs h. first_of_one m b groups t xs h.first h.rest (sym is ∙ h.split) h.are h.let_in)
+went_single m b groups t turns old new history end none is =
+    went_weaker (AreFirst m b groups turns) (AreOf (IsLetIn m b groups t.files t.group)) old new history end (λ xs h. first_of_one m b groups t xs h.first h.rest none (sym is ∙ h.split) h.are h.let_in)
 
 -- ---- the machine, and what was told
 
@@ -71,20 +73,20 @@ kept_single g history told (inr one) h = elim (one_first g h.0 told (h.1 ∙ ap 
 
 -- ---- why it was stopped
 
-cause_of_one : (tells : Bool) (m : Map) (b : Book) (groups : List SiteGroup) (t : Turn) (n : ℕ) (k : Option Keeping) (e : Stop) → HaveCause tells m b groups (t ∷ []) n k e → HasCause tells m b groups t.files t.group k e
-cause_of_one tells m b groups t n None e h = h
-cause_of_one tells m b groups t zero (Some k) e h = h
-cause_of_one tells m b groups t (suc n) (Some k) e h = plain_run tells m b groups t.files t.group e h
+cause_of_one : (tells : Bool) (m : Map) (b : Book) (groups : List SiteGroup) (t : Turn) (n : ℕ) (k : Option Keeping) (e : Stop) → t.removals.items ≡ [] → HaveCause tells m b groups (t ∷ []) n k e → HasCause tells m b groups t.files t.group k e
+cause_of_one tells m b groups t n None e none h = h
+cause_of_one tells m b groups t zero (Some k) e none h = subst (λ (l : List (List ℕ)). StopsChanges tells m b groups (changes_in l t.files) t.group e) none h
+cause_of_one tells m b groups t (suc n) (Some k) e none h = plain_run tells m b groups (bringing t.files) t.group e h
 
 early_of_one : (tells : Bool) (m : Map) (b : Book) (groups : List SiteGroup) (t : Turn) (n : ℕ) (k : Option Keeping) (e : Stop) → HaveCause tells m b groups (t ∷ []) n k e → IsOfGroup e → n ≡ 0
 early_of_one tells m b groups t n None e h is = absurd (subst IsOfGroup h is)
 early_of_one tells m b groups t zero (Some k) e h is = refl
 early_of_one tells m b groups t (suc n) (Some k) e h is = absurd (h is)
 
-pub cause_single : {A : Type 0} (tells : Bool) (m : Map) (b : Book) (groups : List SiteGroup) (t : Turn) (turns : List Turn) (n : ℕ) (k : Option Keeping) (end : Result A Stop) → turns ≡ t ∷ [] → IfErr end (HaveCause tells m b groups turns n k)
+pub cause_single : {A : Type 0} (tells : Bool) (m : Map) (b : Book) (groups : List SiteGroup) (t : Turn) (turns : List Turn) (n : ℕ) (k : Option Keeping) (end : Result A Stop) → t.removals.items ≡ [] → turns ≡ t ∷ [] → IfErr end (HaveCause tells m b groups turns n k)
     → IfErr end (HasCause tells m b groups t.files t.group k)
-cause_single tells m b groups t turns n k (Ok a) is h = tt
-cause_single tells m b groups t turns n k (Err e) is h = cause_of_one tells m b groups t n k e (subst (λ (l : List Turn). HaveCause tells m b groups l n k e) is h)
+cause_single tells m b groups t turns n k (Ok a) none is h = tt
+cause_single tells m b groups t turns n k (Err e) none is h = cause_of_one tells m b groups t n k e none (subst (λ (l : List Turn). HaveCause tells m b groups l n k e) is h)
 
 pub early_single : {A : Type 0} (tells : Bool) (m : Map) (b : Book) (groups : List SiteGroup) (t : Turn) (turns : List Turn) (history : List ℕ) (k : Option Keeping) (end : Result A Stop) → turns ≡ t ∷ []
     → IfErr end (HaveCause tells m b groups turns (length history) k) → IfErr end (λ e. IsOfGroup e → history ≡ [])

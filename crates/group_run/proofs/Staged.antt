@@ -24,7 +24,7 @@ use Rattle.merge_site.specs.declared.fault.SiteFault.{SiteFault}
 use Rattle.merge_site.specs.declared.fault.SiteFault.TheVariants as sites
 use Rattle.merge_site.specs.declared.fault.StageFault.{StageFault}
 use Rattle.merge_site.specs.declared.fault.StageFault.TheVariants as faults
-use Rattle.group_run.specs.Working.{HasStaged, IsInTurn, Works, group_in, group_of_event, is_shut, object_of, placing, standing_at}
+use Rattle.group_run.specs.Working.{Changes, HasStaged, IsInTurn, Works, changing, group_in, group_of_event, is_shut, object_of, standing_at}
 use Rattle.group_run.proofs.Worked.{at_after, early_on, group_kept, is_early, order_kept, settles, standing_after, worked, worked_failed, worked_stage, works_same}
 
 -- what holds of a group behind a call that may have been its event
@@ -69,13 +69,13 @@ early_record (Err sites.Limit) old new g removals at adds failed kept = early_sa
 early_record (Err sites.Memory) old new g removals at adds failed kept = early_same old new g (ap may_end at.phase) (kept (λ e. cc e))
 
 -- the group that has its record
-pub recorded_is : {T S : Type 0} (old new : Account T S) (files : List Entry) (g : ℕ) (removals : List (List ℕ)) → removals ≡ [] → HasStaged files (standing_at old g) → Adds old new (PutRecord g removals) true → group_in new g ≡ placing g files
-recorded_is old new files g removals none has adds =
+pub recorded_is : {T S : Type 0} (old new : Account T S) (c : Changes) (g : ℕ) (removals : List (List ℕ)) → removals ≡ c.removals → HasStaged c.files (standing_at old g) → Adds old new (PutRecord g removals) true → group_in new g ≡ changing g c
+recorded_is old new c g removals is has adds =
     let s = standing_after old new g (PutRecord g removals) _ adds (set_here (machine_of old.keeping).roll g _) in
     ap (group_of g) s
-    ∙ (ap (λ (l : List (List ℕ)). record { content = record { group = g; removals = l; placements = (standing_at old g).placements }; objects = (standing_at old g).objects }) none
-    ∙ (ap (λ (l : List Placement). record { content = record { group = g; removals = []; placements = l }; objects = (standing_at old g).objects }) has.placements
-    ∙ ap (λ (l : List Thing). record { content = record { group = g; removals = []; placements = map placement_of files }; objects = l }) has.objects))
+    ∙ (ap (λ (l : List (List ℕ)). record { content = record { group = g; removals = l; placements = (standing_at old g).placements }; objects = (standing_at old g).objects }) is
+    ∙ (ap (λ (l : List Placement). record { content = record { group = g; removals = c.removals; placements = l }; objects = (standing_at old g).objects }) has.placements
+    ∙ ap (λ (l : List Thing). record { content = record { group = g; removals = c.removals; placements = map placement_of c.files }; objects = l }) has.objects))
 
 -- the token of a group that has its record, and the group as it was
 pub record EarlyKept {T S : Type 0} (g : ℕ) (old new : Account T S) : Type 0 where

@@ -19,16 +19,16 @@ use Rattle.merge_core.specs.declared.step.Step.TheVariants as steps
 use Rattle.merge_site.specs.Site.{Account, StoodDuring}
 use Rattle.merge_site.specs.declared.group.SiteGroup.{SiteGroup}
 use Rattle.group_run.specs.Applied.{RecoversWith, number}
-use Rattle.group_run.specs.Causes.{IsOfGroup, StopsRun}
-use Rattle.group_run.specs.Granted.{IsLetIn, IsOutside, wishes_in}
+use Rattle.group_run.specs.Causes.{IsOfGroup, StopsChanges}
+use Rattle.group_run.specs.Granted.{IsAdmitted, IsOutside}
 use Rattle.group_run.specs.Through.{HasEnded, HasStood, IsThrough, settled_all}
-use Rattle.group_run.specs.Turns.{AreFirst, AreLetIn, StopsBehind, group_for, numbers}
+use Rattle.group_run.specs.Turns.{AreFirst, AreLetIn, StopsBehind, changes_of, group_for, numbers}
 use Rattle.group_run.specs.Working.{IsAlone, Works, group_in, is_shut, standing_at, stood_at}
 use Rattle.group_run.specs.declared.stop.Stop.{Stop}
 use Rattle.group_run.specs.declared.stop.Stop.TheVariants as stops
 use Rattle.group_run.specs.declared.turn.Turn.{Turn}
 use Rattle.group_run.proofs.Granted.{may_same, stops_same}
-use Rattle.group_run.proofs.Left.{first_more, groups_push, has_or_not, has_take, left_all, left_outside, let_in_push, numbers_of, numbers_then, of_group_or_not, owners_push, plain_behind, stops_behind}
+use Rattle.group_run.proofs.Left.{first_more, groups_push, has_or_not, has_take, left_all, left_outside, let_in_push, numbers_of, numbers_then, of_group_or_not, owners_push, parts_in, plain_behind, stops_behind}
 use Rattle.group_run.proofs.Stood.{Grew, IsNext, Rests, come_along, committed_next, committed_rests, during_next, during_split}
 use Rattle.merge_core.proofs.Images.{settled_opened}
 use Rattle.group_run.proofs.Worked.{run_on}
@@ -89,7 +89,7 @@ module _ {T S : Type 0} (tells : Bool) (opening : Map) (ts : List Turn) (a : Acc
 -- ---- one turn more
 
 module _ {T S : Type 0} (tells : Bool) (opening : Map) (ts us : List Turn) (t : Turn) (a b : Account T S) (through : IsThrough tells opening ts a) (new : Has (numbers ts) t.group → ⊥) (works : Works t.group a b)
-    (let_in : IsTrue tells → was_opened (standing_at b t.group).phase ≡ true → IsLetIn (stood_at opening a) a.book a.groups t.files t.group (group_in b t.group)) where
+    (let_in : IsTrue tells → was_opened (standing_at b t.group).phase ≡ true → IsAdmitted (stood_at opening a) a.book a.groups (changes_of t) t.group (group_in b t.group)) where
   abbrev g : ℕ
   g = t.group
 
@@ -109,7 +109,7 @@ module _ {T S : Type 0} (tells : Bool) (opening : Map) (ts us : List Turn) (t : 
   may_now : IsTrue tells → was_opened (standing_at b g).phase ≡ true → AreLetIn opening a.opened_book a.groups (ts ++ t ∷ [])
   may_now tl opened =
       let_in_push opening a.opened_book a.groups ts t (through.let_in tl)
-      (may_same (stood_at opening a) (left_all opening ts) a.book (settled_all ts a.opened_book) a.groups t.files g (outside_now tells opening ts a through) through.owners (let_in tl opened).1)
+      (may_same (stood_at opening a) (left_all opening ts) a.book (settled_all ts a.opened_book) a.groups (changes_of t) g (outside_now tells opening ts a through) through.owners (let_in tl opened).1)
 
   next_first : IsTrue tells → (ys : List Group) → IsNext a.keeping.order g r ys → AreFirst opening b.opened_book b.groups (ts ++ t ∷ us) ys
   next_first tl ys (inl same) = first_here (ts ++ t ∷ us) ys (record { first = ts; rest = t ∷ us; split = refl; are = same ∙ through.order; let_in = through.let_in tl })
@@ -180,22 +180,22 @@ module _ {T S : Type 0} (tells : Bool) (opening : Map) (ts us : List Turn) (t : 
       not (subst (λ (l : List ℕ). Has (take n l) h) (sym whole) (has_take (numbers (ts ++ t ∷ [])) (numbers us) n h (omega (arith, long, lt)) has)))
 
   -- why it ended, where it did
-  pub cause_on : {A : Type 0} (end : Result A Stop) (history : List ℕ) → IfErr end (λ e. IsOfGroup e → history ≡ numbers ts) → IfErr end (StopsRun tells (stood_at opening a) a.book a.groups t.files g)
+  pub cause_on : {A : Type 0} (end : Result A Stop) (history : List ℕ) → IfErr end (λ e. IsOfGroup e → history ≡ numbers ts) → IfErr end (StopsChanges tells (stood_at opening a) a.book a.groups (changes_of t) g)
       → IfErr end (StopsBehind tells opening b.opened_book b.groups (ts ++ t ∷ us) (length history))
   cause_on (Ok x) history early cause = tt
   cause_on (Err e) history early cause = elim (of_group_or_not e) [
     | inl is ↦
         subst (λ (n : ℕ). StopsBehind tells opening b.opened_book b.groups (ts ++ t ∷ us) n e) (sym (ap length (early is) ∙ length-map ts (λ (u : Turn). u.group)))
-        (stops_behind tells opening b.opened_book b.groups ts us t e (subst (λ (k : Book). StopsRun tells (left_all opening ts) (settled_all ts k) b.groups t.files g e) (sym works.opened_book)
-        (subst (λ (l : List SiteGroup). StopsRun tells (left_all opening ts) (settled_all ts a.opened_book) l t.files g e) (sym works.groups)
-        (stops_same tells (stood_at opening a) (left_all opening ts) a.book (settled_all ts a.opened_book) a.groups t.files g e (outside_now tells opening ts a through) through.owners cause))))
+        (stops_behind tells opening b.opened_book b.groups ts us t e (subst (λ (k : Book). StopsChanges tells (left_all opening ts) (settled_all ts k) b.groups (changes_of t) g e) (sym works.opened_book)
+        (subst (λ (l : List SiteGroup). StopsChanges tells (left_all opening ts) (settled_all ts a.opened_book) l (changes_of t) g e) (sym works.groups)
+        (stops_same tells (stood_at opening a) (left_all opening ts) a.book (settled_all ts a.opened_book) a.groups (changes_of t) g e (outside_now tells opening ts a through) through.owners cause))))
     | inr not ↦ plain_behind tells opening b.opened_book b.groups (ts ++ t ∷ us) (length history) e not
   ]
 
 -- the site is through with one turn more
 module _ {T S : Type 0} (tells : Bool) (opening : Map) (ts : List Turn) (t : Turn) (a b : Account T S) (through : IsThrough tells opening ts a) (new : Has (numbers ts) t.group → ⊥) (works : Works t.group a b)
-    (let_in : IsTrue tells → was_opened (standing_at b t.group).phase ≡ true → IsLetIn (stood_at opening a) a.book a.groups t.files t.group (group_in b t.group))
-    (at : IsAt b.keeping t.group phases.Told) (group : group_in b t.group ≡ group_for t) (settled : HasSettled a.book b.book (record { placed = wishes_in t.files; removed = [] })) where
+    (let_in : IsTrue tells → was_opened (standing_at b t.group).phase ≡ true → IsAdmitted (stood_at opening a) a.book a.groups (changes_of t) t.group (group_in b t.group))
+    (at : IsAt b.keeping t.group phases.Told) (group : group_in b t.group ≡ group_for t) (settled : HasSettled a.book b.book (parts_in (changes_of t))) where
   order_through : b.keeping.order ≡ map group_for (ts ++ t ∷ [])
   order_through = elim (come tells opening ts [] t a b through new works let_in).1 [
     | inl before ↦ absurd (cc (before.1, ap is_settled at.phase))

@@ -2,8 +2,8 @@
 use Rattle.std.proofs.Common.{◌≡◌, ℕ, Bool, true, false, List, [], ◌∷◌, refl, sym, ap, ◌∙◌, inl, inr}
 use Rattle.std.proofs.lemmas.Bool.{cases_Bool}
 use Rattle.merge_core.specs.Event.{Abandon, Acknowledge, Begin, Claim, CloseGate, Event, OpenGate, PlacePath, PutRecord, PutStage, PutToken, RemovePath, SyncClosed, SyncGate, SyncPlaced, SyncSealed, answered, begun, done}
-use Rattle.merge_core.specs.Phase.{Phase, Idle, Building, Recorded, Marked, Sealed, Claimed, GatePut, Open, Placed, GateTaken, Done, Told, Abandoned, Redo, Redone, Odd, Emptied, is_settled, may_end, was_opened}
-use Rattle.merge_core.specs.Roll.{Machine, Roll, Standing, group_at, group_of, phase_at, set}
+use Rattle.merge_core.specs.Phase.{Phase, Idle, Building, Recorded, Marked, Sealed, Claimed, GatePut, Open, Placed, GateTaken, Done, Told, Abandoned, Redo, Redone, Odd, Emptied, may_end, was_opened}
+use Rattle.merge_core.specs.Roll.{Machine, Roll, Standing, group_at, phase_at, set}
 use Rattle.merge_core.specs.Trail.{Entry, machine_after}
 use Rattle.merge_core.proofs.Standings.{by_group}
 use Rattle.merge_core.proofs.Stays.{Stays, on_stays, shut_stays, stays_then}

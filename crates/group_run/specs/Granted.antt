@@ -1,4 +1,4 @@
--- When a package's group may be merged.
+-- When a group may be merged.
 use Rattle.std.specs.Prelude.{◌≡◌, ◌++◌, ℕ, Bool, true, false, List, [], None, map}
 use Rattle.std.specs.List.{AllByRecursion}
 use Rattle.file_tree.specs.Disk.{Map}
@@ -14,7 +14,7 @@ use Rattle.merge_site.specs.Booking.{dying_at, wish_for, wishes_at}
 use Rattle.merge_site.specs.Claiming.{IsClearFor, MayClaim}
 use Rattle.merge_site.specs.Site.{Account}
 use Rattle.merge_site.specs.declared.group.SiteGroup.{SiteGroup}
-use Rattle.group_run.specs.Working.{IsAlone, all_in, group_in, placing}
+use Rattle.group_run.specs.Working.{Changes, IsAlone, all_in, changing, group_in, placing}
 use Rattle.group_run.specs.declared.files.Files.{Files}
 
 -- the wishes for the paths of some files
@@ -26,6 +26,15 @@ abbrev pub wishes_in : Files → List Wish
 wishes_in files = wishes_for files.owner false files.image.items ++
     wishes_for files.owner true files.folder.items
 
+-- the changes of a group that removes these paths and brings this package
+abbrev pub changes_in : List (List ℕ) → Files → Changes
+changes_in removals files =
+    record { removals = removals; files = all_in files; wishes = wishes_in files }
+
+-- the changes of a group that brings this package and removes nothing
+abbrev pub bringing : Files → Changes
+bringing files = changes_in [] files
+
 -- a book with the owners of the opened one, and no claim
 pub record IsUnclaimed (opened book : Book) : Type 0 where
   pub owners : HasOwnersOf opened book
@@ -35,27 +44,37 @@ pub record IsUnclaimed (opened book : Book) : Type 0 where
 abbrev pub IsOutside : Map → Map → Type 0
 IsOutside opening m = (q : List ℕ) → is_below jobs q ≡ false → m q ≡ opening q
 
--- the claim of a package's group is granted over a map and the owners of a book: its files may be
--- placed, the book takes their paths, and nothing that nobody owns was in their way
-pub record MayMerge (opening : Map) (opened : Book) (groups : List SiteGroup) (files : Files)
+-- the claim of a group with these changes is granted over a map and the owners of a book: its files
+-- may be placed, the book takes their paths and lets the removed ones go, and nothing that nobody
+-- owns was in their way
+pub record MayChange (opening : Map) (opened : Book) (groups : List SiteGroup) (c : Changes)
     (g : ℕ) : Type 0 where
-  pub good : AreGood (all_in files)
+  pub good : AreGood c.files
   pub book : Book
   pub unclaimed : IsUnclaimed opened book
-  pub granted : MayClaim book (dying_at groups g) (wishes_in files) []
+  pub granted : MayClaim book (dying_at groups g) c.wishes c.removals
   pub tree : Map
   pub outside : IsOutside opening tree
-  pub clear : AllByRecursion (IsClearFor tree (owner_in book.owned)) (wishes_in files)
+  pub clear : AllByRecursion (IsClearFor tree (owner_in book.owned)) c.wishes
+
+-- the group makes just these changes, and may be merged
+abbrev pub IsAdmitted : Map → Book → List SiteGroup → Changes → ℕ → Group → Type 0
+IsAdmitted opening opened groups c g x =
+    (x ≡ changing g c) × MayChange opening opened groups c g
+
+-- the claim of a package's group is granted, where it removes nothing
+abbrev pub MayMerge : Map → Book → List SiteGroup → Files → ℕ → Type 0
+MayMerge opening opened groups files g = MayChange opening opened groups (bringing files) g
 
 -- the group places just what the package has, and may be merged
 abbrev pub IsLetIn : Map → Book → List SiteGroup → Files → ℕ → Group → Type 0
 IsLetIn opening opened groups files g x =
     (x ≡ placing g (all_in files)) × MayMerge opening opened groups files g
 
--- a site has staged all that a package places and wishes, which may be placed, and no other group
--- of it is under way
-pub record HasBuilt {T S : Type 0} (files : Files) (g : ℕ) (a : Account T S) : Type 0 where
-  pub placed : group_in a g ≡ placing g (all_in files)
-  pub wished : wishes_at a.wishes g ≡ wishes_in files
-  pub good : AreGood (all_in files)
+-- a group of a site has put its record of these changes and all that it wishes, its files may be
+-- placed, and no other group is under way
+pub record HasBuilt {T S : Type 0} (c : Changes) (g : ℕ) (a : Account T S) : Type 0 where
+  pub changed : group_in a g ≡ changing g c
+  pub wished : wishes_at a.wishes g ≡ c.wishes
+  pub good : AreGood c.files
   pub alone : IsAlone g a

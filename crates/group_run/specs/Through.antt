@@ -11,7 +11,7 @@ use Rattle.merge_core.specs.Roll.{Stands, idle, resting}
 use Rattle.merge_site.specs.Booking.{wishes_at}
 use Rattle.merge_site.specs.Site.{Account, StoodDuring}
 use Rattle.group_run.specs.Applied.{RecoversWith, number}
-use Rattle.group_run.specs.Turns.{AreFirst, AreLetIn, group_for, numbers, settled}
+use Rattle.group_run.specs.Turns.{AreFirst, AreLetIn, changes_of, group_for, numbers, settled}
 use Rattle.group_run.specs.Working.{IsRun, is_shut, standing_at}
 use Rattle.group_run.specs.declared.stop.Stop.{Stop}
 use Rattle.group_run.specs.declared.stop.Stop.TheVariants as stops
@@ -24,7 +24,7 @@ HasRoom n list = vec_len list + n ≤ vec_capacity list
 -- the owners once the claims of these groups are settled, one after the other
 abbrev pub settled_all : List Turn → Book → Book
 settled_all [] b = b
-settled_all (t ∷ ts) b = settled_all ts (settled t.files b)
+settled_all (t ∷ ts) b = settled_all ts (settled (changes_of t) b)
 
 -- a site with the groups, the tree and the book of another one
 pub record IsSameSite {T S : Type 0} (old new : Account T S) : Type 0 where

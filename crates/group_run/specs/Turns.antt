@@ -1,15 +1,15 @@
 -- Groups that are merged one after another.
-use Rattle.std.specs.Prelude.{◌≡◌, ◌++◌, ℕ, zero, suc, Bool, List, [], ◌∷◌, map}
+use Rattle.std.specs.Prelude.{◌≡◌, ◌++◌, ℕ, zero, suc, Bool, List, [], ◌∷◌, filter, map, not}
 use Rattle.std.specs.Prelude.{Option, Some, None, ⊤}
 use Rattle.file_tree.specs.Disk.{Map}
 use Rattle.journal.specs.Group.{Group, applied}
+use Rattle.merge_record.specs.Judging.{is_in}
 use Rattle.owner_book.specs.Book.{Book}
 use Rattle.merge_core.specs.Keeping.{Keeping}
 use Rattle.merge_site.specs.declared.group.SiteGroup.{SiteGroup}
-use Rattle.group_run.specs.Causes.{IsOfGroup, StopsRun}
-use Rattle.group_run.specs.Granted.{MayMerge, wishes_in}
-use Rattle.group_run.specs.Working.{all_in, placing}
-use Rattle.group_run.specs.declared.files.Files.{Files}
+use Rattle.group_run.specs.Causes.{IsOfGroup, StopsChanges}
+use Rattle.group_run.specs.Granted.{MayChange, changes_in}
+use Rattle.group_run.specs.Working.{Changes, changing}
 use Rattle.group_run.specs.declared.stop.Stop.{Stop}
 use Rattle.group_run.specs.declared.stop.Stop.TheVariants as stops
 use Rattle.group_run.specs.declared.turn.Turn.{Turn}
@@ -17,14 +17,20 @@ use Rattle.group_run.specs.declared.turn.Turn.{Turn}
 abbrev pub numbers : List Turn → List ℕ
 numbers turns = map (λ t. t.group) turns
 
--- the group of a turn: it places just what its package has
-abbrev pub group_for : Turn → Group
-group_for t = placing t.group (all_in t.files)
+-- what a turn changes: its paths go, and all that its package has comes
+abbrev pub changes_of : Turn → Changes
+changes_of t = changes_in t.removals.items t.files
 
--- the owners once the claim of a package is settled: each of its paths has the one that it names
-abbrev pub settled : Files → Book → Book
-settled files b = record {
-  owned = map (λ w. (w.path, w.owner)) (wishes_in files) ++ b.owned;
+-- the group of a turn: it makes just these changes
+abbrev pub group_for : Turn → Group
+group_for t = changing t.group (changes_of t)
+
+-- the owners once the claim of a group is settled: each path that comes has the one that it names,
+-- and each that goes has none
+abbrev pub settled : Changes → Book → Book
+settled c b = record {
+  owned = map (λ w. (w.path, w.owner)) c.wishes ++
+      filter (λ o. not (is_in c.removals o.0)) b.owned;
   claims = [];
 }
 
@@ -32,8 +38,8 @@ settled files b = record {
 abbrev pub AreLetIn : Map → Book → List SiteGroup → List Turn → Type 0
 AreLetIn m b groups [] = ⊤
 AreLetIn m b groups (t ∷ ts) =
-    MayMerge m b groups t.files t.group ×
-    AreLetIn (applied m (group_for t ∷ [])) (settled t.files b) groups ts
+    MayChange m b groups (changes_of t) t.group ×
+    AreLetIn (applied m (group_for t ∷ [])) (settled (changes_of t) b) groups ts
 
 -- these are the groups of the first turns, in their order, and the claim of each is granted
 pub record AreFirst (m : Map) (b : Book) (groups : List SiteGroup) (turns : List Turn)
@@ -48,9 +54,10 @@ pub record AreFirst (m : Map) (b : Book) (groups : List SiteGroup) (turns : List
 -- map and the owners that those left
 abbrev pub StopsBehind : Bool → Map → Book → List SiteGroup → List Turn → ℕ → Stop → Type 0
 StopsBehind tells m b groups [] n e = ¬ IsOfGroup e
-StopsBehind tells m b groups (t ∷ ts) zero e = StopsRun tells m b groups t.files t.group e
+StopsBehind tells m b groups (t ∷ ts) zero e =
+    StopsChanges tells m b groups (changes_of t) t.group e
 StopsBehind tells m b groups (t ∷ ts) (suc n) e =
-    StopsBehind tells (applied m (group_for t ∷ [])) (settled t.files b) groups ts n e
+    StopsBehind tells (applied m (group_for t ∷ [])) (settled (changes_of t) b) groups ts n e
 
 -- where no site was opened, it is for want of memory
 abbrev pub HaveCause : Bool → Map → Book → List SiteGroup → List Turn → ℕ → Option Keeping →

@@ -17,6 +17,7 @@ use Rattle.merge_core.specs.Roll.{Machine, Standing, group_of, idle, phase_at, s
 use Rattle.merge_core.specs.Trail as trail
 use Rattle.merge_core.specs.Trail.{machine_after}
 use Rattle.group_run.specs.declared.files.Files.{Files}
+use Rattle.owner_book.specs.declared.wish.Wish.{Wish}
 use Rattle.merge_site.specs.Booking.{wishes_at}
 use Rattle.merge_site.specs.Site.{Account}
 use Rattle.merge_site.specs.Staging.{placement_of}
@@ -113,6 +114,23 @@ pub record Works {T S : Type 0} (g : ℕ) (old new : Account T S) : Type 0 where
 
 abbrev pub object_of : Entry → Thing
 object_of e = e.object
+
+-- what a group is to change: the paths that go, the files that come, and who is to own each of them
+pub record Changes : Type 0 where
+  pub removals : List (List ℕ)
+  pub files : List Entry
+  pub wishes : List Wish
+
+-- the group with this number that makes these changes
+abbrev pub changing : ℕ → Changes → Group
+changing g c = record {
+  content = record {
+    group = g;
+    removals = c.removals;
+    placements = map placement_of c.files;
+  };
+  objects = map object_of c.files;
+}
 
 -- the group with this number that places these files and removes nothing
 abbrev pub placing : ℕ → List Entry → Group

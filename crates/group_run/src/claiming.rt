@@ -3,10 +3,10 @@ ghost use Rattle.file_tree.specs.Disk.{CountsFault};
 ghost use Rattle.merge_core.specs.Payloads.{IsAt};
 ghost use Rattle.merge_core.specs.Phase.{was_opened};
 ghost use Rattle.merge_core.specs.declared.phase.Phase.TheVariants as phases;
-ghost use Rattle.group_run.specs.Causes.{StopsRun};
-ghost use Rattle.group_run.specs.Granted.{HasBuilt, MayMerge};
-ghost use Rattle.group_run.specs.declared.files.Files.{Files};
-ghost use Rattle.group_run.specs.Working.{Works, group_in, is_shut, standing_at, stood_at};
+ghost use Rattle.group_run.specs.Causes.{StopsChanges};
+ghost use Rattle.group_run.specs.Granted.{HasBuilt, MayChange};
+ghost use Rattle.group_run.specs.Working.{Changes, Works, group_in, is_shut, standing_at};
+ghost use Rattle.group_run.specs.Working.{stood_at};
 
 use crate::stop::Stop;
 use file_tree::{Sink, Tree};
@@ -22,12 +22,12 @@ pub(crate) fn claim<T: Tree, S: Sink>(site: &mut Site<T, S>, group: u32) -> Resu
     ensures shut { is_shut (standing_at site.new group).phase ≡ true }
     ensures unopened { was_opened (standing_at site.new group).phase ≡ false }
     ensures quiet { IfErr result (λ e. ¬ (e ≡ Stop.Output)) }
-    ensures granted { (files : Files) → HasBuilt files group site.old → IsTrue T.tells →
-        OnOk result (MayMerge (stood_at (T.story site.old.opened).now.holds site.old)
-        site.old.book site.old.groups files group) }
-    ensures cause { (files : Files) → HasBuilt files group site.old →
-        IfErr result (StopsRun T.tells (stood_at (T.story site.old.opened).now.holds site.old)
-        site.old.book site.old.groups files group) }
+    ensures granted { (c : Changes) → HasBuilt c group site.old → IsTrue T.tells →
+        OnOk result (MayChange (stood_at (T.story site.old.opened).now.holds site.old)
+        site.old.book site.old.groups c group) }
+    ensures cause { (c : Changes) → HasBuilt c group site.old →
+        IfErr result (StopsChanges T.tells (stood_at (T.story site.old.opened).now.holds site.old)
+        site.old.book site.old.groups c group) }
     ensures sink { site.new.sink ≡ site.old.sink }
     ensures faults { CountsFault (IsErrOf result Stop.Device) (T.faults site.old.tree)
         (T.faults site.new.tree) }

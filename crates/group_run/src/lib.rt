@@ -1,5 +1,6 @@
 //! Groups merged one after another into a tree at rest through one site, from the beginning of the
-//! first to the cleared journal; and one group, as the run of just that.
+//! first to the cleared journal; and one group, as the run of just that. A group brings a package,
+//! and removes the paths that go with it.
 //!
 //! **A contract sees** the tree as its story, the groups that a crash leaves and the tree holds
 //! (`WentWith`, and `Went` of one group), the sink as the bytes that it took, and the machine as its
@@ -10,14 +11,17 @@
 //! device failed just these; unless memory ran out either, the tree reads so, with no journal and
 //! nothing unsynced. A group is applied only where its claim is granted over what those before it
 //! left (`AreLetIn`): a book that has the owners from before the run, and these groups' paths as
-//! their own, takes its paths, and nothing that nobody owns was in its way in the tree with them.
+//! their own, takes its paths and lets its removals go, and nothing that nobody owns was in its way
+//! in the tree with them. What a group removed is nobody's then, and free for the next one.
 //! The history is the machine's order, whatever failed. The first group that is stopped ends the
-//! run: no later one has begun. The acknowledged groups are the first of the history; what was
-//! written is their lines, and then some beginning of the next one's. A run that a file, a limit or
+//! run: no later one has begun. The acknowledged groups are the first of the history, and all of it
+//! where a group was stopped for what it has; what was written is their lines, and then some
+//! beginning of the next one's. A run that a file, a limit or
 //! a claim stopped has its cause, over what the groups of the history left (`StopsBehind`); only
 //! want of memory comes without one.
 //!
-//! **Only tested**: with ample memory a group is merged, or refused for its first collision.
+//! **Only tested**: with ample memory a group is merged, or refused for its first collision, and a
+//! package goes whose path the next group takes.
 //!
 //! ```
 //! let merged = merge_groups(alloc, tree, sink, batch);

@@ -7,26 +7,25 @@ ghost use Rattle.merge_core.specs.Steps.{IsTaken};
 ghost use Rattle.merge_core.specs.declared.phase.Phase.TheVariants as phases;
 ghost use Rattle.merge_core.specs.declared.step.Step.TheVariants as steps;
 ghost use Rattle.merge_site.specs.Booking.{wishes_at};
-ghost use Rattle.group_run.specs.Causes.{StopsRun};
-ghost use Rattle.group_run.specs.Granted.{MayMerge, wishes_in};
-ghost use Rattle.group_run.specs.Working.{IsAlone, Works, all_in, group_in, is_shut, placing};
+ghost use Rattle.group_run.specs.Causes.{StopsChanges};
+ghost use Rattle.group_run.specs.Granted.{MayChange, changes_in, wishes_in};
+ghost use Rattle.group_run.specs.Working.{IsAlone, Works, changing, group_in, is_shut};
 ghost use Rattle.group_run.specs.Working.{standing_at, stood_at};
 
 use crate::claiming::claim;
 use crate::files::Files;
-use crate::opening::{close, open, place_paths, settle};
+use crate::opening::{open, place_paths, remove_paths, settle};
 use crate::sealing::{mark, record};
 use crate::staging::{begin, stage_files};
 use crate::stop::Stop;
-use file_tree::{Sink, Tree};
+use file_tree::{Path, Sink, Tree};
 use merge_site::Site;
-use std::alloc::Global;
 
 /// Begins a group, makes all that it needs in the journal durable, and claims its paths.
 pub(crate) fn build<T: Tree, S: Sink>(
-    alloc: Global,
     site: &mut Site<T, S>,
     group: u32,
+    removals: Vec<Path>,
     files: Files,
 ) -> Result<(), Stop>
     requires taken { IsTaken site.old.keeping group steps.Begin }
@@ -36,17 +35,18 @@ pub(crate) fn build<T: Tree, S: Sink>(
     ensures works { Works group site.old site.new }
     ensures order { site.new.keeping.order ≡ site.old.keeping.order }
     ensures at { OnOk result (IsAt site.new.keeping group phases.Claimed) }
-    ensures group { OnOk result (group_in site.new group ≡ placing group (all_in files)) }
+    ensures group { OnOk result
+        (group_in site.new group ≡ changing group (changes_in removals.items files)) }
     ensures shut { is_shut (standing_at site.new group).phase ≡ true }
     ensures unopened { was_opened (standing_at site.new group).phase ≡ false }
     ensures quiet { IfErr result (λ e. ¬ (e ≡ Stop.Output)) }
     ensures wishes { OnOk result (wishes_at site.new.wishes group ≡ wishes_in files) }
     ensures let_in { IsTrue T.tells → OnOk result
-        (MayMerge (stood_at (T.story site.old.opened).now.holds site.old) site.old.book
-        site.old.groups files group) }
-    ensures cause { IfErr result (StopsRun T.tells
+        (MayChange (stood_at (T.story site.old.opened).now.holds site.old) site.old.book
+        site.old.groups (changes_in removals.items files) group) }
+    ensures cause { IfErr result (StopsChanges T.tells
         (stood_at (T.story site.old.opened).now.holds site.old) site.old.book site.old.groups
-        files group) }
+        (changes_in removals.items files) group) }
     ensures sink { site.new.sink ≡ site.old.sink }
     ensures faults { CountsFault (IsErrOf result Stop.Device) (T.faults site.old.tree)
         (T.faults site.new.tree) }
@@ -54,7 +54,7 @@ pub(crate) fn build<T: Tree, S: Sink>(
     site.promise();
     begin(site, group);
     stage_files(site, group, files)?;
-    record(alloc, site, group)?;
+    record(site, group, removals)?;
     mark(site, group)?;
     site.promise();
     claim(site, group)
@@ -63,7 +63,6 @@ pub(crate) fn build<T: Tree, S: Sink>(
 /// Brings a claimed group into the tree for good.
 pub(crate) fn commit<T: Tree, S: Sink>(site: &mut Site<T, S>, group: u32) -> Result<(), Stop>
     requires at { IsAt site.old.keeping group phases.Claimed }
-    requires none { (standing_at site.old group).removals ≡ [] }
     ensures works { Works group site.old site.new }
     ensures settled { OnOk result
         (site.new.keeping.order ≡ site.old.keeping.order ++ group_in site.old group ∷ []) }
@@ -77,5 +76,6 @@ pub(crate) fn commit<T: Tree, S: Sink>(site: &mut Site<T, S>, group: u32) -> Res
 {
     open(site, group)?;
     place_paths(site, group)?;
+    remove_paths(site, group)?;
     settle(site, group)
 }

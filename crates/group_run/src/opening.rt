@@ -27,7 +27,7 @@ pub(crate) fn open<T: Tree, S: Sink>(site: &mut Site<T, S>, group: u32) -> Resul
     Ok(())
 }
 
-/// Places all paths of an open group that removes nothing.
+/// Places all paths of an open group.
 pub(crate) fn place_paths<T: Tree, S: Sink>(site: &mut Site<T, S>, group: u32) -> Result<(), Stop>
     requires at { IsAt site.old.keeping group phases.Open }
     requires placed { (standing_at site.old group).placed ≡ 0 }
@@ -51,13 +51,39 @@ pub(crate) fn place_paths<T: Tree, S: Sink>(site: &mut Site<T, S>, group: u32) -
     Ok(())
 }
 
+/// Removes the paths of an open group that go with it, behind its places.
+pub(crate) fn remove_paths<T: Tree, S: Sink>(site: &mut Site<T, S>, group: u32) -> Result<(), Stop>
+    requires at { IsAt site.old.keeping group phases.Open }
+    requires placed { (standing_at site.old group).placed ≡
+        length (standing_at site.old group).placements }
+    requires removed { (standing_at site.old group).removed ≡ 0 }
+    ensures works { Works group site.old site.new }
+    ensures order { site.new.keeping.order ≡ site.old.keeping.order }
+    ensures at { OnOk result (IsAt site.new.keeping group phases.Open) }
+    ensures placed { OnOk result ((standing_at site.new group).placed ≡
+        length (standing_at site.new group).placements) }
+    ensures removed { OnOk result ((standing_at site.new group).removed ≡
+        length (standing_at site.new group).removals) }
+    ensures group { group_in site.new group ≡ group_in site.old group }
+    ensures only { IfErr result (λ e. e ≡ Stop.Device) }
+    ensures sink { site.new.sink ≡ site.old.sink }
+    ensures faults { CountsFault (IsErrOf result Stop.Device) (T.faults site.old.tree)
+        (T.faults site.new.tree) }
+{
+    let (_, count) = site.left(group);
+    for _ in 0..count {
+        site.remove_path(group)?;
+    }
+    Ok(())
+}
+
 /// Makes the paths of a group durable: from here on a crash leaves its changes.
 pub(crate) fn settle<T: Tree, S: Sink>(site: &mut Site<T, S>, group: u32) -> Result<(), Stop>
     requires at { IsAt site.old.keeping group phases.Open }
     requires placed { (standing_at site.old group).placed ≡
         length (standing_at site.old group).placements }
-    requires removed { (standing_at site.old group).removed ≡ 0 }
-    requires none { (standing_at site.old group).removals ≡ [] }
+    requires removed { (standing_at site.old group).removed ≡
+        length (standing_at site.old group).removals }
     ensures works { Works group site.old site.new }
     ensures settled { OnOk result
         (site.new.keeping.order ≡ site.old.keeping.order ++ group_in site.old group ∷ []) }

@@ -1,6 +1,7 @@
 ghost use Rattle.std.specs.Prelude.{◌≡◌, ◌⊎◌, ◌∷◌, ◌+◌, ◌<◌, ◌≤◌, ◌^◌, [], ℕ, true, length};
-ghost use Rattle.std.specs.Prelude.{IfErr, IfOk, IsErrOf, IsTrue, MatchOption, OnErr, OnOk};
-ghost use Rattle.std.specs.Prelude.{vec_capacity, vec_len};
+ghost use Rattle.std.specs.Prelude.{IfErr, IfOk, IsErrOf, IsTrue, List, MatchOption, OnErr, OnOk};
+ghost use Rattle.std.specs.Prelude.{Vec, vec_capacity, vec_len};
+ghost use Rattle.std.specs.Global.{Global};
 ghost use Rattle.basics.specs.Members.{AreDistinct, Has};
 ghost use Rattle.file_tree.specs.Disk.{CountsFault};
 ghost use Rattle.merge_core.specs.Trail.{IsAtRest};
@@ -83,6 +84,8 @@ pub fn merge_groups<T: Tree, S: Sink>(alloc: Global, tree: T, sink: S, batch: Ba
         (HaveRun (numbers batch.turns.items) (length batch.groups.items) result.history.items) }
     ensures first { IsBeginning (numbers batch.turns.items) result.history.items }
     ensures kept { IsBeginning result.history.items result.acknowledged.items }
+    ensures all_told { IfErr result.end (λ e. IsOfGroup e →
+        result.acknowledged.items ≡ result.history.items) }
     ensures merged { OnOk result.end (result.history.items ≡ numbers batch.turns.items) }
     ensures told { OnOk result.end (result.acknowledged.items ≡ numbers batch.turns.items) }
     ensures written { IsTrue S.tells → Wrote
@@ -115,7 +118,7 @@ pub fn merge_groups<T: Tree, S: Sink>(alloc: Global, tree: T, sink: S, batch: Ba
             };
         }
     };
-    let end = drive(alloc, &mut site, turns, &mut history, &mut acknowledged);
+    let end = drive(&mut site, turns, &mut history, &mut acknowledged);
     let (mut tree, sink, machine) = site.into_parts();
     let end = clear(alloc, &mut tree, end);
     Merged {
@@ -190,9 +193,14 @@ pub fn merge_group<T: Tree, S: Sink>(alloc: Global, tree: T, sink: S, task: Task
 }
 
 fn only_turn(alloc: Global, group: u32, files: Files) -> Result<Vec<Turn>, AllocError>
-    ensures { IfOk result (λ v. v.items ≡ (record { group = group; files = files }) ∷ []) }
+    ensures { IfOk result (λ v. (r : Vec (List ℕ) Global) × (r.items ≡ []) ×
+        (v.items ≡ (record { group = group; removals = r; files = files }) ∷ [])) }
 {
     let mut turns = Vec::with_capacity(alloc, 1)?;
-    turns.push(Turn { group, files })?;
+    turns.push(Turn {
+        group,
+        removals: Vec::new(alloc),
+        files,
+    })?;
     Ok(turns)
 }

@@ -12,13 +12,13 @@ ghost use Rattle.merge_core.specs.declared.step.Step.TheVariants as steps;
 ghost use Rattle.merge_site.specs.Booking.{wishes_at};
 ghost use Rattle.merge_site.specs.Site.{IsOpened};
 ghost use Rattle.group_run.specs.Applied.{number};
-ghost use Rattle.group_run.specs.Causes.{IsOfGroup, StopsRun};
-ghost use Rattle.group_run.specs.Granted.{IsLetIn, wishes_in};
+ghost use Rattle.group_run.specs.Causes.{IsOfGroup, StopsChanges};
+ghost use Rattle.group_run.specs.Granted.{IsAdmitted, changes_in, wishes_in};
 ghost use Rattle.group_run.specs.Lines.{AreLines, IsBeginning, Wrote, line_in};
 ghost use Rattle.group_run.specs.Through.{HasEnded, HasRoom, IsSameSite, IsThrough};
 ghost use Rattle.group_run.specs.Turns.{AreFirst, StopsBehind, numbers};
 ghost use Rattle.group_run.specs.Went.{DroveWith, HaveRun};
-ghost use Rattle.group_run.specs.Working.{IsAlone, Works, all_in, group_in, is_shut, placing};
+ghost use Rattle.group_run.specs.Working.{IsAlone, Works, changing, group_in, is_shut};
 ghost use Rattle.group_run.specs.Working.{standing_at, stood_at};
 ghost use Rattle.group_run.specs.declared.turn.Turn.{Turn};
 
@@ -28,15 +28,14 @@ use crate::opening::close;
 use crate::stop::Stop;
 use crate::telling::{add, tell};
 use crate::turn::Turn;
-use file_tree::{Sink, Tree};
+use file_tree::{Path, Sink, Tree};
 use merge_site::Site;
-use std::alloc::Global;
 
 /// Brings a group into the tree for good, and notes it in the history.
 fn merge<T: Tree, S: Sink>(
-    alloc: Global,
     site: &mut Site<T, S>,
     group: u32,
+    removals: Vec<Path>,
     files: Files,
     history: &mut Vec<u32>,
 ) -> Result<(), Stop>
@@ -54,22 +53,23 @@ fn merge<T: Tree, S: Sink>(
     ensures early { IfErr result (λ e. IsOfGroup e → history.new.items ≡ history.old.items) }
     ensures left { (n : ℕ) → HasRoom (suc n) history.old → HasRoom n history.new }
     ensures at { OnOk result (IsAt site.new.keeping group phases.Done) }
-    ensures group { OnOk result (group_in site.new group ≡ placing group (all_in files)) }
+    ensures group { OnOk result
+        (group_in site.new group ≡ changing group (changes_in removals.items files)) }
     ensures wishes { OnOk result (wishes_at site.new.wishes group ≡ wishes_in files) }
     ensures let_in { IsTrue T.tells → was_opened (standing_at site.new group).phase ≡ true →
-        IsLetIn (stood_at (T.story site.old.opened).now.holds site.old) site.old.book
-        site.old.groups files group (group_in site.new group) }
+        IsAdmitted (stood_at (T.story site.old.opened).now.holds site.old) site.old.book
+        site.old.groups (changes_in removals.items files) group (group_in site.new group) }
     ensures shut { (¬ IsErrOf result Stop.Device) →
         is_shut (standing_at site.new group).phase ≡ true }
     ensures quiet { IfErr result (λ e. ¬ (e ≡ Stop.Output)) }
-    ensures cause { IfErr result (StopsRun T.tells
+    ensures cause { IfErr result (StopsChanges T.tells
         (stood_at (T.story site.old.opened).now.holds site.old) site.old.book site.old.groups
-        files group) }
+        (changes_in removals.items files) group) }
     ensures sink { site.new.sink ≡ site.old.sink }
     ensures faults { CountsFault (IsErrOf result Stop.Device) (T.faults site.old.tree)
         (T.faults site.new.tree) }
 {
-    build(alloc, site, group, files)?;
+    build(site, group, removals, files)?;
     commit(site, group)?;
     add(history, group);
     close(site, group)
@@ -77,9 +77,9 @@ fn merge<T: Tree, S: Sink>(
 
 /// Merges a group, and writes its line.
 fn merge_and_tell<T: Tree, S: Sink>(
-    alloc: Global,
     site: &mut Site<T, S>,
     group: u32,
+    removals: Vec<Path>,
     files: Files,
     history: &mut Vec<u32>,
     acknowledged: &mut Vec<u32>,
@@ -104,12 +104,13 @@ fn merge_and_tell<T: Tree, S: Sink>(
     ensures left { (n : ℕ) → HasRoom (suc n) history.old → HasRoom n history.new }
     ensures more { (n : ℕ) → HasRoom (suc n) acknowledged.old → HasRoom n acknowledged.new }
     ensures at { OnOk result (IsAt site.new.keeping group phases.Told) }
-    ensures group { OnOk result (group_in site.new group ≡ placing group (all_in files)) }
+    ensures group { OnOk result
+        (group_in site.new group ≡ changing group (changes_in removals.items files)) }
     ensures settled { OnOk result (HasSettled site.old.book site.new.book
-        (record { placed = wishes_in files; removed = [] })) }
+        (record { placed = wishes_in files; removed = removals.items })) }
     ensures let_in { IsTrue T.tells → was_opened (standing_at site.new group).phase ≡ true →
-        IsLetIn (stood_at (T.story site.old.opened).now.holds site.old) site.old.book
-        site.old.groups files group (group_in site.new group) }
+        IsAdmitted (stood_at (T.story site.old.opened).now.holds site.old) site.old.book
+        site.old.groups (changes_in removals.items files) group (group_in site.new group) }
     ensures shut { (¬ IsErrOf result Stop.Device) →
         is_shut (standing_at site.new group).phase ≡ true }
     ensures written { IsTrue S.tells → (start : List ℕ) →
@@ -117,16 +118,16 @@ fn merge_and_tell<T: Tree, S: Sink>(
         start (S.written site.old.sink) →
         Wrote (AreLines (line_in site.old.groups) history.new.items acknowledged.new.items)
         start (S.written site.new.sink) }
-    ensures cause { IfErr result (StopsRun T.tells
+    ensures cause { IfErr result (StopsChanges T.tells
         (stood_at (T.story site.old.opened).now.holds site.old) site.old.book site.old.groups
-        files group) }
+        (changes_in removals.items files) group) }
     ensures device { CountsFault (IsErrOf result Stop.Device) (T.faults site.old.tree)
         (T.faults site.new.tree) }
     ensures output { CountsFault (IsErrOf result Stop.Output) (S.faults site.old.sink)
         (S.faults site.new.sink) }
 {
     site.promise();
-    merge(alloc, site, group, files, history)?;
+    merge(site, group, removals, files, history)?;
     tell(site, group)?;
     add(acknowledged, group);
     site.promise();
@@ -135,7 +136,6 @@ fn merge_and_tell<T: Tree, S: Sink>(
 
 /// Merges groups one after another, until one is stopped.
 fn merge_all<T: Tree, S: Sink>(
-    alloc: Global,
     site: &mut Site<T, S>,
     turns: Vec<Turn>,
     history: &mut Vec<u32>,
@@ -158,6 +158,8 @@ fn merge_all<T: Tree, S: Sink>(
     ensures history { history.new.items ≡ map number site.new.keeping.order }
     ensures first { IsBeginning (numbers turns.items) history.new.items }
     ensures kept { IsBeginning history.new.items acknowledged.new.items }
+    ensures all_told { IfErr result (λ e. IsOfGroup e →
+        acknowledged.new.items ≡ history.new.items) }
     ensures merged { OnOk result (history.new.items ≡ numbers turns.items) }
     ensures told { OnOk result (acknowledged.new.items ≡ numbers turns.items) }
     ensures written { IsTrue S.tells → Wrote
@@ -172,15 +174,18 @@ fn merge_all<T: Tree, S: Sink>(
 {
     for turn in turns {
         site.promise();
-        let Turn { group, files } = turn;
-        merge_and_tell(alloc, site, group, files, history, acknowledged)?;
+        let Turn {
+            group,
+            removals,
+            files,
+        } = turn;
+        merge_and_tell(site, group, removals, files, history, acknowledged)?;
     }
     Ok(())
 }
 
 /// Merges groups one after another by a site that was just opened.
 pub(crate) fn drive<T: Tree, S: Sink>(
-    alloc: Global,
     site: &mut Site<T, S>,
     turns: Vec<Turn>,
     history: &mut Vec<u32>,
@@ -200,6 +205,8 @@ pub(crate) fn drive<T: Tree, S: Sink>(
         site.new.keeping }
     ensures first { IsBeginning (numbers turns.items) history.new.items }
     ensures kept { IsBeginning history.new.items acknowledged.new.items }
+    ensures all_told { IfErr result (λ e. IsOfGroup e →
+        acknowledged.new.items ≡ history.new.items) }
     ensures merged { OnOk result (history.new.items ≡ numbers turns.items) }
     ensures told { OnOk result (acknowledged.new.items ≡ numbers turns.items) }
     ensures written { IsTrue S.tells → Wrote
@@ -213,7 +220,7 @@ pub(crate) fn drive<T: Tree, S: Sink>(
         (S.faults site.new.sink) }
 {
     site.promise();
-    let end = merge_all(alloc, site, turns, history, acknowledged);
+    let end = merge_all(site, turns, history, acknowledged);
     site.promise();
     end
 }

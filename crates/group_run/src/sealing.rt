@@ -1,39 +1,38 @@
-ghost use Rattle.std.specs.Prelude.{◌≡◌, List, true, IfErr, IsErrOf, OnOk};
+ghost use Rattle.std.specs.Prelude.{◌≡◌, true, IfErr, IsErrOf, OnOk};
 ghost use Rattle.file_tree.specs.Disk.{CountsFault};
-ghost use Rattle.file_tree.specs.declared.objects.Entry.{Entry};
 ghost use Rattle.merge_core.specs.Payloads.{IsAt};
 ghost use Rattle.merge_core.specs.Phase.{may_end};
 ghost use Rattle.merge_core.specs.declared.phase.Phase.TheVariants as phases;
 ghost use Rattle.group_run.specs.Causes.{IsPlain, StopsRecord};
-ghost use Rattle.group_run.specs.Working.{HasStaged, Works, group_in, placing, standing_at};
+ghost use Rattle.group_run.specs.Working.{Changes, HasStaged, Works, changing, group_in};
+ghost use Rattle.group_run.specs.Working.{standing_at};
 
 use crate::stop::Stop;
-use file_tree::{Sink, Tree};
+use file_tree::{Path, Sink, Tree};
 use merge_site::Site;
-use std::alloc::Global;
 
-/// Puts the record of a group that removes nothing.
+/// Puts the record of a group that removes these paths.
 pub(crate) fn record<T: Tree, S: Sink>(
-    alloc: Global,
     site: &mut Site<T, S>,
     group: u32,
+    removals: Vec<Path>,
 ) -> Result<(), Stop>
     requires at { IsAt site.old.keeping group phases.Building }
     ensures works { Works group site.old site.new }
     ensures order { site.new.keeping.order ≡ site.old.keeping.order }
     ensures at { OnOk result (IsAt site.new.keeping group phases.Recorded) }
-    ensures group { (files : List Entry) → HasStaged files (standing_at site.old group) →
-        OnOk result (group_in site.new group ≡ placing group files) }
+    ensures group { (c : Changes) → HasStaged c.files (standing_at site.old group) →
+        removals.items ≡ c.removals → OnOk result (group_in site.new group ≡ changing group c) }
     ensures early { may_end (standing_at site.new group).phase ≡ true }
     ensures quiet { IfErr result (λ e. ¬ (e ≡ Stop.Output)) }
-    ensures cause { (files : List Entry) → HasStaged files (standing_at site.old group) →
-        IfErr result (StopsRecord group files) }
+    ensures cause { (c : Changes) → HasStaged c.files (standing_at site.old group) →
+        removals.items ≡ c.removals → IfErr result (StopsRecord group c) }
     ensures wishes { OnOk result (site.new.wishes ≡ site.old.wishes) }
     ensures sink { site.new.sink ≡ site.old.sink }
     ensures faults { CountsFault (IsErrOf result Stop.Device) (T.faults site.old.tree)
         (T.faults site.new.tree) }
 {
-    site.put_record(group, Vec::new(alloc))?;
+    site.put_record(group, removals)?;
     Ok(())
 }
 

@@ -1,8 +1,11 @@
 use crate::files::Files;
+use file_tree::Path;
 
-/// A group of a run of several: its number, and what it places.
+/// A group of a run of several: its number, what it removes, and what it places.
 #[derive(Drop)]
 pub struct Turn {
     pub group: u32,
+    /// What the packages own that go with the group, but for the paths that it places.
+    pub removals: Vec<Path>,
     pub files: Files,
 }

@@ -72,14 +72,14 @@ returns-in_err-claim-clause-quiet g c =
     subst (λ r. IfErr r (λ e. e ≡ stops.Output → ⊥)) (sym p.1) (λ x. claim_quiet _ (sym p.2 ∙ x))
 
 pub returns-in_err-claim-clause-cause : goal.returns-in_err-claim-clause-cause
-returns-in_err-claim-clause-cause g c files built =
+returns-in_err-claim-clause-cause g c x built =
     let p = err_from_is_err_and c.from_residual.result c.from_residual.ensures.1 in
     let old = c.args.site.now in
     let e = c.in_err-claim.ensures in
-    rw (p.1, p.2) (claim_stops g.T.Tree.tells old files c.args.group (g.T.Tree.story old.opened).now.holds (g.T.Tree.story old.tree).now c.in_err-claim.field-0.0 c.requires.at built c.promise.ensures.booked (λ t. (c.promise.ensures.held t).order) e.stopped e.unowned)
+    rw (p.1, p.2) (claim_stops g.T.Tree.tells old x c.args.group (g.T.Tree.story old.opened).now.holds (g.T.Tree.story old.tree).now c.in_err-claim.field-0.0 c.requires.at built c.promise.ensures.booked (λ t. (c.promise.ensures.held t).order) e.stopped e.unowned)
 
 pub returns-clause-granted : goal.returns-clause-granted
-returns-clause-granted g c files built t =
+returns-clause-granted g c x built t =
     let old = c.args.site.now in
     let e = c.in_ok-claim.ensures in
-    granted old files c.args.group (g.T.Tree.story old.opened).now.holds (g.T.Tree.story old.tree).now c.requires.at built c.promise.ensures.booked (c.promise.ensures.held t).order e.granted (e.clear t)
+    granted old x c.args.group (g.T.Tree.story old.opened).now.holds (g.T.Tree.story old.tree).now c.requires.at built c.promise.ensures.booked (c.promise.ensures.held t).order e.granted (e.clear t)

@@ -1,9 +1,10 @@
-use Rattle.std.proofs.Common.{◌<◌, ◌∙◌, ap, length, subst, sym}
+use Rattle.std.proofs.Common.{◌<◌, ◌∙◌, ap, length, refl, subst, sym}
 use Rattle.merge_core.specs.Phase.{is_live}
 use Rattle.merge_core.specs.Roll.{Standing}
 use Rattle.merge_site.specs.Booking.{is_over, wishes_at}
-use Rattle.group_run.specs.Causes.{StopsRun}
-use Rattle.group_run.specs.Working.{all_in, is_staged, stood_at}
+use Rattle.group_run.specs.Causes.{StopsChanges}
+use Rattle.group_run.specs.Working.{is_staged, stood_at}
+use Rattle.group_run.specs.Granted.{changes_in}
 use Rattle.group_run.proofs.Granted.{may_before, stops_before}
 use Rattle.group_run.proofs.Settling.{owners_same}
 use Rattle.group_run.proofs.Rest.{ends_shut, ok_if}
@@ -36,7 +37,7 @@ returns-clause-works g c =
 
 pub returns-clause-group : goal.returns-clause-group
 returns-clause-group g c =
-    ok_if c.claim.result (c.claim.ensures.group ∙ (c.mark.ensures.group ∙ c.in_ok-record.ensures.group (all_in c.args.files) c.in_ok-stage_files.ensures.staged))
+    ok_if c.claim.result (c.claim.ensures.group ∙ (c.mark.ensures.group ∙ c.in_ok-record.ensures.group (changes_in c.args.removals.items c.args.files) c.in_ok-stage_files.ensures.staged refl))
 
 pub returns-in_err-stage_files-clause-shut : goal.returns-in_err-stage_files-clause-shut
 returns-in_err-stage_files-clause-shut g c = ends_shut _ c.stage_files.ensures.early
@@ -68,11 +69,11 @@ returns-clause-cause g c =
     let three = works_then c.args.group c.args.site.now c.record.new.site c.mark.new.site two c.mark.ensures.works in
     let order = c.mark.ensures.order ∙ (c.record.ensures.order ∙ (c.stage_files.ensures.order ∙ c.begin.ensures.order)) in
     let owners = owners_same c.args.group c.args.site.now c.mark.new.site three c.promise.ensures.booked c.promise-2.ensures.booked (ap is_over c.requires.taken.phase) (ap is_over c.in_ok-mark.ensures.at.phase) in
-    err_weaker (StopsRun g.T.Tree.tells (stood_at (g.T.Tree.story c.mark.new.site.opened).now.holds c.mark.new.site) c.mark.new.site.book c.mark.new.site.groups c.args.files c.args.group)
-    (StopsRun g.T.Tree.tells (stood_at (g.T.Tree.story c.args.site.now.opened).now.holds c.args.site.now) c.args.site.now.book c.args.site.now.groups c.args.files c.args.group)
-    (λ e h. stops_before g.T.Tree.tells (λ o. (g.T.Tree.story o).now.holds) c.args.group c.args.site.now c.mark.new.site c.args.files e three order owners h) c.claim.result
-    (c.claim.ensures.cause c.args.files (record {
-      placed = c.mark.ensures.group ∙ c.in_ok-record.ensures.group (all_in c.args.files) c.in_ok-stage_files.ensures.staged;
+    err_weaker (StopsChanges g.T.Tree.tells (stood_at (g.T.Tree.story c.mark.new.site.opened).now.holds c.mark.new.site) c.mark.new.site.book c.mark.new.site.groups (changes_in c.args.removals.items c.args.files) c.args.group)
+    (StopsChanges g.T.Tree.tells (stood_at (g.T.Tree.story c.args.site.now.opened).now.holds c.args.site.now) c.args.site.now.book c.args.site.now.groups (changes_in c.args.removals.items c.args.files) c.args.group)
+    (λ e h. stops_before g.T.Tree.tells (λ o. (g.T.Tree.story o).now.holds) c.args.group c.args.site.now c.mark.new.site (changes_in c.args.removals.items c.args.files) e three order owners h) c.claim.result
+    (c.claim.ensures.cause (changes_in c.args.removals.items c.args.files) (record {
+      changed = c.mark.ensures.group ∙ c.in_ok-record.ensures.group (changes_in c.args.removals.items c.args.files) c.in_ok-stage_files.ensures.staged refl;
       wished = ap (λ l. wishes_at l c.args.group) (c.in_ok-mark.ensures.wishes ∙ c.in_ok-record.ensures.wishes) ∙ c.in_ok-stage_files.ensures.wishes;
       good = c.in_ok-stage_files.ensures.good;
       alone = λ h other. ap (λ (s : Standing). is_live s.phase) (three.others h other) ∙ c.requires.alone h other;
@@ -85,9 +86,9 @@ returns-clause-let_in g c t =
     let three = works_then c.args.group c.args.site.now c.record.new.site c.mark.new.site two c.mark.ensures.works in
     let order = c.mark.ensures.order ∙ (c.record.ensures.order ∙ (c.stage_files.ensures.order ∙ c.begin.ensures.order)) in
     let owners = owners_same c.args.group c.args.site.now c.mark.new.site three c.promise.ensures.booked c.promise-2.ensures.booked (ap is_over c.requires.taken.phase) (ap is_over c.in_ok-mark.ensures.at.phase) in
-    on_ok_weaker c.claim.result (λ may. may_before (λ o. (g.T.Tree.story o).now.holds) c.args.group c.args.site.now c.mark.new.site c.args.files three order owners may)
-    (c.claim.ensures.granted c.args.files (record {
-      placed = c.mark.ensures.group ∙ c.in_ok-record.ensures.group (all_in c.args.files) c.in_ok-stage_files.ensures.staged;
+    on_ok_weaker c.claim.result (λ may. may_before (λ o. (g.T.Tree.story o).now.holds) c.args.group c.args.site.now c.mark.new.site (changes_in c.args.removals.items c.args.files) three order owners may)
+    (c.claim.ensures.granted (changes_in c.args.removals.items c.args.files) (record {
+      changed = c.mark.ensures.group ∙ c.in_ok-record.ensures.group (changes_in c.args.removals.items c.args.files) c.in_ok-stage_files.ensures.staged refl;
       wished = ap (λ l. wishes_at l c.args.group) (c.in_ok-mark.ensures.wishes ∙ c.in_ok-record.ensures.wishes) ∙ c.in_ok-stage_files.ensures.wishes;
       good = c.in_ok-stage_files.ensures.good;
       alone = λ h other. ap (λ (s : Standing). is_live s.phase) (three.others h other) ∙ c.requires.alone h other;
@@ -102,15 +103,15 @@ stage_files-requires-clause-unwished g c = ap (λ l. wishes_at l c.args.group) c
 pub returns-in_err-stage_files-clause-cause : goal.returns-in_err-stage_files-clause-cause
 returns-in_err-stage_files-clause-cause g c =
     let p = err_from_is_err_and c.from_residual.result c.from_residual.ensures.1 in
-    rw (p.1, p.2) (staged_cause g.T.Tree.tells (stood_at (g.T.Tree.story c.args.site.now.opened).now.holds c.args.site.now) c.args.site.now.book c.args.site.now.groups c.args.files c.args.group _ c.in_err-stage_files.ensures.cause)
+    rw (p.1, p.2) (staged_cause g.T.Tree.tells (stood_at (g.T.Tree.story c.args.site.now.opened).now.holds c.args.site.now) c.args.site.now.book c.args.site.now.groups (changes_in c.args.removals.items c.args.files) c.args.group _ c.in_err-stage_files.ensures.cause)
 
 pub returns-in_err-record-clause-cause : goal.returns-in_err-record-clause-cause
 returns-in_err-record-clause-cause g c =
     let p = err_from_is_err_and c.from_residual-in_err-record.result c.from_residual-in_err-record.ensures.1 in
-    rw (p.1, p.2) (record_cause g.T.Tree.tells (stood_at (g.T.Tree.story c.args.site.now.opened).now.holds c.args.site.now) c.args.site.now.book c.args.site.now.groups c.args.files c.args.group _
-    (c.in_err-record.ensures.cause (all_in c.args.files) c.in_ok-stage_files.ensures.staged))
+    rw (p.1, p.2) (record_cause g.T.Tree.tells (stood_at (g.T.Tree.story c.args.site.now.opened).now.holds c.args.site.now) c.args.site.now.book c.args.site.now.groups (changes_in c.args.removals.items c.args.files) c.args.group _
+    (c.in_err-record.ensures.cause (changes_in c.args.removals.items c.args.files) c.in_ok-stage_files.ensures.staged refl))
 
 pub returns-in_err-mark-clause-cause : goal.returns-in_err-mark-clause-cause
 returns-in_err-mark-clause-cause g c =
     let p = err_from_is_err_and c.from_residual-in_err-mark.result c.from_residual-in_err-mark.ensures.1 in
-    rw (p.1, p.2) (plain_cause g.T.Tree.tells (stood_at (g.T.Tree.story c.args.site.now.opened).now.holds c.args.site.now) c.args.site.now.book c.args.site.now.groups c.args.files c.args.group _ c.in_err-mark.ensures.plain)
+    rw (p.1, p.2) (plain_cause g.T.Tree.tells (stood_at (g.T.Tree.story c.args.site.now.opened).now.holds c.args.site.now) c.args.site.now.book c.args.site.now.groups (changes_in c.args.removals.items c.args.files) c.args.group _ c.in_err-mark.ensures.plain)

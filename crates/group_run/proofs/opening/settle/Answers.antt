@@ -1,4 +1,4 @@
-use Rattle.std.proofs.Common.{◌∙◌, ap, length, refl, sym}
+use Rattle.std.proofs.Common.{refl, sym}
 use Rattle.std.specs.Prelude.{is_ok}
 use Rattle.merge_core.specs.Event.{SyncPlaced}
 use Rattle.merge_core.specs.Keeping.{machine_of}
@@ -10,7 +10,7 @@ use Rattle.group_run.proofs.opening.settle.Goals as goal
 
 pub returns-in_err-sync_placed-clause-works : goal.returns-in_err-sync_placed-clause-works
 returns-in_err-sync_placed-clause-works g c =
-    let taken = taken_at c.args.site.now.keeping c.args.group steps.SyncPlaced phases.Open c.requires.at refl (sym c.requires.placed, ap length c.requires.none ∙ sym c.requires.removed) in
+    let taken = taken_at c.args.site.now.keeping c.args.group steps.SyncPlaced phases.Open c.requires.at refl (sym c.requires.placed, sym c.requires.removed) in
     step_worked c.args.site.now c.sync_placed.new.self c.args.group steps.SyncPlaced (is_ok c.sync_placed.result) taken c.sync_placed.ensures.event
 
 pub returns-in_err-sync_placed-clause-group : goal.returns-in_err-sync_placed-clause-group
@@ -19,7 +19,7 @@ returns-in_err-sync_placed-clause-group g c =
 
 pub returns-clause-works : goal.returns-clause-works
 returns-clause-works g c =
-    let taken = taken_at c.args.site.now.keeping c.args.group steps.SyncPlaced phases.Open c.requires.at refl (sym c.requires.placed, ap length c.requires.none ∙ sym c.requires.removed) in
+    let taken = taken_at c.args.site.now.keeping c.args.group steps.SyncPlaced phases.Open c.requires.at refl (sym c.requires.placed, sym c.requires.removed) in
     step_worked c.args.site.now c.sync_placed.new.self c.args.group steps.SyncPlaced (is_ok c.sync_placed.result) taken c.sync_placed.ensures.event
 
 pub returns-clause-at : goal.returns-clause-at

@@ -1,18 +1,15 @@
 use Rattle.std.proofs.Common.{◌∙◌, ◌++◌, ◌∷◌, [], ap, map, sym}
 use Rattle.std.proofs.lemmas.List.{map-append}
-use Rattle.journal.specs.Group.{Group}
 use Rattle.std.proofs.lemmas.Result.{err_from_is_err_and}
 use Rattle.group_run.specs.Applied.{number}
 use Rattle.group_run.specs.Working.{group_in, is_staged, stood_at}
 use Rattle.group_run.proofs.Rest.{done_shut, ok_if}
 use Rattle.group_run.proofs.Worked.{works_then}
-use Rattle.group_run.specs.Causes.{StopsRun}
+use Rattle.group_run.specs.Causes.{StopsChanges}
+use Rattle.group_run.specs.Granted.{changes_in}
 use Rattle.group_run.specs.declared.stop.Stop.TheVariants as stops
 use Rattle.group_run.proofs.Caused.{only_err}
 use Rattle.group_run.proofs.running.merge.Goals as goal
-
-pub commit-requires-clause-none : goal.commit-requires-clause-none
-commit-requires-clause-none g c = ap (λ (x : Group). x.content.removals) c.in_ok-build.ensures.group
 
 pub returns-in_err-build-clause-let_in : goal.returns-in_err-build-clause-let_in
 returns-in_err-build-clause-let_in g c t opened = absurd (cc (c.build.ensures.unopened, opened))
@@ -45,7 +42,7 @@ returns-in_err-commit-clause-cause g c =
 
 pub returns-clause-cause : goal.returns-clause-cause
 returns-clause-cause g c =
-    only_err (StopsRun g.T.Tree.tells (stood_at (g.T.Tree.story c.args.site.now.opened).now.holds c.args.site.now) c.args.site.now.book c.args.site.now.groups c.args.files c.args.group) stops.Device tt c.close.result c.close.ensures.only
+    only_err (StopsChanges g.T.Tree.tells (stood_at (g.T.Tree.story c.args.site.now.opened).now.holds c.args.site.now) c.args.site.now.book c.args.site.now.groups (changes_in c.args.removals.items c.args.files) c.args.group) stops.Device tt c.close.result c.close.ensures.only
 
 pub returns-clause-group : goal.returns-clause-group
 returns-clause-group g c = ok_if c.close.result (c.close.ensures.group ∙ (c.commit.ensures.group ∙ c.in_ok-build.ensures.group))

@@ -210,6 +210,13 @@ returns-in_err-merge_and_tell-clause-kept g c =
     let i = c.loop-turn.invariant in
     told_first c.loop-turn.history.items c.merge_and_tell.new.history.items c.merge_and_tell.new.acknowledged.items c.in-Some.turn.group (c.in_err-merge_and_tell.ensures.untold ∙ (i.3 ∙ sym i.2)) c.merge_and_tell.ensures.one
 
+pub returns-in_err-merge_and_tell-clause-all_told : goal.returns-in_err-merge_and_tell-clause-all_told
+returns-in_err-merge_and_tell-clause-all_told g c =
+    let i = c.loop-turn.invariant in
+    let e = c.in_err-merge_and_tell.ensures in
+    let p = err_from_is_err_and c.from_residual.result c.from_residual.ensures.1 in
+    rw (p.1, p.2) (λ is. e.untold ∙ (i.3 ∙ sym (e.early is ∙ i.2)))
+
 pub returns-in_err-merge_and_tell-clause-written : goal.returns-in_err-merge_and_tell-clause-written
 returns-in_err-merge_and_tell-clause-written g c st =
     let i = c.loop-turn.invariant in

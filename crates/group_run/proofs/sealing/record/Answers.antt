@@ -14,31 +14,31 @@ use Rattle.group_run.proofs.sealing.record.Goals as goal
 
 pub returns-in_err-put_record-clause-works : goal.returns-in_err-put_record-clause-works
 returns-in_err-put_record-clause-works g c =
-    let one = early_record c.put_record.result c.args.site.now c.put_record.new.self c.args.group c.new.result.items c.requires.at c.put_record.ensures.ok c.put_record.ensures.failed c.put_record.ensures.refused in
+    let one = early_record c.put_record.result c.args.site.now c.put_record.new.self c.args.group c.args.removals.items c.requires.at c.put_record.ensures.ok c.put_record.ensures.failed c.put_record.ensures.refused in
     one.works
 
 pub returns-in_err-put_record-clause-early : goal.returns-in_err-put_record-clause-early
 returns-in_err-put_record-clause-early g c =
-    let one = early_record c.put_record.result c.args.site.now c.put_record.new.self c.args.group c.new.result.items c.requires.at c.put_record.ensures.ok c.put_record.ensures.failed c.put_record.ensures.refused in
+    let one = early_record c.put_record.result c.args.site.now c.put_record.new.self c.args.group c.args.removals.items c.requires.at c.put_record.ensures.ok c.put_record.ensures.failed c.put_record.ensures.refused in
     one.early
 
 pub returns-clause-works : goal.returns-clause-works
 returns-clause-works g c =
-    let one = early_record c.put_record.result c.args.site.now c.put_record.new.self c.args.group c.new.result.items c.requires.at c.put_record.ensures.ok c.put_record.ensures.failed c.put_record.ensures.refused in
+    let one = early_record c.put_record.result c.args.site.now c.put_record.new.self c.args.group c.args.removals.items c.requires.at c.put_record.ensures.ok c.put_record.ensures.failed c.put_record.ensures.refused in
     one.works
 
 pub returns-clause-early : goal.returns-clause-early
 returns-clause-early g c =
-    let one = early_record c.put_record.result c.args.site.now c.put_record.new.self c.args.group c.new.result.items c.requires.at c.put_record.ensures.ok c.put_record.ensures.failed c.put_record.ensures.refused in
+    let one = early_record c.put_record.result c.args.site.now c.put_record.new.self c.args.group c.args.removals.items c.requires.at c.put_record.ensures.ok c.put_record.ensures.failed c.put_record.ensures.refused in
     one.early
 
 pub returns-clause-at : goal.returns-clause-at
 returns-clause-at g c =
-    at_after c.args.site.now c.put_record.new.self c.args.group (PutRecord c.args.group c.new.result.items) phases.Recorded _ c.in_ok-put_record.ensures.ok c.requires.at.running refl (set_here (machine_of c.args.site.now.keeping).roll c.args.group _) refl
+    at_after c.args.site.now c.put_record.new.self c.args.group (PutRecord c.args.group c.args.removals.items) phases.Recorded _ c.in_ok-put_record.ensures.ok c.requires.at.running refl (set_here (machine_of c.args.site.now.keeping).roll c.args.group _) refl
 
 pub returns-clause-group : goal.returns-clause-group
 returns-clause-group g c =
-    λ files has. recorded_is c.args.site.now c.put_record.new.self files c.args.group c.new.result.items c.new.ensures.items has c.in_ok-put_record.ensures.ok
+    λ x has is. recorded_is c.args.site.now c.put_record.new.self x c.args.group c.args.removals.items is has c.in_ok-put_record.ensures.ok
 
 pub returns-in_err-put_record-clause-quiet : goal.returns-in_err-put_record-clause-quiet
 returns-in_err-put_record-clause-quiet g c =
@@ -46,9 +46,9 @@ returns-in_err-put_record-clause-quiet g c =
     subst (λ r. IfErr r (λ e. e ≡ stops.Output → ⊥)) (sym p.1) (λ x. site_quiet _ (sym p.2 ∙ x))
 
 pub returns-in_err-put_record-clause-cause : goal.returns-in_err-put_record-clause-cause
-returns-in_err-put_record-clause-cause g c files has =
+returns-in_err-put_record-clause-cause g c x has is =
     let p = err_from_is_err_and c.from_residual.result c.from_residual.ensures.1 in
-    rw (p.1, p.2) (record_stops c.in_err-put_record.field-0.0 c.args.site.now files c.args.group c.new.result.items c.new.ensures.items has (λ e. c.in_err-put_record.ensures.limit (ap Err e)))
+    rw (p.1, p.2) (record_stops c.in_err-put_record.field-0.0 c.args.site.now x c.args.group c.args.removals.items is has (λ e. c.in_err-put_record.ensures.limit (ap Err e)))
 
 pub returns-clause-wishes : goal.returns-clause-wishes
 returns-clause-wishes g c = c.in_ok-put_record.ensures.ok.wishes refl
