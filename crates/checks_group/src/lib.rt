@@ -7,4 +7,6 @@
 #[cfg(test)]
 mod claims;
 #[cfg(test)]
+mod many;
+#[cfg(test)]
 mod merged;

@@ -34,7 +34,7 @@ pub(crate) fn tree(alloc: Global, held: &[(&str, &str)]) -> Result<MemTree, Fail
 }
 
 /// A book in which package 7 owns these paths.
-fn book(alloc: Global, owned: &[&str]) -> Result<OwnerBook, Fail>
+pub(crate) fn book(alloc: Global, owned: &[&str]) -> Result<OwnerBook, Fail>
     ensures { IfOk result (λ b. b.claims ≡ []) }
 {
     let mut paths = Vec::new(alloc);
@@ -56,8 +56,13 @@ pub(crate) fn group(alloc: Global, line: &str, dying: u32) -> Result<SiteGroup, 
     })
 }
 
-/// What package 9 places: an image, and one file in its own folder.
-fn files(alloc: Global, image: &[(&str, Kind, &str)]) -> Result<Files, Fail> {
+/// What a package places: an image, and one file in its own folder.
+pub(crate) fn files(
+    alloc: Global,
+    owner: u32,
+    image: &[(&str, Kind, &str)],
+    slot: &str,
+) -> Result<Files, Fail> {
     let mut entries = Vec::new(alloc);
     for (path, kind, text) in image {
         let path = Path::parse(alloc, path)?;
@@ -68,11 +73,11 @@ fn files(alloc: Global, image: &[(&str, Kind, &str)]) -> Result<Files, Fail> {
     }
     let mut folder = Vec::new(alloc);
     folder.push(Entry {
-        path: Path::parse(alloc, "var/db/pkg/c/p-1/SLOT")?,
+        path: Path::parse(alloc, slot)?,
         object: object(alloc, Kind::Plain, "0")?,
     })?;
     Ok(Files {
-        owner: OwnerKey { number: 9 },
+        owner: OwnerKey { number: owner },
         image: entries,
         folder,
     })
@@ -142,13 +147,20 @@ fn push_tree(text: &mut String, tree: &MemTree) -> Result<(), AllocError> {
 
 fn push_groups(text: &mut String, groups: &[u32]) -> Result<(), AllocError> {
     for group in groups {
-        text.push(if *group == 1 { '1' } else { '?' })?;
+        text.push(match *group {
+            0 => '0',
+            1 => '1',
+            _ => '?',
+        })?;
     }
     text.push(';')
 }
 
 /// How the run ended, the history, the acknowledged groups, the sink and the tree.
-fn summary(alloc: Global, merged: Merged<MemTree, MemSink>) -> Result<String, AllocError> {
+pub(crate) fn summary(
+    alloc: Global,
+    merged: Merged<MemTree, MemSink>,
+) -> Result<String, AllocError> {
     let Merged {
         tree,
         sink,
@@ -176,7 +188,7 @@ fn merged(
     dying: u32,
     image: &[(&str, Kind, &str)],
 ) -> Result<String, Fail> {
-    let files = files(alloc, image)?;
+    let files = files(alloc, 9, image, "var/db/pkg/c/p-1/SLOT")?;
     let task = task(alloc, owned, files, dying)?;
     let tree = tree(alloc, held)?;
     let merged = merge_group(alloc, tree, MemSink::new(alloc), task);
