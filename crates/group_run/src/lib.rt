@@ -16,9 +16,8 @@
 //! The history is the machine's order, whatever failed. The first group that is stopped ends the
 //! run: no later one has begun. The acknowledged groups are the first of the history, and all of it
 //! where a group was stopped for what it has; what was written is their lines, and then some
-//! beginning of the next one's. A run that a file, a limit or
-//! a claim stopped has its cause, over what the groups of the history left (`StopsBehind`); only
-//! want of memory comes without one.
+//! beginning of the next one's. A run that a file, a limit or a claim stopped has its cause, over
+//! what the groups of the history left (`StopsBehind`); only want of memory comes without one.
 //!
 //! **Only tested**: with ample memory a group is merged, or refused for its first collision, and a
 //! package goes whose path the next group takes.
