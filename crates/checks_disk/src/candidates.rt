@@ -38,52 +38,98 @@ fn cache(alloc: Global) -> Result<MemTree, Fail> {
     Ok(MemTree::new(alloc, files)?)
 }
 
-/// The candidates of `c/p`.
-fn of_p(alloc: Global, tree: &mut MemTree) -> Result<Result<Vec<Facts>, CandidateFault>, Fail> {
-    let name = Name {
-        category: Category::parse(alloc, "c")?,
-        package: PackageName::parse(alloc, "p")?,
-    };
-    Ok(candidates(alloc, tree, &name))
+fn name_of_p(alloc: Global) -> Result<Name, Fail> {
+    let category = Category::parse(alloc, "c")?;
+    let package = PackageName::parse(alloc, "p")?;
+    Ok(Name { category, package })
 }
 
-fn told(alloc: Global, offers: &[Facts]) -> Result<String, AllocError> {
+/// What the candidates of `c/p` come to.
+fn of_p(alloc: Global, tree: &mut MemTree) -> Result<String, Fail> {
+    let name = name_of_p(alloc)?;
+    Ok(words_of(alloc, candidates(alloc, tree, &name))?)
+}
+
+fn words_of(
+    alloc: Global,
+    answer: Result<Vec<Facts>, CandidateFault>,
+) -> Result<String, AllocError> {
+    match answer {
+        Ok(offers) => told(alloc, offers),
+        Err(CandidateFault::OddEntry) => String::from_str(alloc, "odd"),
+        Err(CandidateFault::Failed) => String::from_str(alloc, "failed"),
+        Err(CandidateFault::Memory) => Err(AllocError),
+    }
+}
+
+fn told(alloc: Global, offers: Vec<Facts>) -> Result<String, AllocError> {
     let mut text = String::new(alloc);
-    for offer in offers {
-        let version = offer.id.version.text();
-        let slot = offer.slot.text();
-        let subslot = offer.subslot.text();
-        let one = format!(in alloc; " {version}:{slot}/{subslot}")?;
-        text.push_str(one.as_str())?;
+    for offer in &offers {
+        push_one(alloc, &mut text, offer)?;
     }
     Ok(text)
 }
 
-/// The version that an atom chooses of the candidates.
-fn chosen(alloc: Global, atom: &str) -> Result<String, Fail> {
-    let atom = Atom::parse(alloc, atom)?;
-    match choose(alloc, &atom, of_p(alloc, &mut cache(alloc)?)??) {
-        Ok(offer) => Ok(format!(in alloc; "{}", offer.id.version.text())?),
-        Err(back) => Ok(told(alloc, &back)?),
+fn push_one(alloc: Global, text: &mut String, offer: &Facts) -> Result<(), AllocError> {
+    let version = offer.id.version.text();
+    let slot = offer.slot.text();
+    let subslot = offer.subslot.text();
+    let one = format!(in alloc; " {version}:{slot}/{subslot}")?;
+    text.push_str(one.as_str())
+}
+
+/// The version that an atom chooses of the candidates, or all of these.
+fn chosen(alloc: Global, text: &str) -> Result<String, Fail> {
+    let atom = Atom::parse(alloc, text)?;
+    let name = name_of_p(alloc)?;
+    Ok(chosen_of(alloc, &atom, &name, &mut cache(alloc)?)?)
+}
+
+fn chosen_of(
+    alloc: Global,
+    atom: &Atom,
+    name: &Name,
+    tree: &mut MemTree,
+) -> Result<String, AllocError> {
+    match candidates(alloc, tree, name) {
+        Ok(offers) => choice_of(alloc, choose(alloc, atom, offers)),
+        Err(_) => Err(AllocError),
     }
 }
 
-/// How the candidates are answered where `c/p-1` has this entry.
-fn answer(alloc: Global, kind: Kind, text: &str) -> Result<&'static str, Fail> {
+fn choice_of(alloc: Global, choice: Result<Facts, Vec<Facts>>) -> Result<String, AllocError> {
+    match choice {
+        Ok(offer) => version_of(alloc, offer),
+        Err(back) => told(alloc, back),
+    }
+}
+
+fn version_of(alloc: Global, offer: Facts) -> Result<String, AllocError> {
+    String::from_str(alloc, offer.id.version.text())
+}
+
+/// A tree with this entry of `c/p-1` alone.
+fn tree_with(alloc: Global, kind: Kind, text: &str) -> Result<MemTree, Fail> {
     let file = file(alloc, "c/p-1", kind, text)?;
-    let mut tree = MemTree::new(alloc, vec![in alloc; file]?)?;
-    Ok(match of_p(alloc, &mut tree)? {
-        Ok(_) => "ok",
-        Err(CandidateFault::OddEntry) => "odd",
-        Err(CandidateFault::Failed) => "failed",
-        Err(CandidateFault::Memory) => "memory",
-    })
+    Ok(MemTree::new(alloc, vec![in alloc; file]?)?)
+}
+
+/// How the candidates are answered where `c/p-1` has this entry.
+fn answer(alloc: Global, kind: Kind, text: &str) -> Result<String, Fail> {
+    let mut tree = tree_with(alloc, kind, text)?;
+    of_p(alloc, &mut tree)
+}
+
+/// How they are answered where this call of the device fails.
+fn answer_of_failure(alloc: Global, call: u64) -> Result<String, Fail> {
+    let mut tree = cache(alloc)?;
+    tree.fail_at(call)?;
+    of_p(alloc, &mut tree)
 }
 
 #[test]
 fn candidates_in_their_order(rt: HostRuntime) -> Result<(), Fail> {
-    let offers = of_p(rt.alloc(), &mut cache(rt.alloc())?)??;
-    let text = told(rt.alloc(), &offers)?;
+    let text = of_p(rt.alloc(), &mut cache(rt.alloc())?)?;
     assert_eq!(rt; text.as_str(), " 10:0/0 2:0/0 01.0:1/1 1.0:0/0 1.00:0/2");
     Ok(())
 }
@@ -106,16 +152,32 @@ fn the_first_that_an_atom_matches(rt: HostRuntime) -> Result<(), Fail> {
 #[test]
 fn entries_of_another_form(rt: HostRuntime) -> Result<(), Fail> {
     let good = "EAPI=8\nKEYWORDS=amd64\nSLOT=0\n_md5_=d41d8cd98f00b204e9800998ecf8427e\n";
-    assert_eq!(rt; answer(rt.alloc(), Kind::Plain, good)?, "ok");
-    assert_eq!(rt; answer(rt.alloc(), Kind::Exec, good)?, "odd");
-    for text in [
-        "",
-        "EAPI=8\nKEYWORDS=~amd64\nSLOT=0\n_md5_=d41d8cd98f00b204e9800998ecf8427e\n",
-        "EAPI=8\nKEYWORDS=amd64\nSLOT=\n_md5_=d41d8cd98f00b204e9800998ecf8427e\n",
-        "EAPI=8\nKEYWORDS=amd64\nSLOT=0/\n_md5_=d41d8cd98f00b204e9800998ecf8427e\n",
-        "EAPI=8\nKEYWORDS=amd64\nSLOT=0\n_md5_=0cc175b9c0f1b6a831c399e269772661\n",
+    for (kind, text, wanted) in [
+        (Kind::Plain, good, " 1:0/0"),
+        (Kind::Exec, good, "odd"),
+        (Kind::Plain, "", "odd"),
+        (
+            Kind::Plain,
+            "EAPI=8\nKEYWORDS=~amd64\nSLOT=0\n_md5_=d41d8cd98f00b204e9800998ecf8427e\n",
+            "odd",
+        ),
+        (
+            Kind::Plain,
+            "EAPI=8\nKEYWORDS=amd64\nSLOT=\n_md5_=d41d8cd98f00b204e9800998ecf8427e\n",
+            "odd",
+        ),
+        (
+            Kind::Plain,
+            "EAPI=8\nKEYWORDS=amd64\nSLOT=0/\n_md5_=d41d8cd98f00b204e9800998ecf8427e\n",
+            "odd",
+        ),
+        (
+            Kind::Plain,
+            "EAPI=8\nKEYWORDS=amd64\nSLOT=0\n_md5_=0cc175b9c0f1b6a831c399e269772661\n",
+            "odd",
+        ),
     ] {
-        assert_eq!(rt; answer(rt.alloc(), Kind::Plain, text)?, "odd", "{text}");
+        assert_eq!(rt; answer(rt.alloc(), kind, text)?.as_str(), wanted, "{text}");
     }
     Ok(())
 }
@@ -123,13 +185,8 @@ fn entries_of_another_form(rt: HostRuntime) -> Result<(), Fail> {
 #[test]
 fn a_failure_of_the_device(rt: HostRuntime) -> Result<(), Fail> {
     for call in [1, 4] {
-        let mut tree = cache(rt.alloc())?;
-        tree.fail_at(call)?;
-        let answer = of_p(rt.alloc(), &mut tree)?;
-        assert!(rt;
-            matches!(answer, Err(CandidateFault::Failed)),
-            "call {call}"
-        );
+        let came = answer_of_failure(rt.alloc(), call)?;
+        assert_eq!(rt; came.as_str(), "failed", "call {call}");
     }
     Ok(())
 }

@@ -5,26 +5,51 @@ use std::alloc::{AllocError, Global};
 use std::test::Fail;
 use vdb_text::record_files;
 
-fn entry(alloc: Global, path: &str, kind: Kind, bytes: &[u8]) -> Result<Entry, Fail> {
+fn entry(alloc: Global, path: &str, kind: Kind, text: &str) -> Result<Entry, Fail> {
     let path = Path::parse(alloc, path)?;
-    let bytes = Vec::from_slice(alloc, bytes)?;
+    let bytes = Vec::from_slice(alloc, text.as_bytes())?;
     Ok(Entry {
         path,
         object: Object { kind, bytes },
     })
 }
 
-/// The files of the record of `c/p-1` in slot `0/2` with this image, a line each.
-fn record(alloc: Global, image: &[Entry]) -> Result<String, Fail> {
-    let facts = Facts {
-        id: PackageId::parse(alloc, "c", "p-1")?,
-        slot: SlotName::parse(alloc, "0")?,
-        subslot: SlotName::parse(alloc, "2")?,
+/// An image with an object of each kind.
+fn image(alloc: Global) -> Result<Vec<Entry>, Fail> {
+    let mut image = Vec::new(alloc);
+    for (path, kind, text) in [
+        ("usr/lib/p.so", Kind::Link, "a -> b"),
+        ("usr/lib-p", Kind::Plain, ""),
+        ("usr/bin/p", Kind::Exec, "abc"),
+    ] {
+        image.push(entry(alloc, path, kind, text)?)?;
+    }
+    Ok(image)
+}
+
+/// The package `c/p-1` in slot `0/2`.
+fn facts(alloc: Global) -> Result<Facts, Fail> {
+    let id = PackageId::parse(alloc, "c", "p-1")?;
+    let slot = SlotName::parse(alloc, "0")?;
+    let subslot = SlotName::parse(alloc, "2")?;
+    Ok(Facts {
+        id,
+        slot,
+        subslot,
         iuse: Flags::new(alloc),
         enabled: Flags::new(alloc),
-    };
-    let files = record_files(alloc, &facts, image)?;
-    Ok(lines(alloc, &files)?)
+    })
+}
+
+/// The files of its record with this image, a line each.
+fn record(alloc: Global, image: &[Entry]) -> Result<String, Fail> {
+    let facts = facts(alloc)?;
+    Ok(files_of(alloc, &facts, image)?)
+}
+
+fn files_of(alloc: Global, facts: &Facts, image: &[Entry]) -> Result<String, AllocError> {
+    let files = record_files(alloc, facts, image)?;
+    lines(alloc, &files)
 }
 
 fn lines(alloc: Global, files: &[Entry]) -> Result<String, AllocError> {
@@ -42,10 +67,6 @@ fn lines(alloc: Global, files: &[Entry]) -> Result<String, AllocError> {
 #[test]
 fn the_files_of_a_record(rt: HostRuntime) -> Result<(), Fail> {
     let alloc = rt.alloc();
-    let link = entry(alloc, "usr/lib/p.so", Kind::Link, b"a -> b")?;
-    let plain = entry(alloc, "usr/lib-p", Kind::Plain, b"")?;
-    let program = entry(alloc, "usr/bin/p", Kind::Exec, b"abc")?;
-    let image = vec![in alloc; link, plain, program]?;
     // The digests of `abc` and of nothing are RFC 1321's.
     let wanted = "var/db/pkg/c/p-1/CONTENTS obj /usr/bin/p 900150983cd24fb0d6963f7d28e17f72 0
 obj /usr/lib-p d41d8cd98f00b204e9800998ecf8427e 0
@@ -53,7 +74,7 @@ sym /usr/lib/p.so -> a -> b 0
 var/db/pkg/c/p-1/EAPI 8
 var/db/pkg/c/p-1/SLOT 0/2
 ";
-    assert_eq!(rt; record(alloc, &image)?.as_str(), wanted);
+    assert_eq!(rt; record(alloc, &image(alloc)?)?.as_str(), wanted);
     let nothing = "var/db/pkg/c/p-1/CONTENTS var/db/pkg/c/p-1/EAPI 8
 var/db/pkg/c/p-1/SLOT 0/2
 ";

@@ -97,14 +97,30 @@ fn the_first_repeated_path_is_named(rt: HostRuntime) -> Result<(), Fail> {
     Ok(())
 }
 
+/// Whether a plain file is read where it was put.
+fn is_read<T: Tree + Send>(alloc: Global, tree: &mut T, at: &str) -> Result<bool, Fail> {
+    let at = path(alloc, at)?;
+    let read = put_and_read(tree, &at, &plain(alloc, b"7")?)?;
+    Ok(read.is_some())
+}
+
+/// What stands at a place when what is held at `n` was placed there.
+fn look_at_placed<T: Tree + Send>(
+    rt: &impl Abort,
+    alloc: Global,
+    tree: &mut T,
+    to: &str,
+) -> Result<Look, Fail> {
+    let from = path(alloc, "n")?;
+    let to = path(alloc, to)?;
+    place_and_look(rt, tree, &from, &to)
+}
+
 #[test]
 fn what_was_put_is_read_and_placed(rt: HostRuntime) -> Result<(), Fail> {
     let mut tree = tree(rt.alloc(), &["d/x"])?;
-    let from = path(rt.alloc(), "n")?;
-    let read = put_and_read(&mut tree, &from, &plain(rt.alloc(), b"7")?)?;
-    assert!(rt; read.is_some());
-    let to = path(rt.alloc(), "d/y")?;
-    let look = place_and_look(&rt, &mut tree, &from, &to)?;
+    assert!(rt; is_read(rt.alloc(), &mut tree, "n")?);
+    let look = look_at_placed(&rt, rt.alloc(), &mut tree, "d/y")?;
     assert_eq!(rt; look, Look::Item(Kind::Plain));
     assert_eq!(rt; tree.objects().len(), 3);
     Ok(())
