@@ -98,6 +98,12 @@ fn refused_text(alloc: Global, refused: PlanRefused) -> Result<String, Fail> {
         } => two_in(alloc, "occupied", group, package, other),
         PlanRefused::Opening(broken) => broken_text(alloc, broken),
         PlanRefused::RequiredUse { package } => one(alloc, "flags", package),
+        PlanRefused::Unsatisfied {
+            group,
+            package,
+            class,
+            leaf,
+        } => lack_in(alloc, class, group, package, leaf),
         PlanRefused::Unsafe { package, leaf } => lack(alloc, "unsafe", package, leaf),
         PlanRefused::Blocked { package, other } => two(alloc, "blocked", package, other),
         PlanRefused::Barred {

@@ -103,7 +103,7 @@ const REBUILDS: [Row; 3] = [
     (
         "lib-1:0/1,app-1 RDEPEND c/lib:0/1=",
         "-lib-1,+lib-2:0/2",
-        "unsafe app-1 c/lib:0/1=",
+        "RDEPEND 0 app-1 c/lib:0/1=",
     ),
     (
         "lib-1:0/1,app-1 RDEPEND c/lib:0/1=",
@@ -119,8 +119,25 @@ fn slot_operator_rebuild(rt: HostRuntime) -> Result<(), Fail> {
     Ok(())
 }
 
-const LINES: [Row; 5] = [
+const MISSING: [Row; 3] = [
+    ("u-1 RDEPEND c/v,v-1", "-v-1", "RDEPEND 0 u-1 c/v"),
+    ("v-1", "+u-1 RDEPEND c/v;-v-1", "RDEPEND 1 u-1 c/v"),
+    (
+        "v-1",
+        "+u-1 RDEPEND c/v;-v-1;after 1,-u-1",
+        "unsafe u-1 c/v",
+    ),
+];
+
+#[test]
+fn what_is_missing_at_the_end(rt: HostRuntime) -> Result<(), Fail> {
+    assert_eq!(rt; told_otherwise(rt.alloc(), &MISSING)?.as_str(), "");
+    Ok(())
+}
+
+const LINES: [Row; 6] = [
     ("a-1", "-a-1;+a-2", "line c/a:0 1 2"),
+    ("b-1,a-1", "-b-1;-a-1;+b-2;+a-2;+a-3", "line c/a:0 2 4"),
     ("a-1", "-a-2", "absent 1 a-2"),
     ("a-1:1", "-a-1", "absent 1 a-1"),
     ("a-1", "-a-1;after 1,-a-1", "absent 2 a-1"),
@@ -177,7 +194,7 @@ const LATER: [Row; 5] = [
     ("z-1", "+a-1 PDEPEND c/p", "final a-1 c/p"),
     ("z-1", "+a-1 PDEPEND c/p;+p-1", "ok"),
     ("z-1", "+a-1 REQUIRED_USE x", "flags a-1"),
-    ("z-1", "+a-1 RDEPEND || ( )", "unsafe a-1 -"),
+    ("z-1", "+a-1 RDEPEND || ( )", "RDEPEND 1 a-1 -"),
     ("z-1", "+a-1 RDEPEND x? ( c/b )", "ok"),
 ];
 
@@ -192,7 +209,7 @@ const PAIRS: [Row; 2] = [
     (
         "z-1",
         "+a-1 RDEPEND c/b;after 1,+b-1 RDEPEND c/a",
-        "unsafe a-1 c/b",
+        "RDEPEND 1 a-1 c/b",
     ),
 ];
 

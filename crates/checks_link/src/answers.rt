@@ -161,6 +161,9 @@ fn refused_text(alloc: Global, refused: PlanRefused) -> Result<String, Fail> {
         PlanRefused::Occupied { package, other, .. } => two(alloc, "occupied", package, other),
         PlanRefused::Opening(broken) => broken_text(alloc, broken),
         PlanRefused::RequiredUse { package } => one(alloc, "flags", package),
+        PlanRefused::Unsatisfied { package, leaf, .. } => {
+            lack(alloc, "unsatisfied", package, leaf)
+        }
         PlanRefused::Unsafe { package, leaf } => lack(alloc, "unsafe", package, leaf),
         PlanRefused::Blocked { package, other } => two(alloc, "blocked", package, other),
         PlanRefused::Barred { package, other, .. } => two(alloc, "barred", package, other),

@@ -40,7 +40,7 @@ const NEWER: &str = "lib-2:0/2,app-1;RDEPEND c/lib:=;DEPEND c/lib:=";
 const REBUILDS: [(&str, &str); 3] = [
     (
         "plan 1\ngroup 1\nremove c/lib-1:0\nadd c/lib-2:0/2\n",
-        "unsafe app-1 c/lib:0/1=",
+        "unsatisfied app-1 c/lib:0/1=",
     ),
     (
         "plan 1\ngroup 1\nremove c/app-1:0\nremove c/lib-1:0\nadd c/app-1:0/0\nbind 0/2\n\
@@ -50,7 +50,7 @@ const REBUILDS: [(&str, &str); 3] = [
     (
         "plan 1\ngroup 1\nremove c/app-1:0\nremove c/lib-1:0\nadd c/app-1:0/0\nbind 0/1\n\
          add c/lib-2:0/2\n",
-        "unsafe app-1 c/lib:0/1=",
+        "unsatisfied app-1 c/lib:0/1=",
     ),
 ];
 

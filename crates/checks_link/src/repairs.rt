@@ -84,12 +84,17 @@ fn repair_of_a_broken_opening(rt: HostRuntime) -> Result<(), Fail> {
 
 /// Groups behind which something is still broken.
 const BROKEN: [Row; 5] = [
-    ("u-1;RDEPEND c/v", "w-1", "add c/w-1:0/0", "unsafe u-1 c/v"),
+    (
+        "u-1;RDEPEND c/v",
+        "w-1",
+        "add c/w-1:0/0",
+        "unsatisfied u-1 c/v",
+    ),
     (
         "t-1;RDEPEND c/v,s-1;RDEPEND c/z",
         "w-1",
         "",
-        "unsafe t-1 c/v",
+        "unsatisfied t-1 c/v",
     ),
     (
         "a-1,b-1;RDEPEND !c/a",
@@ -131,7 +136,7 @@ const UNFIT: [Row; 8] = [
         "u-1;RDEPEND c/x",
         "v-1;RDEPEND c/w",
         "add c/v-1:0/0",
-        "unsafe v-1 c/w",
+        "unsatisfied v-1 c/w",
     ),
     (
         "u-1;RDEPEND c/x,w-1",

@@ -35,7 +35,7 @@ left_clear (commit g) rule clear = nothing_clear
 left_clear never rule clear = clear
 
 line_clear : (plan : List Group) → IsClear (line_rule plan)
-line_clear plan e h k = let u = k.3 in u.apart (h k.1 k.2 k.0 u.below u.one u.other)
+line_clear plan e h k = let u = k.1.unordered in u.apart (h k.0.lower k.0.higher k.0.line u.below u.one u.other)
 
 apart_clear : (g : ℕ) (group : Group) → IsClear (apart_rule g group)
 apart_clear g group e h k = twins_not_apart group.additions k.0 k.1 h k.2

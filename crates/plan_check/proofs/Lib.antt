@@ -15,5 +15,6 @@ pub mod Serving
 pub mod KeptOut
 pub mod InTheWay
 pub mod Told
+pub mod AtHome
 pub mod Judged
 pub mod Clearing

@@ -1,134 +1,34 @@
--- Of the groups that change a line, each reaches the next, and so each later one.
-use Rattle.std.proofs.Common.{◌≡◌, ◌⊎◌, ◌<◌, ◌≤◌, ◌+◌, ◌-◌, ◌∙◌, ℕ, zero, suc, Bool, false, cond, List, [], ◌∷◌, ◌++◌, Option, None, Some, bytes_eq, get_or, length, map, inl, inr, refl, sym, ap, subst, take, arith}
+-- The changes of a plan, and the first two of one line that are unordered.
+use denote.Ref.{Bor}
+use Rattle.std.proofs.Common.{◌≡◌, ◌⊎◌, ◌<◌, ◌≤◌, ◌+◌, ◌-◌, ◌∙◌, ℕ, Bool, true, false, cond, List, [], ◌∷◌, ◌++◌, Option, None, Some, Vec, Global, bytes_eq, filter, get_or, length, map, inl, inr, refl, sym, ap, subst, arith}
+use Rattle.std.specs.BTreeMap.{BTreeMap}
+use Rattle.std.specs.Cmp.{IsTotalOrder}
+use Rattle.std.specs.Cmp.Lexicographic.{nat_list_cmp_total}
+use Rattle.std.specs.Ordering.{is_gt, is_lt, ordering_reverse}
+use Rattle.std.specs.declared.cmp.Ordering.{Ordering}
+use Rattle.std.specs.declared.cmp.Ordering.TheVariants.{Equal, Greater, Less}
 use Rattle.std.proofs.lemmas.Bool.{cases_Bool, cases_order}
+use Rattle.std.proofs.lemmas.Cmp.{nat_cmp_total, on_total, then_total, tied_itself, upto}
+use Rattle.std.proofs.lemmas.List.{map-append}
+use Rattle.std.proofs.lemmas.List.Elements.{filter-append}
 use Rattle.std.proofs.lemmas.Slice.Eq.{bytes_eq-Decides}
 use Rattle.basics.specs.Members.{Has}
-use Rattle.basics.proofs.Membership.{has-append_cases, has-append_left, has-append_right, has-at, has-map, has-map_back}
+use Rattle.basics.proofs.Membership.{has-append_cases, has-append_left, has-append_right, has-filter, has-filter_back, has-map, has-map_back}
+use Rattle.pkg_state.specs.Index.{listed, one_under}
 use Rattle.pkg_state.specs.Package.{Package, line_of}
-use Rattle.plan_law.specs.Plans.{Group, Reaches, Removal, WaitsForEarlier, before, clears, group_at, itself, removed_line}
+use Rattle.plan_law.specs.Plans.{Group, Reaches, Removal, WaitsForEarlier, clears, group_at, removed_line}
 use Rattle.plan_law.specs.Accepted.{Changes}
 use Rattle.plan_law.proofs.Cleared.{adding_is_there, clearing_is_there}
 use Rattle.plan_law.proofs.Closed.{not_behind}
 use Rattle.plan_law.proofs.Members.{passes_some, some_passes}
-use Rattle.plan_check.specs.Changes.{AreOrdered, changes_from, changes_of}
-use Rattle.plan_check.specs.Rules.{AreUnordered, line_rule}
+use Rattle.plan_check.specs.Changes.{AreByLine, changes_from, changes_of, earlier, groups_on}
+use Rattle.plan_check.specs.Pairs.{Pair, pair_cmp}
+use Rattle.plan_check.specs.Reaching.{AreReaching, has_bit}
+use Rattle.plan_check.specs.Rules.{AreUnordered, IsFirstUnordered, line_rule}
 use Rattle.plan_check.proofs.Clears.{Stands, all_stand, rest_stands, stands_here}
 
 abbrev pub Changed : Type 0
 Changed = List ℕ × ℕ
-
-pub reaches_on : (plan : List Group) (a b c : ℕ) → Reaches plan a b → Reaches plan b c → Reaches plan a c
-reaches_on plan a b c r itself = r
-reaches_on plan a b c r (before k i w s) = before k i w (reaches_on plan a b k r s)
-
--- the groups of these changes don't fall
-abbrev pub AreRising : List Changed → Type 0
-AreRising [] = Unit {0}
-AreRising (c ∷ cs) = ((x : Changed) → Has cs x → c.1 ≤ x.1) × AreRising cs
-
-rising_joined : (xs ys : List Changed) → AreRising xs → AreRising ys → ((x y : Changed) → Has xs x → Has ys y → x.1 ≤ y.1) → AreRising (xs ++ ys)
-rising_joined [] ys r s le = s
-rising_joined (x ∷ xs) ys r s le = (
-  (λ y h. elim (has-append_cases xs ys y h) [ inl here ↦ r.0 y here | inr later ↦ le x y (inl refl) later ]),
-  rising_joined xs ys r.1 s (λ a b ha hb. le a b (inr ha) hb),
-)
-
-rising_same : (xs : List Changed) (g : ℕ) → ((x : Changed) → Has xs x → x.1 ≡ g) → AreRising xs
-rising_same [] g all = tt
-rising_same (x ∷ xs) g all = ((λ y h. let a = all x (inl refl) in let b = all y (inr h) in omega (arith, a, b)), rising_same xs g (λ y h. all y (inr h)))
-
-of_group : (g : ℕ) (group : Group) (x : Changed) → Has (changes_of g group) x → x.1 ≡ g
-of_group g group x h = elim (has-append_cases (map (λ (r : Removal). (removed_line r, g)) group.removals) (map (λ (p : Package). (line_of p.facts, g)) group.additions) x h) [
-  | inl removed ↦ (let k = has-map_back (λ (r : Removal). (removed_line r, g)) group.removals x removed in ap (λ (c : Changed). c.1) (sym k.2))
-  | inr added ↦ (let k = has-map_back (λ (p : Package). (line_of p.facts, g)) group.additions x added in ap (λ (c : Changed). c.1) (sym k.2))
-]
-
-from_on : (rest : List Group) (n : ℕ) (x : Changed) → Has (changes_from n rest) x → n ≤ x.1
-from_on [] n x h = absurd h
-from_on (group ∷ rest) n x h = elim (has-append_cases (changes_of n group) (changes_from (n + 1) rest) x h) [
-  | inl here ↦ (let e = of_group n group x here in omega (arith, e))
-  | inr later ↦ (let le = from_on rest (n + 1) x later in omega (arith, le))
-]
-
-pub changes_rise : (rest : List Group) (n : ℕ) → AreRising (changes_from n rest)
-changes_rise [] n = tt
-changes_rise (group ∷ rest) n = rising_joined (changes_of n group) (changes_from (n + 1) rest) (rising_same (changes_of n group) n (of_group n group)) (changes_rise rest (n + 1))
-    (λ x y hx hy. let e = of_group n group x hx in let le = from_on rest (n + 1) y hy in omega (arith, e, le))
-
-pub none_later : (xs : List Changed) (i : ℕ) (x y : Changed) → AreRising xs → i < length xs → Has (take i xs) x → y ≡ get_or xs i y → x.1 ≤ y.1
-none_later [] i x y r lt h is = absurd (omega (arith, lt))
-none_later (c ∷ cs) zero x y r lt h is = absurd h
-none_later (c ∷ cs) (suc i) x y r lt (inl e) is = (
-    let le = r.0 y (at_place cs i y (omega (arith, lt)) is) in
-    let same = ap (λ (z : Changed). z.1) e in omega (arith, le, same)) where
-      at_place : (zs : List Changed) (j : ℕ) (z : Changed) → j < length zs → z ≡ get_or zs j z → Has zs z
-      at_place [] j z l k = absurd (omega (arith, l))
-      at_place (w ∷ zs) zero z l k = inl (sym k)
-      at_place (w ∷ zs) (suc j) z l k = inr (at_place zs j z (omega (arith, l)) k)
-none_later (c ∷ cs) (suc i) x y r lt (inr h) is = none_later cs i x y r.1 (omega (arith, lt)) h is
-
--- what is known of the changes that were gone through, where `last` has the last group of each line
-pub record AreGone (plan : List Group) (seen : List Changed) (last : List ℕ → Option ℕ) : Type 0 where
-  pub ordered : AreOrdered plan seen
-  pub reached : (line : List ℕ) (g : ℕ) → Has seen (line, g) → (k : ℕ) × (last line ≡ Some k) × Reaches plan k g
-  pub noted : (line : List ℕ) (k : ℕ) → last line ≡ Some k → Has seen (line, k)
-
-pub none_gone : (plan : List Group) (last : List ℕ → Option ℕ) → ((line : List ℕ) → last line ≡ None) → AreGone plan [] last
-none_gone plan last none = record {
-  ordered = λ g h line a b. absurd a;
-  reached = λ line g a. absurd a;
-  noted = λ line k e. absurd (let both : None ≡ Some k = sym (none line) ∙ e in cc both);
-}
-
-some_is : (a b : ℕ) → Some a ≡ Some b → a ≡ b
-some_is a b e = cc e
-
-module _ (plan : List Group) (seen : List Changed) (last now : List ℕ → Option ℕ) (l : List ℕ) (g : ℕ) (gone : AreGone plan seen last)
-    (reaches : (k : ℕ) → last l ≡ Some k → Reaches plan g k)
-    (changed : (line : List ℕ) → now line ≡ cond (bytes_eq l line) (Some g) (last line)) where
-  here : (line : List ℕ) → l ≡ line → now line ≡ Some g
-  here line e = changed line ∙ ap (λ (b : Bool). cond b (Some g) (last line)) ((bytes_eq-Decides l line).1 e)
-
-  reached_here : (line : List ℕ) (h : ℕ) → Has seen (line, h) → l ≡ line → Reaches plan g h
-  reached_here line h has e = let k = gone.reached line h has in reaches_on plan g k.0 h (reaches k.0 (ap last e ∙ k.1)) k.2
-
-  new : (line : List ℕ) (h : ℕ) → Has {A = Changed} ((l, g) ∷ []) (line, h) → (l ≡ line) × (g ≡ h)
-  new line h (inl e) = (ap (λ (c : Changed). c.0) e, ap (λ (c : Changed). c.1) e)
-  new line h (inr none) = absurd none
-
-  to : (line : List ℕ) (h : ℕ) → Has (seen ++ (l, g) ∷ []) (line, h) → Has seen (line, h) ⊎ ((l ≡ line) × (g ≡ h))
-  to line h has = elim (has-append_cases seen ((l, g) ∷ []) (line, h) has) [ inl old ↦ inl old | inr one ↦ inr (new line h one) ]
-
-  ordered : AreOrdered plan (seen ++ (l, g) ∷ [])
-  ordered a b line ha hb = elim (to line a ha) [
-    | inl old ↦ elim (to line b hb) [
-      | inl other ↦ gone.ordered a b line old other
-      | inr one ↦ inl (subst (λ (n : ℕ). Reaches plan n a) one.1 (reached_here line a old one.0))
-    ]
-    | inr one ↦ elim (to line b hb) [
-      | inl other ↦ inr (subst (λ (n : ℕ). Reaches plan n b) one.1 (reached_here line b other one.0))
-      | inr two ↦ inl (subst (λ (n : ℕ). Reaches plan b n) (sym two.1 ∙ one.1) itself)
-    ]
-  ]
-
-  reached : (line : List ℕ) (h : ℕ) → Has (seen ++ (l, g) ∷ []) (line, h) → (k : ℕ) × (now line ≡ Some k) × Reaches plan k h
-  reached line h has = elim (to line h has) [
-    | inr one ↦ (g, here line one.0, subst (λ (n : ℕ). Reaches plan g n) one.1 itself)
-    | inl old ↦ elim (cases_Bool (bytes_eq l line)) [
-      | inl y ↦ (let e = (bytes_eq-Decides l line).0 y in (g, here line e, reached_here line h old e))
-      | inr n ↦ (let k = gone.reached line h old in (k.0, changed line ∙ (ap (λ (b : Bool). cond b (Some g) (last line)) n ∙ k.1), k.2))
-    ]
-  ]
-
-  noted : (line : List ℕ) (k : ℕ) → now line ≡ Some k → Has (seen ++ (l, g) ∷ []) (line, k)
-  noted line k e = elim (cases_Bool (bytes_eq l line)) [
-    | inl y ↦ (let same = (bytes_eq-Decides l line).0 y in let n = some_is g k (sym (here line same) ∙ e) in
-        has-append_right seen ((l, g) ∷ []) (line, k) (inl (λ i. (same i, n i))))
-    | inr n ↦ has-append_left seen ((l, g) ∷ []) (line, k) (gone.noted line k (sym (changed line ∙ ap (λ (b : Bool). cond b (Some g) (last line)) n) ∙ e))
-  ]
-
-  pub gone_more : AreGone plan (seen ++ (l, g) ∷ []) now
-  gone_more = record { ordered = ordered; reached = reached; noted = noted }
 
 module _ (plan : List Group) where
   changes_step : (rest : List Group) (n g : ℕ) (line : List ℕ) → Stands plan n rest → n ≤ g → Changes plan g line → Has (changes_from n rest) (line, g)
@@ -173,53 +73,154 @@ module _ (plan : List Group) where
     ]
   ]
 
-has_taken : {A : Type 0} (xs : List A) (i : ℕ) (x : A) → Has (take i xs) x → Has xs x
-has_taken xs zero x h = absurd h
-has_taken [] (suc i) x h = h
-has_taken (y ∷ xs) (suc i) x (inl e) = inl e
-has_taken (y ∷ xs) (suc i) x (inr h) = inr (has_taken xs i x h)
-
 module _ (plan : List Group) (all : List Changed) (is_all : all ≡ changes_from 0 plan) where
-  changes_at : (line : List ℕ) (g : ℕ) → Has all (line, g) → Changes plan g line
+  pub changes_at : (line : List ℕ) (g : ℕ) → Has all (line, g) → Changes plan g line
   changes_at line g h = changed_step plan plan 0 g line (all_stand plan) (subst (λ (cs : List Changed). Has {A = Changed} cs (line, g)) is_all h)
 
-  at_changes : (line : List ℕ) (g : ℕ) → Changes plan g line → Has {A = Changed} all (line, g)
+  pub at_changes : (line : List ℕ) (g : ℕ) → Changes plan g line → Has {A = Changed} all (line, g)
   at_changes line g ch = subst (λ (cs : List Changed). Has {A = Changed} cs (line, g)) (sym is_all) (changes_step plan plan 0 g line (all_stand plan) (omega arith) ch)
 
-  is_there : (line : List ℕ) (g : ℕ) → Changes plan g line → g < length plan
-  is_there line g (inl e) = clearing_is_there plan g line e
-  is_there line g (inr p) = adding_is_there plan g p.0 p.1
+-- a group that changes a line is there
+pub is_there : (plan : List Group) (line : List ℕ) (g : ℕ) → Changes plan g line → g < length plan
+is_there plan line g (inl e) = clearing_is_there plan g line e
+is_there plan line g (inr p) = adding_is_there plan g p.0 p.1
 
-  pub all_ordered : (last : List ℕ → Option ℕ) → AreGone plan all last → line_rule plan None
-  all_ordered last gone g h line less cg ch = gone.ordered g h line (at_changes line g cg) (at_changes line h ch)
+-- one change more stands under its line
+abbrev Lists : Type 0
+Lists = BTreeMap (Bor (List ℕ)) (Vec ℕ Global)
 
-  module _ (i : ℕ) (l : List ℕ) (g : ℕ) (lt : i < length all) (is : (l, g) ≡ get_or all i (l, g)) where
-    this_changes : Changes plan g l
-    this_changes = changes_at l g (has-at all i (l, g) lt is)
+one_group : (b : Bool) (c : Changed) → map (λ (x : Changed). x.1) (cond b (c ∷ []) []) ≡ cond b (c.1 ∷ []) []
+one_group true c = refl
+one_group false c = refl
 
-    pub this_is_there : g < length plan
-    this_is_there = is_there l g this_changes
+pub by_line_more : (cs : List Changed) (c : Changed) (line : List ℕ) (old new : Lists) → line ≡ c.0 → AreByLine cs old → ((text : List ℕ) → listed new text ≡ listed old text ++ one_under line text c.1) → AreByLine (cs ++ c ∷ []) new
+by_line_more cs c line old new own are put text =
+    put text ∙ (ap (λ (gs : List ℕ). gs ++ one_under line text c.1) (are text)
+    ∙ (ap (λ (gs : List ℕ). groups_on text cs ++ gs) (ap (λ (l : List ℕ). one_under l text c.1) own ∙ sym (one_group (bytes_eq text c.0) c))
+    ∙ (sym (map-append (λ (x : Changed). x.1) (filter (λ (x : Changed). bytes_eq text x.0) cs) (filter (λ (x : Changed). bytes_eq text x.0) (c ∷ [])))
+    ∙ ap (map (λ (x : Changed). x.1)) (sym (filter-append (λ (x : Changed). bytes_eq text x.0) cs (c ∷ []))))))
 
-    module _ (last : List ℕ → Option ℕ) (gone : AreGone plan (take i all) last) (k : ℕ) (was : last l ≡ Some k) where
-      earlier_has : Has {A = Changed} (take i all) (l, k)
-      earlier_has = gone.noted l k was
+-- the groups under a line are those that change it
+pub on_line : (cs : List Changed) (line : List ℕ) (g : ℕ) → Has (groups_on line cs) g → Has {A = Changed} cs (line, g)
+on_line cs line g h =
+    let k = has-map_back (λ (x : Changed). x.1) (filter (λ (x : Changed). bytes_eq line x.0) cs) g h in
+    let m = has-filter_back (λ (x : Changed). bytes_eq line x.0) cs k.0 k.1 in
+    subst (λ (x : Changed). Has cs x) (λ i. (sym ((bytes_eq-Decides line k.0.0).0 m.1) i, k.2 i)) m.0
 
-      earlier_changes : Changes plan k l
-      earlier_changes = changes_at l k (has_taken all i (l, k) earlier_has)
+pub under_line : (cs : List Changed) (line : List ℕ) (g : ℕ) → Has {A = Changed} cs (line, g) → Has (groups_on line cs) g
+under_line cs line g h = has-map (λ (x : Changed). x.1) (filter (λ (x : Changed). bytes_eq line x.0) cs) (line, g) (has-filter (λ (x : Changed). bytes_eq line x.0) cs (line, g) h ((bytes_eq-Decides line line).1 refl))
 
-      pub earlier_is_there : k < length plan
-      earlier_is_there = is_there l k earlier_changes
+-- pairs are in order
+abbrev pub pairs_total : IsTotalOrder pair_cmp
+pairs_total = then_total (then_total (on_total (λ (p : Pair). p.line) nat_list_cmp_total) (on_total (λ (p : Pair). p.lower) nat_cmp_total)) (on_total (λ (p : Pair). p.higher) nat_cmp_total)
 
-      pub unordered : WaitsForEarlier plan → ¬ Reaches plan g k → AreUnordered plan l k g
-      unordered f apart =
-          let le : k ≤ g = none_later all i (l, k) (l, g) (subst (λ (cs : List Changed). AreRising cs) (sym is_all) (changes_rise plan 0)) lt earlier_has is in
-          let less : k < g = elim (cases_order k g) [
-            | inl same ↦ absurd (apart (subst (λ (n : ℕ). Reaches plan g n) (sym same) itself))
-            | inr other ↦ elim other [ inl below ↦ below | inr above ↦ omega (arith, le, above) ]
-          ] in
-          record {
-            below = less;
-            one = earlier_changes;
-            other = this_changes;
-            apart = λ r. elim r [ inl a ↦ apart a | inr b ↦ (let back = not_behind plan f k g b in omega (arith, back, less)) ];
-          }
+less_not_more : (o : Ordering) → is_lt o ≡ true → is_gt o ≡ false
+less_not_more Less e = refl
+less_not_more Equal e = refl
+less_not_more Greater e = absurd (cc e)
+
+turned : (o p : Ordering) → o ≡ ordering_reverse p → is_lt p ≡ false → is_gt o ≡ false
+turned o Less e off = absurd (cc off)
+turned o Equal e off = ap is_gt e
+turned o Greater e off = ap is_gt e
+
+-- the pairs of these changes
+abbrev pub IsSeen : List Changed → Pair → Type 0
+IsSeen cs q = Has {A = Changed} cs (q.line, q.lower)
+
+-- .. and those of one change and of these groups
+abbrev pub IsSeenWith : List Changed → Changed → List ℕ → Pair → Type 0
+IsSeenWith cs c gs q = IsSeen cs q ⊎ ((c ≡ (q.line, q.lower)) × Has gs q.higher)
+
+module _ (plan : List Group) where
+  -- the first of the unordered pairs that were seen so far
+  abbrev pub IsBest : (Pair → Type 0) → Option Pair → Type 0
+  IsBest Seen None = (q : Pair) → Seen q → ¬ AreUnordered plan q
+  IsBest Seen (Some p) = AreUnordered plan p × ((q : Pair) → Seen q → AreUnordered plan q → is_gt (pair_cmp p q) ≡ false)
+
+  pub best_of_none : IsBest (λ q. ⊥) None
+  best_of_none q seen = absurd seen
+
+  -- what was seen is what counts
+  pub best_too : (Seen Also : Pair → Type 0) (o : Option Pair) → ((q : Pair) → Also q → AreUnordered plan q → Seen q) → IsBest Seen o → IsBest Also o
+  best_too Seen Also None to best = λ q also u. best q (to q also u) u
+  best_too Seen Also (Some p) to best = (best.0, λ q also u. best.1 q (to q also u) u)
+
+  better : (Seen : Pair → Type 0) (p q : Pair) (b : Bool) → is_lt (pair_cmp q p) ≡ b → IsBest Seen (Some p) → AreUnordered plan q → IsBest (λ x. Seen x ⊎ (q ≡ x)) (Some (cond b q p))
+  better Seen p q true e best u = (u, rest) where
+    below : is_gt (pair_cmp q p) ≡ false
+    below = less_not_more (pair_cmp q p) e
+
+    rest : (x : Pair) → Seen x ⊎ (q ≡ x) → AreUnordered plan x → is_gt (pair_cmp q x) ≡ false
+    rest x (inl seen) v = upto pairs_total q p x below (best.1 x seen v)
+    rest x (inr same) v = ap is_gt (ap (pair_cmp q) (sym same) ∙ tied_itself pairs_total q)
+  better Seen p q false e best u = (best.0, rest) where
+    rest : (x : Pair) → Seen x ⊎ (q ≡ x) → AreUnordered plan x → is_gt (pair_cmp p x) ≡ false
+    rest x (inl seen) v = best.1 x seen v
+    rest x (inr same) v = subst (λ (y : Pair). is_gt (pair_cmp p y) ≡ false) same (turned (pair_cmp p q) (pair_cmp q p) (pairs_total.antisymm p q) e)
+
+  -- one unordered pair more
+  pub best_more : (Seen : Pair → Type 0) (o : Option Pair) (q : Pair) → IsBest Seen o → AreUnordered plan q → IsBest (λ x. Seen x ⊎ (q ≡ x)) (Some (earlier o q))
+  best_more Seen None q best u = (u, rest) where
+    rest : (x : Pair) → Seen x ⊎ (q ≡ x) → AreUnordered plan x → is_gt (pair_cmp q x) ≡ false
+    rest x (inl seen) v = absurd (best x seen v)
+    rest x (inr same) v = ap is_gt (ap (pair_cmp q) (sym same) ∙ tied_itself pairs_total q)
+  best_more Seen (Some p) q best u = better Seen p q (is_lt (pair_cmp q p)) refl best u
+
+  -- two groups of a line of which the higher one doesn't reach the lower one
+  pub unordered : WaitsForEarlier plan → (line : List ℕ) (g h : ℕ) → Changes plan g line → Changes plan h line → (g < h) × (¬ Reaches plan h g) → AreUnordered plan (record { line = line; lower = g; higher = h })
+  unordered f line g h one other apart = record {
+    below = apart.0;
+    one = one;
+    other = other;
+    apart = λ r. elim r [ inl a ↦ apart.1 a | inr b ↦ (let back = not_behind plan f g h b in let less = apart.0 in omega (arith, back, less)) ];
+  }
+
+  pub not_unordered : (p : Pair) → AreUnordered plan p → (p.lower < p.higher) × (¬ Reaches plan p.higher p.lower)
+  not_unordered p u = (u.below, λ r. u.apart (inl r))
+
+  module _ (cs : List Changed) (c : Changed) (gs : List ℕ) (h : ℕ) (o : Option Pair) (best : IsBest (IsSeenWith cs c gs) o) where
+    cases : (q : Pair) → IsSeenWith cs c (gs ++ h ∷ []) q → IsSeenWith cs c gs q ⊎ (record { line = c.0; lower = c.1; higher = h } ≡ q)
+    cases q (inl seen) = inl (inl seen)
+    cases q (inr now) = elim (has-append_cases gs (h ∷ []) q.higher now.1) [
+      | inl old ↦ inl (inr (now.0, old))
+      | inr new ↦ elim new [ inl e ↦ inr (λ i. record { line = (now.0 i).0; lower = (now.0 i).1; higher = e i }) | inr none ↦ absurd none ]
+    ]
+
+    pub with_pair : AreUnordered plan (record { line = c.0; lower = c.1; higher = h }) → IsBest (IsSeenWith cs c (gs ++ h ∷ [])) (Some (earlier o (record { line = c.0; lower = c.1; higher = h })))
+    with_pair u = best_too (λ x. IsSeenWith cs c gs x ⊎ (record { line = c.0; lower = c.1; higher = h } ≡ x)) (IsSeenWith cs c (gs ++ h ∷ [])) (Some (earlier o (record { line = c.0; lower = c.1; higher = h })))
+        (λ q also v. cases q also) (best_more (IsSeenWith cs c gs) o (record { line = c.0; lower = c.1; higher = h }) best u)
+
+    pub with_none : ¬ AreUnordered plan (record { line = c.0; lower = c.1; higher = h }) → IsBest (IsSeenWith cs c (gs ++ h ∷ [])) o
+    with_none off = best_too (IsSeenWith cs c gs) (IsSeenWith cs c (gs ++ h ∷ [])) o to best where
+      to : (q : Pair) → IsSeenWith cs c (gs ++ h ∷ []) q → AreUnordered plan q → IsSeenWith cs c gs q
+      to q also v = elim (cases q also) [ inl old ↦ old | inr same ↦ absurd (off (subst (AreUnordered plan) (sym same) v)) ]
+
+  module _ (all : List Changed) (is_all : all ≡ changes_from 0 plan) where
+    -- all groups of the change's line were gone through
+    pub all_with : (cs : List Changed) (c : Changed) (o : Option Pair) → IsBest (IsSeenWith cs c (groups_on c.0 all)) o → IsBest (IsSeen (cs ++ c ∷ [])) o
+    all_with cs c o best = best_too (IsSeenWith cs c (groups_on c.0 all)) (IsSeen (cs ++ c ∷ [])) o to best where
+      to : (q : Pair) → IsSeen (cs ++ c ∷ []) q → AreUnordered plan q → IsSeenWith cs c (groups_on c.0 all) q
+      to q seen u = elim (has-append_cases cs (c ∷ []) (q.line, q.lower) seen) [
+        | inl old ↦ inl old
+        | inr now ↦ elim now [
+          | inl e ↦ inr (e, subst (λ (l : List ℕ). Has (groups_on l all) q.higher) (sym (ap (λ (x : Changed). x.0) e)) (under_line all q.line q.higher (at_changes plan all is_all q.line q.higher u.other)))
+          | inr none ↦ absurd none
+        ]
+      ]
+
+    -- all changes were gone through
+    pub first_of_all : (o : Option Pair) → IsBest (IsSeen all) o → IsBest (λ q. Unit {0}) o
+    first_of_all o best = best_too (IsSeen all) (λ q. Unit {0}) o (λ q t u. at_changes plan all is_all q.line q.lower u.one) best
+
+  -- there is none: whether one group reaches another is in the table
+  pub none_apart : (rows : List (List ℕ)) → AreReaching plan rows → WaitsForEarlier plan → IsBest (λ q. Unit {0}) None → line_rule plan None
+  none_apart rows are f best g h line less one other =
+      let marks = are.marks h g (is_there plan line h other) (is_there plan line g one) in
+      elim (cases_Bool (has_bit (get_or rows h []) g)) [
+        | inl y ↦ inl (marks.0 y)
+        | inr n ↦ absurd (best (record { line = line; lower = g; higher = h }) tt (unordered f line g h one other (less, λ r. let y = marks.1 r in let off : true ≡ false = sym y ∙ n in cc off)))
+      ]
+
+  pub first_apart : (p : Pair) → IsBest (λ q. Unit {0}) (Some p) → IsFirstUnordered plan p
+  first_apart p best = record { unordered = best.0; first = λ q u. best.1 q tt u }

@@ -6,7 +6,9 @@ pub mod Clearings
 pub mod Index
 pub mod Verdicts
 pub mod Refusals
+pub mod Pairs
 pub mod Rules
+pub mod Home
 pub mod Changes
 pub mod Stretches
 pub mod Chains

@@ -1,5 +1,5 @@
 -- The rules of the check that are tried package by package, and the whole check.
-use Rattle.std.specs.Prelude.{◌≡◌, ℕ, ◌+◌, Bool, true, false, List, Option, filter, map}
+use Rattle.std.specs.Prelude.{◌≡◌, ◌⊎◌, ℕ, ◌+◌, Bool, true, false, List, Option, None, Some, filter, map}
 use Rattle.pms_names.specs.Flags.{has}
 use Rattle.dep_atom.specs.Values.{AtomValue}
 use Rattle.pkg_state.specs.Consistent.{blocks, facts_of, fits_required, is_met}
@@ -10,8 +10,9 @@ use Rattle.pkg_state.specs.declared.class.Class.TheVariants.{Bdepend, Depend, Id
 use Rattle.plan_law.specs.Plans.{Group}
 use Rattle.plan_law.specs.Firm.{IsChained, IsFirm}
 use Rattle.plan_law.specs.Lives.{Life, Meets, Moment, Stretch, commit, never, opening, stretch_of, until}
-use Rattle.plan_law.specs.Accepted.{IsFirmThrough}
+use Rattle.plan_law.specs.Accepted.{AreLeft, IsFirmThrough}
 use Rattle.plan_law.specs.Sound.{bars}
+use Rattle.plan_check.specs.Home.{AreThereAt, among, met_rule}
 use Rattle.plan_check.specs.Leaves.{IsLeafOfAll}
 use Rattle.plan_check.specs.Lives.{lives}
 use Rattle.plan_check.specs.Refusals.{Refusal, Refusal as refused}
@@ -37,12 +38,30 @@ IsMissing plan start s class p =
     IsLeafOfAll (λ t. ¬ IsFirm (IsChained plan start p.facts.enabled s) (has p.facts.enabled) t)
     (has p.facts.enabled) (tree_of class p)
 
+-- a rule for what stays
+abbrev pub if_left : Moment → (Option Refusal → Type 0) → Option Refusal → Type 0
+if_left opening rule = nothing
+if_left (commit g) rule = nothing
+if_left never rule = rule
+
+-- what a package needs while it runs is there when it comes and, if it stays, at the end
+abbrev pub satisfied_rule : List Group → List Package → Life → Option Refusal → Type 0
+satisfied_rule plan start x =
+    both (among (AreThereAt plan start x.birth) (met_rule x))
+    (if_left x.death (among (AreLeft plan start) (met_rule x)))
+
+-- .. and yet it may be missing at some time
+abbrev pub IsUnsafe : List Group → List Package → Life → Refusal → Type 0
+IsUnsafe plan start x e =
+    (leaf : Option AtomValue) × IsMissing plan start (stretch_of x) Rdepend x.package_is leaf
+    × (e ≡ refused.Unsafe x.package_is.facts.id leaf)
+
 -- what a package needs while it runs is there all through its life
 abbrev pub lasting_rule : List Group → List Package → Life → Option Refusal → Type 0
 lasting_rule plan start x =
     demand_as (IsFirmThrough plan start (stretch_of x) Rdepend x.package_is) (λ e.
-    (leaf : Option AtomValue) × IsMissing plan start (stretch_of x) Rdepend x.package_is leaf
-    × (e ≡ refused.Unsafe x.package_is.facts.id leaf))
+    satisfied_rule plan start x (Some e)
+    ⊎ (satisfied_rule plan start x None × IsUnsafe plan start x e))
 
 -- what it blocks isn't there with it
 abbrev pub unblocked_rule : List Group → List Package → Life → Option Refusal → Type 0
@@ -85,12 +104,6 @@ left_among xs = map (λ x. x.package_is) (filter (λ x. is_never x.death) xs)
 
 abbrev pub left_of : List Group → List Package → List Package
 left_of plan start = left_among (lives plan start)
-
--- a rule for what stays
-abbrev pub if_left : Moment → (Option Refusal → Type 0) → Option Refusal → Type 0
-if_left opening rule = nothing
-if_left (commit g) rule = nothing
-if_left never rule = rule
 
 -- what it wants later is there at the end
 abbrev pub finished_rule : List Group → List Package → Life → Option Refusal → Type 0

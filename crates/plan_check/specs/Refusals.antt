@@ -14,6 +14,7 @@ pub data Refusal : Type 0 where
   Occupied : (g : ℕ) (id other : PackageId) → Refusal
   Opening : (fault : state.Fault) → Refusal
   RequiredUse : (id : PackageId) → Refusal
+  Unsatisfied : (g : ℕ) (id : PackageId) (class : Class) (leaf : Option AtomValue) → Refusal
   Unsafe : (id : PackageId) (leaf : Option AtomValue) → Refusal
   Blocked : (id other : PackageId) → Refusal
   Barred : (g : ℕ) (id other : PackageId) → Refusal
@@ -27,6 +28,8 @@ told (refused.Absent g id) = Some (Absent g id)
 told (refused.Occupied g id other) = Some (Occupied g id other)
 told (refused.Opening fault) = option_map Opening (state.told fault)
 told (refused.RequiredUse id) = Some (RequiredUse id)
+told (refused.Unsatisfied g id class leaf) =
+    Some (Unsatisfied g id class (option_map atom_value leaf))
 told (refused.Unsafe id leaf) = Some (Unsafe id (option_map atom_value leaf))
 told (refused.Blocked id other) = Some (Blocked id other)
 told (refused.Barred g id other) = Some (Barred g id other)

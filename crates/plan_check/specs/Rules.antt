@@ -1,5 +1,6 @@
 -- The rules of the check, in the order in which they are tried.
 use Rattle.std.specs.Prelude.{◌≡◌, ◌⊎◌, ◌<◌, ℕ, ◌+◌, false, List, Option, None, Some}
+use Rattle.std.specs.Ordering.{is_gt}
 use Rattle.pkg_state.specs.Consistent.{AreApart, AreConsistent}
 use Rattle.pkg_state.specs.Fault as state
 use Rattle.pkg_state.specs.Package.{Package, line_of}
@@ -7,15 +8,21 @@ use Rattle.plan_law.specs.Plans.{Group, Reaches, Removal, clears, group_at, remo
 use Rattle.plan_law.specs.Lives.{IsLife, Life, Meets, Moment, StandsBefore, commit, never, opening, stretch_of}
 use Rattle.plan_law.specs.Accepted.{Changes}
 use Rattle.plan_check.specs.Lives.{lives}
+use Rattle.plan_check.specs.Pairs.{Pair, pair_cmp}
 use Rattle.plan_check.specs.Refusals.{Refusal, Refusal as refused}
 use Rattle.plan_check.specs.Verdicts.{demand, each, each_from, refuse}
 
--- two groups change the line, and neither reaches the other
-pub record AreUnordered (plan : List Group) (line : List ℕ) (g h : ℕ) : Type 0 where
-  pub below : g < h
-  pub one : Changes plan g line
-  pub other : Changes plan h line
-  pub apart : ¬ (Reaches plan h g ⊎ Reaches plan g h)
+-- both groups change the line, and neither reaches the other
+pub record AreUnordered (plan : List Group) (p : Pair) : Type 0 where
+  pub below : p.lower < p.higher
+  pub one : Changes plan p.lower p.line
+  pub other : Changes plan p.higher p.line
+  pub apart : ¬ (Reaches plan p.higher p.lower ⊎ Reaches plan p.lower p.higher)
+
+-- .. and no such pair comes before this one
+pub record IsFirstUnordered (plan : List Group) (p : Pair) : Type 0 where
+  pub unordered : AreUnordered plan p
+  pub first : (q : Pair) → AreUnordered plan q → is_gt (pair_cmp p q) ≡ false
 
 -- of two groups that change one line one reaches the other
 abbrev pub line_rule : List Group → Option Refusal → Type 0
@@ -23,8 +30,7 @@ line_rule plan None =
     (g h : ℕ) (line : List ℕ) → g < h → Changes plan g line → Changes plan h line →
     Reaches plan h g ⊎ Reaches plan g h
 line_rule plan (Some e) =
-    (line : List ℕ) × (g : ℕ) × (h : ℕ) × AreUnordered plan line g h
-    × (e ≡ refused.Line line (g + 1) (h + 1))
+    (p : Pair) × IsFirstUnordered plan p × (e ≡ refused.Line p.line (p.lower + 1) (p.higher + 1))
 
 -- the life is of this version of a name, which is there just before the group
 pub record IsTheOne (g : ℕ) (r : Removal) (x : Life) : Type 0 where

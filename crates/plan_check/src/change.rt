@@ -13,3 +13,10 @@ pub(crate) struct Change<'a> {
     pub(crate) group: usize,
     ghost own: { line ≡ line_text name.now slot.now },
 }
+
+/// Two groups that change one line: that of a change, and a higher one.
+#[derive(Clone, Copy)]
+pub(crate) struct FoundPair<'c, 'a> {
+    pub(crate) change: &'c Change<'a>,
+    pub(crate) higher: usize,
+}

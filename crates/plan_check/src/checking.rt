@@ -13,11 +13,11 @@ use crate::finished::judge_finished;
 use crate::index::Index;
 use crate::indexing::{index_of, lines_of};
 use crate::lasting::{judge_built, judge_lasting};
-use crate::left::Left;
 use crate::life::Life;
 use crate::lives::lives_of;
 use crate::opening::judge_opening;
 use crate::order::judge_lines;
+use crate::packages::Packages;
 use crate::plan::Plan;
 use crate::presence::judge_present;
 use crate::reach::Reach;
@@ -33,26 +33,26 @@ use std::alloc::Global;
 fn judge_package(
     alloc: Global,
     index: &Index<'_>,
-    left: &Left<'_>,
+    left: &Packages<'_>,
     x: &Life<'_>,
 ) -> Result<(), PlanRefused>
     requires is { IsIndex index.now }
-    requires left { map (λ p. p.now) left.now.packages.items ≡
+    requires left { map (λ p. p.now) left.now.all.items ≡
         left_of (plan_of index.now) (start_of index.now) }
     requires x { Has (all_lives index.now) (life_of x.now) }
     ensures { Says (package_rule (plan_of index.now) (start_of index.now) (life_of x.now)) result }
 {
     judge_required(x)?;
-    judge_lasting(alloc, index, x)?;
+    judge_lasting(alloc, index, left, x)?;
     judge_unblocked(alloc, index, x)?;
     judge_unbarred(alloc, index, x)?;
     judge_built(alloc, index, x)?;
     judge_finished(left, x)
 }
 
-fn judge_packages(alloc: Global, index: &Index<'_>, left: &Left<'_>) -> Result<(), PlanRefused>
+fn judge_packages(alloc: Global, index: &Index<'_>, left: &Packages<'_>) -> Result<(), PlanRefused>
     requires is { IsIndex index.now }
-    requires left { map (λ p. p.now) left.now.packages.items ≡
+    requires left { map (λ p. p.now) left.now.all.items ≡
         left_of (plan_of index.now) (start_of index.now) }
     ensures { Says (each (all_lives index.now)
         (package_rule (plan_of index.now) (start_of index.now))) result }
@@ -73,7 +73,7 @@ fn judge_all(alloc: Global, index: &Index<'_>) -> Result<(), PlanRefused>
     judge_single(alloc, index.reach.groups)?;
     judge_versions(alloc, index)?;
     judge_opening(alloc, index.start)?;
-    let left = Left::new(alloc, index.lives)?;
+    let left = Packages::left(alloc, index.lives)?;
     judge_packages(alloc, index, &left)
 }
 

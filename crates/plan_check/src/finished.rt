@@ -10,16 +10,16 @@ ghost use Rattle.plan_check.specs.Refusals.Refusal.{Final};
 ghost use Rattle.plan_check.specs.Refusals.{Says};
 ghost use Rattle.plan_check.specs.Verdicts.{refuse};
 
-use crate::left::Left;
 use crate::life::{Life, Moment};
+use crate::packages::Packages;
 use crate::refusal::PlanRefused;
 use pkg_state::{Class, Pkg, copy_leaf};
 
-fn judge_left(left: &Left<'_>, pkg: &Pkg) -> Result<(), PlanRefused>
+fn judge_left(left: &Packages<'_>, pkg: &Pkg) -> Result<(), PlanRefused>
     ensures { Says (refuse
-        (is_met (facts_of (map (λ p. p.now) left.now.packages.items)) Pdepend pkg.now ≡ false)
+        (is_met (facts_of (map (λ p. p.now) left.now.all.items)) Pdepend pkg.now ≡ false)
         (Final pkg.now.facts.id
-        (lacking_leaf (facts_of (map (λ p. p.now) left.now.packages.items)) Pdepend pkg.now)))
+        (lacking_leaf (facts_of (map (λ p. p.now) left.now.all.items)) Pdepend pkg.now)))
         result }
 {
     if !pkg.is_met(Class::Pdepend, left) {
@@ -30,11 +30,11 @@ fn judge_left(left: &Left<'_>, pkg: &Pkg) -> Result<(), PlanRefused>
     Ok(())
 }
 
-fn judge_end(left: &Left<'_>, death: Moment, pkg: &Pkg) -> Result<(), PlanRefused>
+fn judge_end(left: &Packages<'_>, death: Moment, pkg: &Pkg) -> Result<(), PlanRefused>
     ensures { Says (if_left (moment_of death) (refuse
-        (is_met (facts_of (map (λ p. p.now) left.now.packages.items)) Pdepend pkg.now ≡ false)
+        (is_met (facts_of (map (λ p. p.now) left.now.all.items)) Pdepend pkg.now ≡ false)
         (Final pkg.now.facts.id
-        (lacking_leaf (facts_of (map (λ p. p.now) left.now.packages.items)) Pdepend pkg.now))))
+        (lacking_leaf (facts_of (map (λ p. p.now) left.now.all.items)) Pdepend pkg.now))))
         result }
 {
     match death {
@@ -45,9 +45,9 @@ fn judge_end(left: &Left<'_>, death: Moment, pkg: &Pkg) -> Result<(), PlanRefuse
 }
 
 /// Whether what an addition wants later is there at the end, where these packages are left.
-pub(crate) fn judge_finished(left: &Left<'_>, x: &Life<'_>) -> Result<(), PlanRefused>
+pub(crate) fn judge_finished(left: &Packages<'_>, x: &Life<'_>) -> Result<(), PlanRefused>
     ensures { (plan : List Group) (start : List Package) →
-        map (λ p. p.now) left.now.packages.items ≡ left_of plan start →
+        map (λ p. p.now) left.now.all.items ≡ left_of plan start →
         Says (finished_rule plan start (life_of x.now)) result }
 {
     match x.birth {

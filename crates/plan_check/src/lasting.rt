@@ -1,4 +1,4 @@
-ghost use Rattle.std.specs.Prelude.{◌≡◌, ◌↔◌, ◌<◌, IfOk, IsTrue, length};
+ghost use Rattle.std.specs.Prelude.{◌≡◌, ◌↔◌, ◌<◌, IfOk, IsTrue, length, map};
 ghost use Rattle.std.specs.Option.{option_map};
 ghost use Rattle.basics.specs.Members.{Has};
 ghost use Rattle.dep_atom.specs.Values.{atom_value};
@@ -6,14 +6,17 @@ ghost use Rattle.plan_law.specs.Accepted.{IsFirmThrough};
 ghost use Rattle.plan_check.specs.Index.{IsIndex, all_lives, plan_of, start_of};
 ghost use Rattle.plan_check.specs.Lives.{life_of};
 ghost use Rattle.plan_check.specs.PackageRules.{IsMissing, built_of, built_rule, lasting_rule};
+ghost use Rattle.plan_check.specs.PackageRules.{left_of};
 ghost use Rattle.plan_check.specs.Refusals.{Says};
 ghost use Rattle.plan_check.specs.Stretches.{IsStretchWithin, stretch_value};
 
 use crate::firm::{are_firm, leaf_of_all};
 use crate::index::Index;
 use crate::life::{Life, Moment};
+use crate::packages::Packages;
 use crate::refusal::PlanRefused;
 use crate::stretch::Stretch;
+use crate::unmet::judge_satisfied;
 use dep_atom::Atom;
 use pkg_state::{Class, Pkg, copy_leaf};
 use std::alloc::{AllocError, Global};
@@ -65,13 +68,17 @@ fn missing(
     copy_leaf(found)
 }
 
-/// Whether what a package needs while it runs is there all through its life.
+/// Whether what a package needs while it runs is there all through its life, where these packages
+/// are left.
 pub(crate) fn judge_lasting(
     alloc: Global,
     index: &Index<'_>,
+    left: &Packages<'_>,
     x: &Life<'_>,
 ) -> Result<(), PlanRefused>
     requires is { IsIndex index.now }
+    requires left { map (λ p. p.now) left.now.all.items ≡
+        left_of (plan_of index.now) (start_of index.now) }
     requires x { Has (all_lives index.now) (life_of x.now) }
     ensures { Says (lasting_rule (plan_of index.now) (start_of index.now) (life_of x.now)) result }
 {
@@ -82,6 +89,7 @@ pub(crate) fn judge_lasting(
     if is_firm_through(alloc, index, stretch, Class::Rdepend, x.pkg)? {
         return Ok(());
     }
+    judge_satisfied(alloc, index, left, x)?;
     let pkg = x.pkg;
     let leaf = missing(alloc, index, stretch, Class::Rdepend, pkg)?;
     let package = pkg.facts.id.try_clone()?;

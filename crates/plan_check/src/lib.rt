@@ -18,15 +18,18 @@
 //! exactly on accepted plans (`IsAccepted` of `plan_law`), but for want of memory, and these are
 //! sound over every order of their groups. Any other plan is refused by the first rule that it
 //! breaks (`plan_rule` of `specs/PackageRules.antt`), with the first package that breaks it, and
-//! with the leaf, the other package or the groups that the rule names.
+//! with the leaf, the other package or the groups that the rule names: of several groups in disorder
+//! the first two by their line and then by their numbers. What a package may miss while it runs is
+//! told as unsatisfied where it is missing when the package comes or, if that stays, at the end; and
+//! as unsafe where it is missing in between alone.
 //!
-//! **Only tested**: that with ample memory an accepted plan is accepted. Which two groups are told,
-//! where several of a line or several lines are in disorder, isn't proved: only that these two are.
+//! **Only tested**: that with ample memory an accepted plan is accepted.
 //!
-//! The lives, the rules on lines and the look-ups by name take time in n log n: a rule looks at the
-//! lives of one line, of one name or of a block's name, and goes through all packages only where it
-//! is about to refuse. A chain goes through the lives that its atoms match, at worst once for each
-//! of them. Of n groups each pair where one waits for the other costs n / 64 words.
+//! The lives and the look-ups by name take time in n log n: a rule looks at the lives of one line, of
+//! one name or of a block's name, and goes through all packages only where it is about to refuse.
+//! Each two changes of one line are compared. A chain goes through the lives that its atoms match,
+//! at worst once for each of them. Of n groups each pair where one waits for the other costs n / 64
+//! words.
 //!
 //! ```
 //! let plan = Plan::new(groups).ok_or(Fault::Form)?;
@@ -41,15 +44,16 @@ mod change;
 mod checking;
 mod finished;
 mod firm;
+mod home;
 mod index;
 mod indexing;
 mod keeping;
 mod lasting;
-mod left;
 mod life;
 mod lives;
 mod opening;
 mod order;
+mod packages;
 mod plan;
 mod presence;
 mod reach;
@@ -58,6 +62,7 @@ mod required;
 mod single;
 mod standing;
 mod stretch;
+mod unmet;
 mod vacancy;
 mod versions;
 

@@ -30,6 +30,13 @@ pub enum PlanRefused {
     RequiredUse {
         package: PackageId,
     },
+    #[error("what a package needs while it runs is missing")]
+    Unsatisfied {
+        group: usize,
+        package: PackageId,
+        class: Class,
+        leaf: Option<Atom>,
+    },
     #[error("what a package needs while it runs may be missing at some time")]
     Unsafe {
         package: PackageId,

@@ -65,7 +65,8 @@ fn are_one_version(
     Ok(!on_one_line(alloc, one, other)?)
 }
 
-fn number_of(moment: Moment) -> usize
+/// The number of the group that brings what is there from this moment on.
+pub(crate) fn number_of(moment: Moment) -> usize
     requires { IsWithin 4096 (moment_of moment) }
     ensures { result ≡ number_of (moment_of moment) }
 {

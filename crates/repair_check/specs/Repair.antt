@@ -5,6 +5,7 @@ use Rattle.dep_group.specs.Trees.{no_trees}
 use Rattle.pkg_state.specs.Consistent.{AreConsistent}
 use Rattle.pkg_state.specs.Fault as state
 use Rattle.pkg_state.specs.Package.{Package, line_of}
+use Rattle.pkg_state.specs.declared.class.Class.TheVariants.{Rdepend}
 use Rattle.plan_law.specs.Accepted.{IsAccepted}
 use Rattle.plan_law.specs.Plans.{Group, changed, group_at}
 use Rattle.plan_check.specs.PackageRules.{plan_rule}
@@ -40,13 +41,13 @@ pub record IsRepair (plan : List Group) (start : List Package) : Type 0 where
   -- and what is there then goes together
   pub consistent : AreConsistent (behind plan start)
 
--- the rule of a plan that fits what is wrong with packages; two on one line don't come behind a
--- plan that is accepted
+-- the rule of a plan that fits what is wrong with packages; behind a plan that is accepted no two
+-- are on one line, and only what was there before may lack something
 abbrev pub refusal_of : state.Fault → Refusal
 refusal_of (state.SlotTwice one other) = refused.Occupied 1 one other
 refusal_of (state.RequiredUse one) = refused.RequiredUse one
 refusal_of (state.Blocked one by) = refused.Blocked by one
-refusal_of (state.Runtime one missing) = refused.Unsafe one missing
+refusal_of (state.Runtime one missing) = refused.Unsatisfied 0 one Rdepend missing
 
 -- the packages go together, or what is first wrong with them is told
 abbrev pub consistent_rule : List Package → Option Refusal → Type 0

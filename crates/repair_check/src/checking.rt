@@ -9,7 +9,7 @@ ghost use Rattle.repair_check.specs.Repair.{IsRepair, consistent_rule, refusal_o
 
 use crate::bare::all_bare;
 use crate::behind::packages_behind;
-use pkg_state::{Broken, Pkg, consistent};
+use pkg_state::{Broken, Class, Pkg, consistent};
 use plan_check::{Plan, PlanRefused, check};
 use std::alloc::Global;
 
@@ -28,7 +28,12 @@ fn refused(broken: Broken) -> PlanRefused
             package: by,
             other: package,
         },
-        Broken::Runtime { package, leaf } => PlanRefused::Unsafe { package, leaf },
+        Broken::Runtime { package, leaf } => PlanRefused::Unsatisfied {
+            group: 0,
+            package,
+            class: Class::Rdepend,
+            leaf,
+        },
         Broken::Memory => PlanRefused::Memory,
     }
 }

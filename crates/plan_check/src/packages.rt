@@ -11,12 +11,12 @@ use pkg_state::{ByText, Pkg};
 use pms_names::Flags;
 use std::alloc::{AllocError, Global};
 
-/// The packages that no group takes away, and what an atom finds among them by its name.
+/// Packages that are there together, and what an atom finds among them by its name.
 #[derive(Drop)]
-pub(crate) struct Left<'a> {
-    pub(crate) packages: Vec<&'a Pkg>,
+pub(crate) struct Packages<'a> {
+    pub(crate) all: Vec<&'a Pkg>,
     named: ByText<'a, &'a Pkg>,
-    ghost are_named: { AreNamed (map (λ p. p.now) packages.items) named.lists },
+    ghost are_named: { AreNamed (map (λ p. p.now) all.items) named.lists },
 }
 
 fn left_among<'a>(alloc: Global, lives: &[Life<'a>]) -> Result<Vec<&'a Pkg>, AllocError>
@@ -41,19 +41,25 @@ fn by_own_name<'a>(alloc: Global, packages: &[&'a Pkg]) -> Result<ByText<'a, &'a
     Ok(named)
 }
 
-impl<'a> Left<'a> {
-    pub(crate) fn new(alloc: Global, lives: &[Life<'a>]) -> Result<Left<'a>, AllocError>
-        ensures { IfOk result (λ left. map (λ p. p.now) left.packages.items ≡
+impl<'a> Packages<'a> {
+    pub(crate) fn new(alloc: Global, all: Vec<&'a Pkg>) -> Result<Packages<'a>, AllocError>
+        ensures { IfOk result (λ packages. packages.all ≡ all.entry) }
+    {
+        let named = by_own_name(alloc, &all)?;
+        Ok(Packages { all, named })
+    }
+
+    /// Those that no group takes away.
+    pub(crate) fn left(alloc: Global, lives: &[Life<'a>]) -> Result<Packages<'a>, AllocError>
+        ensures { IfOk result (λ left. map (λ p. p.now) left.all.items ≡
             left_among (lives_of lives.now)) }
     {
-        let packages = left_among(alloc, lives)?;
-        let named = by_own_name(alloc, &packages)?;
-        Ok(Left { packages, named })
+        Packages::new(alloc, left_among(alloc, lives)?)
     }
 }
 
-impl<'a> Present for Left<'a> {
-    ghost facts = { λ left. facts_of (map (λ p. p.now) left.packages.items) };
+impl<'a> Present for Packages<'a> {
+    ghost facts = { λ packages. facts_of (map (λ p. p.now) packages.all.items) };
 
     fn some_match(&self, atom: &Atom, asker: &Flags) -> bool {
         for &pkg in self.named.get(atom.name.package.text()) {
