@@ -1,5 +1,5 @@
 -- Packages that are picked out of lives, and what is told of them.
-use Rattle.std.proofs.Common.{◌≡◌, ◌↔◌, ◌∙◌, ◌∷◌, ◌++◌, List, [], Option, None, Some, inl, inr, ap, refl, subst, sym}
+use Rattle.std.proofs.Common.{◌≡◌, ◌↔◌, ◌∙◌, ◌∷◌, ◌++◌, List, [], None, Some, inl, inr, ap, refl, subst, sym}
 use Rattle.std.specs.Prelude.{Result}
 use Rattle.basics.specs.Members.{Has}
 use Rattle.basics.proofs.Membership.{has-append_cases, has-append_left, has-append_right}

@@ -8,6 +8,7 @@ pub mod Joining
 pub mod Trying
 pub mod Keyed
 pub mod Ordered
+pub mod Gone
 pub mod Accepting
 pub mod Clear
 pub mod Within

@@ -25,11 +25,11 @@
 //!
 //! **Only tested**: that with ample memory an accepted plan is accepted.
 //!
-//! The lives and the look-ups by name take time in n log n: a rule looks at the lives of one line, of
-//! one name or of a block's name, and goes through all packages only where it is about to refuse.
-//! Each two changes of one line are compared. A chain goes through the lives that its atoms match,
-//! at worst once for each of them. Of n groups each pair where one waits for the other costs n / 64
-//! words.
+//! The lives, the rules on lines and the look-ups by name take time in n log n: a rule looks at the
+//! lives of one line, of one name or of a block's name, and goes through all packages, or each two
+//! changes of a line, only where it is about to refuse. A chain goes through the lives that its atoms
+//! match, at worst once for each of them. Of n groups each pair where one waits for the other costs
+//! n / 64 words.
 //!
 //! ```
 //! let plan = Plan::new(groups).ok_or(Fault::Form)?;

@@ -17,6 +17,7 @@ use pkg_state::{ByText, LineName};
 use pms_names::{Name, SlotName};
 use std::alloc::{AllocError, Global};
 use std::cmp::Ordering;
+use std::collections::BTreeMap;
 
 fn change<'a>(
     alloc: Global,
@@ -106,6 +107,28 @@ fn are_apart(reach: &Reach<'_>, lower: usize, higher: usize) -> bool
     lower < higher && !reach.reaches(lower, higher)
 }
 
+/// Whether each change of a line reaches the last one before it, which puts all of them in order,
+/// since groups wait for earlier ones alone.
+fn are_in_order(
+    alloc: Global,
+    reach: &Reach<'_>,
+    changes: &[Change<'_>],
+) -> Result<bool, AllocError>
+    requires is { IsReach reach.now }
+    requires changes { map change_of changes.now ≡ changes_from 0 reach.now.groups.now }
+    ensures { IfOk result (λ yes. IsTrue yes → line_rule reach.now.groups.now None) }
+{
+    let mut last: BTreeMap<&str, usize> = BTreeMap::new(alloc);
+    for change in changes {
+        if let Some(before) = last.insert(change.line.text(), change.group)? {
+            if !reach.reaches(before, change.group) {
+                return Ok(false);
+            }
+        }
+    }
+    Ok(true)
+}
+
 /// The first two groups that change one line, and of which neither reaches the other.
 fn first_apart<'c, 'a>(
     reach: &Reach<'_>,
@@ -139,6 +162,9 @@ pub(crate) fn judge_lines(alloc: Global, reach: &Reach<'_>) -> Result<(), PlanRe
     ensures { Says (line_rule reach.now.groups.now) result }
 {
     let changes = changes_of(alloc, reach.groups)?;
+    if are_in_order(alloc, reach, &changes)? {
+        return Ok(());
+    }
     let by_line = by_line(alloc, &changes)?;
     if let Some(pair) = first_apart(reach, &changes, &by_line) {
         let change = pair.change;
