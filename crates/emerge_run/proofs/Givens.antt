@@ -221,11 +221,11 @@ refused_opening m a (faults.Inconsistent fault packages) entries refuses = recor
 refused_opening m a faults.Failed entries refuses = tt
 refused_opening m a faults.Memory entries refuses = tt
 
--- a run that merges a package gives back what was installed beside it
-pub gives_chosen : {B : Type 0} (tells : Bool) (told : B → Order → List Entry) (resting : List B) (words : List (List ℕ)) (old new : Story) (ps qs : List Installed) (f : Facts) (entries : List Entry) (s : Status)
-    → OfSomeBuilder tells told resting (λ image. HasChosen words image old new ps f entries) → qs ≡ ps → GivesBack (AreInstalledAfter old.now.holds) s qs
-gives_chosen tells told resting words old new ps qs f entries s (b, has, (image, its, chosen)) same =
-    gives_all (AreInstalledAfter old.now.holds) s qs (subst (AreInstalledAfter old.now.holds) (sym same) (new.now.holds, chosen.recovered, installed new.now.holds chosen.atom ps chosen.ready.open_to.read))
+-- what was installed beside the package that a run merges
+pub beside_chosen : {B : Type 0} (tells : Bool) (told : B → Order → List Entry) (resting : List B) (words : List (List ℕ)) (old new : Story) (ps qs : List Installed) (f : Facts) (entries : List Entry)
+    → OfSomeBuilder tells told resting (λ image. HasChosen words image old new ps f entries) → qs ≡ ps → AreInstalledAfter old.now.holds qs
+beside_chosen tells told resting words old new ps qs f entries (b, has, (image, its, chosen)) same =
+    subst (AreInstalledAfter old.now.holds) (sym same) (new.now.holds, chosen.recovered, installed new.now.holds chosen.atom ps chosen.ready.open_to.read)
 
 -- what is made for the facts of the chosen package
 pub added_same : (tells : Bool) (m : Map) (ps : List Installed) (f : Facts) (r : Result Chosen Status) → IfOk r (λ c. c.facts ≡ f) → IfOk r (λ c. IsAddition tells m ps f c.addition) → IfOk r (λ c. IsAddition tells m ps c.facts c.addition)

@@ -1,5 +1,5 @@
 ghost use Rattle.std.specs.Prelude.{◌≡◌, ◌≤◌, ◌<◌, ◌⊎◌, [], ℕ, IsTrue, MatchOption, length, map};
-ghost use Rattle.std.specs.Prelude.{List, string_bytes};
+ghost use Rattle.std.specs.Prelude.{List, None, string_bytes};
 ghost use Rattle.file_tree.specs.Disk.{Map, Rose};
 ghost use Rattle.build_pool.specs.Pool.{PoolRose, SameIds};
 ghost use Rattle.dep_atom.specs.declared.package.PackageId.{PackageId};
@@ -79,7 +79,10 @@ pub fn emerge<T: Tree + Send, S: Sink + Send, B: Builder + Send>(
     ensures unchanged { IsTrue T.tells → IsOfWords result.status →
         T.story result.tree ≡ T.story tree }
 
-    // What was installed comes back, where it was read.
+    // What was installed comes back where it was read, and whatever is answered once a merge has
+    // begun.
+    ensures begun { IsTrue T.tells → (result.machine ≡ None) ⊎
+        AreInstalledAfter (T.story tree).now.holds result.opening.items }
     ensures opening { IsTrue T.tells → GivesBack (AreInstalledAfter (T.story tree).now.holds)
         result.status result.opening.items }
     ensures unread { IsUnread result.status → result.opening.items ≡ [] }
@@ -162,6 +165,8 @@ fn attempt<T: Tree, S: Sink, B: Builder>(
         (T.story result.tree) result.history.items result.status) }
     ensures unchanged { IsTrue T.tells → IsOfWords result.status →
         T.story result.tree ≡ T.story tree }
+    ensures begun { IsTrue T.tells → (result.machine ≡ None) ⊎
+        AreInstalledAfter (T.story tree).now.holds result.opening.items }
     ensures opening { IsTrue T.tells → GivesBack (AreInstalledAfter (T.story tree).now.holds)
         result.status result.opening.items }
     ensures unread { IsUnread result.status → result.opening.items ≡ [] }

@@ -1,8 +1,9 @@
-use Rattle.std.proofs.Common.{◌∙◌, ap, refl}
+use Rattle.std.proofs.Common.{◌∙◌, ap, inr, refl}
 use Rattle.std.specs.Prelude.{Err, map, string_bytes}
+use Rattle.emerge_run.specs.Openings.{AreInstalledAfter}
 use Rattle.emerge_run.specs.Outcomes.{IsNamed}
 use Rattle.emerge_run.proofs.Endings.{outcome_chosen}
-use Rattle.emerge_run.proofs.Givens.{gives_chosen, merge_read}
+use Rattle.emerge_run.proofs.Givens.{beside_chosen, gives_all, merge_read}
 use Rattle.emerge_run.proofs.Lines.{wrote_named, wrote_nothing}
 use Rattle.emerge_run.proofs.run.attempt.Goals as goal
 
@@ -14,13 +15,21 @@ returns-in-Ok-clause-outcome g c t =
     outcome_chosen g.B.Builder.tells g.B.Builder.told c.args.pool.now.resting (map string_bytes c.args.words.now) (g.T.Tree.story c.args.tree) (g.T.Tree.story c.choose-found.new.tree) (g.T.Tree.story r.tree)
     found.opening.items chosen.facts chosen.addition.image.items r.history.items r.status (rw c.in-Ok.is at (c.choose-found.ensures.chosen t)) (rw c.in-Ok.is at c.choose-found.ensures.added).paths (c.merge_chosen.ensures.merged t)
 
+pub returns-in-Ok-clause-begun : goal.returns-in-Ok-clause-begun
+returns-in-Ok-clause-begun g c t =
+    let chosen = c.in-Ok.chosen in
+    let found = c.choose-found.result in
+    let r = c.merge_chosen.result in
+    inr (beside_chosen g.B.Builder.tells g.B.Builder.told c.args.pool.now.resting (map string_bytes c.args.words.now) (g.T.Tree.story c.args.tree) (g.T.Tree.story c.choose-found.new.tree)
+    found.opening.items r.opening.items chosen.facts chosen.addition.image.items (rw c.in-Ok.is at (c.choose-found.ensures.chosen t)) c.merge_chosen.ensures.opening)
+
 pub returns-in-Ok-clause-opening : goal.returns-in-Ok-clause-opening
 returns-in-Ok-clause-opening g c t =
     let chosen = c.in-Ok.chosen in
     let found = c.choose-found.result in
     let r = c.merge_chosen.result in
-    gives_chosen g.B.Builder.tells g.B.Builder.told c.args.pool.now.resting (map string_bytes c.args.words.now) (g.T.Tree.story c.args.tree) (g.T.Tree.story c.choose-found.new.tree)
-    found.opening.items r.opening.items chosen.facts chosen.addition.image.items r.status (rw c.in-Ok.is at (c.choose-found.ensures.chosen t)) c.merge_chosen.ensures.opening
+    gives_all (AreInstalledAfter (g.T.Tree.story c.args.tree).now.holds) r.status r.opening.items (beside_chosen g.B.Builder.tells g.B.Builder.told c.args.pool.now.resting (map string_bytes c.args.words.now) (g.T.Tree.story c.args.tree) (g.T.Tree.story c.choose-found.new.tree)
+    found.opening.items r.opening.items chosen.facts chosen.addition.image.items (rw c.in-Ok.is at (c.choose-found.ensures.chosen t)) c.merge_chosen.ensures.opening)
 
 pub returns-in-Ok-clause-unread : goal.returns-in-Ok-clause-unread
 returns-in-Ok-clause-unread g c of = absurd (merge_read c.merge_chosen.result.status c.merge_chosen.ensures.of of)
