@@ -76,7 +76,8 @@ pub(crate) fn judge_satisfied(
     requires left { map (λ p. p.now) left.now.all.items ≡
         left_of (plan_of index.now) (start_of index.now) }
     requires x { Has (all_lives index.now) (life_of x.now) }
-    ensures { Says (satisfied_rule (plan_of index.now) (start_of index.now) (life_of x.now)) result }
+    ensures { Says (satisfied_rule (plan_of index.now) (start_of index.now) (life_of x.now))
+        result }
 {
     judge_home(alloc, index, x)?;
     judge_left(index, left, x)
