@@ -14,7 +14,7 @@ use Rattle.merge_site.specs.declared.group.SiteGroup.{SiteGroup}
 use Rattle.group_run.specs.Applied.{number}
 use Rattle.group_run.specs.Turns.{AreLetIn, changes_of, group_for, numbers, settled}
 use Rattle.group_run.specs.declared.turn.Turn.{Turn}
-use Rattle.group_run.proofs.Left.{settled_has}
+use Rattle.group_run.proofs.Left.{numbers_of, settled_has}
 use Rattle.database_law.specs.Database.{IsDatabase, IsKept}
 use Rattle.database_law.specs.Packages.{Installed}
 use Rattle.database_law.specs.Step.{AreSteps, Change, GroupKeepsDatabase, SomeAfter, groups_of}
@@ -44,11 +44,7 @@ first_told key change groups m ps [] rest all = tt
 first_told key change groups m ps (t ∷ ts) rest (tells, later) =
     (tells, λ qs is. first_told key change groups (applied m ((change t.group).does ∷ [])) qs ts rest (later qs is))
 
--- ---- the groups of turns, by their numbers and by their changes
-
-numbers_of : (ts : List Turn) → map number (map group_for ts) ≡ numbers ts
-numbers_of [] = refl
-numbers_of (t ∷ ts) = ap (λ (l : List ℕ). t.group ∷ l) (numbers_of ts)
+-- ---- the groups of turns, by their changes
 
 done_by : (change : ℕ → Change) (ts : List Turn) → ((t : Turn) → Has ts t → (change t.group).does ≡ group_for t) → groups_of (map change (numbers ts)) ≡ map group_for ts
 done_by change [] does = refl

@@ -19,8 +19,8 @@ use Rattle.commit_law.specs.Commits.{IsSoundTree}
 use Rattle.commit_law.specs.Crashes.{IsPlanned}
 use Rattle.claim_law.specs.Owners.{OwnersAre, Tells}
 
--- each turn wishes and removes what its change says, over the map and the packages that those before
--- it left
+-- each turn wishes and removes what its change says, over the map and the packages that those
+-- before it left
 abbrev pub AreTold : (Installed → OwnerKey) → (ℕ → Change) → List SiteGroup → Map →
     List Installed → List Turn → Type 0
 AreTold key change groups m ps [] = ⊤
@@ -29,8 +29,8 @@ AreTold key change groups m ps (t ∷ ts) =
     × ((qs : List Installed) → IsAfter ps (change t.group).gone (change t.group).added qs →
     AreTold key change groups (applied m ((change t.group).does ∷ [])) qs ts)
 
--- the turns merge groups of an accepted plan over a kept tree, whose packages are the book's owners:
--- in an order that the plan allows, each doing what its change says
+-- the turns merge groups of an accepted plan over a kept tree, whose packages are the book's
+-- owners: in an order that the plan allows, each doing what its change says
 pub record ArePlanned (plan : List plans.Group) (change : ℕ → Change) (key : Installed → OwnerKey)
     (m : Map) (ps : List Installed) (b : Book) (groups : List SiteGroup) (turns : List Turn) :
     Type 0 where

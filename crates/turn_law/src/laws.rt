@@ -1,4 +1,5 @@
-ghost use Rattle.turn_law.specs.Turns.{GroupsLeaveSoundTrees, TurnsReadSoundly, TurnsRecoverSoundly};
+ghost use Rattle.turn_law.specs.Turns.{GroupsLeaveSoundTrees, TurnsReadSoundly};
+ghost use Rattle.turn_law.specs.Turns.{TurnsRecoverSoundly};
 
 /// A law: the groups of an accepted plan that are merged one after another leave a sound tree,
 /// wherever they stop, and whatever a crash leaves of their run recovers to one.
