@@ -28,13 +28,13 @@ use Rattle.group_run.specs.declared.files.Files.{Files}
 use Rattle.package_run.specs.Packages.{GROUP, IsFor}
 use Rattle.package_law.specs.Merges.{MergesLeaveKeptTrees, RecoversWith}
 use Rattle.package_law.specs.Packages.{MergedPackagesAreKept, RecoversTo}
-use Rattle.package_law.specs.Records.{IsPlain, IsRecordable, RecordsAreReadBack, needing_nothing}
+use Rattle.package_law.specs.Records.{IsPlain, IsRecordable, MergedRecordsAreReadBack, needing_nothing}
 use Rattle.package_law.proofs.LetIn as wished
 use Rattle.package_law.proofs.Merged.{may_come}
 use Rattle.package_law.proofs.Places.{distinct_front}
 use Rattle.package_law.proofs.Runs.{no_groups, none_told, some_groups}
 
-module _ (merged : MergedPackagesAreKept) (back : RecordsAreReadBack) (good : GrantedClaimsAreGood) (keep : GroupsKeepDatabase) (some : SomeAfter)
+module _ (merged : MergedPackagesAreKept) (back : MergedRecordsAreReadBack) (good : GrantedClaimsAreGood) (keep : GroupsKeepDatabase) (some : SomeAfter)
     (key : Installed → OwnerKey) (m : Map) (ps : List Installed) (book : Book) (f : Facts) (owner : OwnerKey) (image : List Entry) (files : Files) (groups : List SiteGroup)
     (db : IsDatabase m ps) (kept : IsKept m ps) (owners : OwnersAre key m ps (owner_in book.owned)) (is_plain : IsPlain f)
     (paths : AllByRecursion (λ e. IsPathText e.path) image)
@@ -62,7 +62,7 @@ module _ (merged : MergedPackagesAreKept) (back : RecordsAreReadBack) (good : Gr
   by_list [] history c of none is = inl (no_groups keep m ps c db kept is, none refl)
   by_list (x ∷ xs) history c of none is = inr (with_package x xs c of is)
 
-pub merges_leave_kept : MergedPackagesAreKept → RecordsAreReadBack → GrantedClaimsAreGood → GroupsKeepDatabase → SomeAfter → MergesLeaveKeptTrees
+pub merges_leave_kept : MergedPackagesAreKept → MergedRecordsAreReadBack → GrantedClaimsAreGood → GroupsKeepDatabase → SomeAfter → MergesLeaveKeptTrees
 merges_leave_kept merged back good keep some key m ps book f owner image files groups history c db kept owners is_plain paths keyed is_for r =
     by_list merged back good keep some key m ps book f owner image files groups db kept owners is_plain paths keyed is_for r.groups history c r.of
     (none_told (IsLetIn m book groups files GROUP) m history c r) r.is

@@ -41,7 +41,7 @@ use Rattle.database_law.specs.Fields.{AreFlags, AreSlots, Field, Reads, Says, al
 use Rattle.database_law.specs.Packages.{Installed}
 use Rattle.database_law.proofs.Words.{slot_word}
 use Rattle.package_law.specs.Packages.{IsRecorded, held_by}
-use Rattle.package_law.specs.Records.{IsPlain, IsRecordable, RecordsAreReadBack, content_by, needing_nothing, owned_of}
+use Rattle.package_law.specs.Records.{IsPlain, IsRecordable, MergedRecordsAreReadBack, content_by, needing_nothing, owned_of}
 use Rattle.package_law.proofs.Digests.{is_digest}
 use Rattle.package_law.proofs.Places.{held_at, held_none}
 
@@ -205,7 +205,7 @@ module _ (f : Facts) (text : List ℕ) where
   inside e (inr (inr (inl same))) = subst (λ (x : Entry). IsOf f.id x.path) same (codes "SLOT", refl)
   inside e (inr (inr (inr none))) = absurd none
 
-pub records_read_back : ContentsAreReadBack → RecordsAreReadBack
+pub records_read_back : ContentsAreReadBack → MergedRecordsAreReadBack
 records_read_back back f files is good distinct filed =
     let text = filed.0 in
     let told = filed.1 in

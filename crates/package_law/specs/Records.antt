@@ -62,8 +62,8 @@ pub record IsRecordable (e : Entry) : Type 0 where
 
 -- What is written of a package without flags and needs, with any image whose entries can be
 -- recorded and stand at different paths, are the files of that package.
-abbrev pub RecordsAreReadBack : Type 0
-RecordsAreReadBack =
+abbrev pub MergedRecordsAreReadBack : Type 0
+MergedRecordsAreReadBack =
     (f : Facts) (files : Files) → IsPlain f → AllByRecursion IsRecordable files.image.items →
     AreDistinct (map path_of files.image.items) →
     AreRecordOf f files.image.items files.folder.items →

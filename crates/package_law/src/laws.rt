@@ -1,6 +1,6 @@
 ghost use Rattle.package_law.specs.Merges.{MergesLeaveKeptTrees};
 ghost use Rattle.package_law.specs.Packages.{MergedPackagesAreKept, RunsLeaveKeptTrees};
-ghost use Rattle.package_law.specs.Records.{RecordsAreReadBack};
+ghost use Rattle.package_law.specs.Records.{MergedRecordsAreReadBack};
 
 /// A law: a package's group that was granted leaves a kept tree that has the package, too.
 pub fn merged_packages_are_kept()
@@ -21,7 +21,7 @@ pub fn runs_leave_kept_trees()
 
 /// A law: what is written of a package when it is merged says that package.
 pub fn records_are_read_back()
-    ensures { RecordsAreReadBack }
+    ensures { MergedRecordsAreReadBack }
 {
     contents_text::contents_are_read_back();
 }

@@ -18,9 +18,7 @@ use Rattle.profile_stack.specs.declared.fault.ProfileFault.{ProfileFault}
 use Rattle.profile_stack.specs.declared.fault.ProfileFault.TheVariants.{Deep, Failed, Loop, Memory, Missing, Text}
 use Rattle.profile_stack.specs.declared.parents.Parent.{Parent}
 use Rattle.profile_stack.proofs.Followed.{trimmed_once}
-
-some_one : {A : Type 0} (x y : A) → Some x ≡ Some y → x ≡ y
-some_one x y e = cc e
+use Rattle.profile_stack.proofs.Places.{some_one}
 
 abbrev parent_with : List ℕ → ℕ → List ℕ → Parent
 parent_with file line folder = record { file = file; line = line; folder = folder }

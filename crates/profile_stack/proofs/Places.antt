@@ -23,3 +23,6 @@ from_here steps i step lt is = ap told (drop_more steps i step lt) ∙ ap (λ (x
 
 pub none_left : (steps : List (Bor (List ℕ))) (i : ℕ) (at : List (List ℕ)) → length steps ≤ i → led at (told (drop i steps)) ≡ Some at
 none_left steps i at past = ap (λ (ps : List (Bor (List ℕ))). led at (told ps)) (drop_all i steps past)
+
+pub some_one : {A : Type 0} (x y : A) → Some x ≡ Some y → x ≡ y
+some_one x y e = cc e

@@ -10,7 +10,7 @@ use Rattle.basics.proofs.Texts.{bytes_eq-same}
 use Rattle.indexmap.proofs.CallerLemmas.{Contains-list_any}
 use Rattle.indexmap.specs.IndexSet.{insert_key, remove_key}
 use Rattle.profile_stack.specs.Stacks.{Stands, hyphen, stacked, taken_back, with_change, with_text}
-use Rattle.profile_stack.proofs.Places.{told}
+use Rattle.profile_stack.proofs.Places.{some_one, told}
 
 -- the test of the code's set
 abbrev pub same_text : Bor (List ℕ) → Bor (List ℕ) → Bool
@@ -43,9 +43,6 @@ taken (b ∷ bytes) None other = elim (cases_Bool (eqb b hyphen)) [
   | inr e ↦ ap (λ (t : Bool). cond t (Some bytes) None) e
 ]
 
-some_one : {A : Type 0} (x y : A) → Some x ≡ Some y → x ≡ y
-some_one x y e = cc e
-
 or_false : (a b : Bool) → (a || b) ≡ false → b ≡ false
 or_false true b e = absurd (cc e)
 or_false false b e = e
@@ -57,12 +54,9 @@ taken_is (b ∷ bytes) item e = elim (cases_Bool (eqb b hyphen)) [
   | inr other ↦ (let none : None ≡ Some item = sym (ap (λ (t : Bool). cond t (Some bytes) None) other) ∙ e in absurd (cc none))
 ]
 
-same_if : (x y : List ℕ) → bytes_eq x y ≡ true → x ≡ y
-same_if x y e = (bytes_eq-Decides x y).0 e
-
 -- the test of a set finds the members of a list
 found : (ks : List (List ℕ)) (k : List ℕ) → list_any (bytes_eq k) ks ≡ true → Has ks k
-found ks k e = has-from_contains ks k (Contains-list_any bytes_eq same_if ks k e)
+found ks k e = has-from_contains ks k (Contains-list_any bytes_eq (λ x y. (bytes_eq-Decides x y).0) ks k e)
 
 not_found : (ks : List (List ℕ)) (k : List ℕ) → list_any (bytes_eq k) ks ≡ false → ¬ Has ks k
 not_found [] k e has = has
@@ -114,7 +108,7 @@ module _ (q : List ℕ) where
   removed_gone : (ks : List (List ℕ)) → AreDistinct ks → ¬ Has (remove_key (bytes_eq q) ks) q
   removed_gone [] distinct has = has
   removed_gone (k ∷ ks) distinct has = elim (cases_Bool (bytes_eq q k)) [
-    | inl same ↦ distinct.0 (subst (λ (y : List ℕ). Has ks y) (same_if q k same) (subst (λ (b : Bool). Has (cond b ks (k ∷ remove_key (bytes_eq q) ks)) q) same has))
+    | inl same ↦ distinct.0 (subst (λ (y : List ℕ). Has ks y) ((bytes_eq-Decides q k).0 same) (subst (λ (b : Bool). Has (cond b ks (k ∷ remove_key (bytes_eq q) ks)) q) same has))
     | inr other ↦ elim (subst (λ (b : Bool). Has (cond b ks (k ∷ remove_key (bytes_eq q) ks)) q) other has) [
       | inl e ↦ (let t : true ≡ false = sym (ap (bytes_eq q) e ∙ bytes_eq-same q) ∙ other in absurd (cc t))
       | inr h ↦ removed_gone ks distinct.1 h
@@ -124,7 +118,7 @@ module _ (q : List ℕ) where
   removed_keeps : (ks : List (List ℕ)) (x : List ℕ) → Has ks x → ¬ (q ≡ x) → Has (remove_key (bytes_eq q) ks) x
   removed_keeps [] x has differ = has
   removed_keeps (k ∷ ks) x has differ = elim (cases_Bool (bytes_eq q k)) [
-    | inl same ↦ subst (λ (b : Bool). Has (cond b ks (k ∷ remove_key (bytes_eq q) ks)) x) (sym same) (elim has [ inl e ↦ absurd (differ (same_if q k same ∙ e)) | inr h ↦ h ])
+    | inl same ↦ subst (λ (b : Bool). Has (cond b ks (k ∷ remove_key (bytes_eq q) ks)) x) (sym same) (elim has [ inl e ↦ absurd (differ ((bytes_eq-Decides q k).0 same ∙ e)) | inr h ↦ h ])
     | inr other ↦ subst (λ (b : Bool). Has (cond b ks (k ∷ remove_key (bytes_eq q) ks)) x) (sym other) (elim has [ inl e ↦ inl e | inr h ↦ inr (removed_keeps ks x h differ) ])
   ]
 
