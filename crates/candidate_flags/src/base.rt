@@ -8,7 +8,7 @@ use std::alloc::AllocError;
 use use_flags::Change;
 
 /// What the configuration says of the flags of one candidate.
-#[derive(Debug)]
+#[derive(Clone, Copy, Debug)]
 pub struct FlagRules<'a> {
     /// Changes of what is on by default, layer by layer in their order.
     pub layers: &'a [&'a [Change]],
