@@ -12,6 +12,7 @@ pub mod Gone
 pub mod Accepting
 pub mod Clear
 pub mod Within
+pub mod Numbered
 pub mod Serving
 pub mod KeptOut
 pub mod InTheWay

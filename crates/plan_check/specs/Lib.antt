@@ -14,6 +14,7 @@ pub mod Stretches
 pub mod Chains
 pub mod Leaves
 pub mod Gathered
+pub mod Meeting
 pub mod PackageRules
 pub mod Keeping
 pub mod Kept

@@ -15,6 +15,7 @@ use Rattle.plan_law.specs.Sound.{bars}
 use Rattle.plan_check.specs.Home.{AreThereAt, among, met_rule}
 use Rattle.plan_check.specs.Leaves.{IsLeafOfAll}
 use Rattle.plan_check.specs.Lives.{lives}
+use Rattle.plan_check.specs.Meeting.{AreMeeting}
 use Rattle.plan_check.specs.Refusals.{Refusal, Refusal as refused}
 use Rattle.plan_check.specs.Rules.{line_rule, opening_rule, present_rule, single_rule, vacant_rule, versions_rule}
 use Rattle.plan_check.specs.Verdicts.{both, demand_as, each, nothing, refuse}
@@ -54,7 +55,8 @@ satisfied_rule plan start x =
 abbrev pub IsUnsafe : List Group → List Package → Life → Refusal → Type 0
 IsUnsafe plan start x e =
     (leaf : Option AtomValue) × IsMissing plan start (stretch_of x) Rdepend x.package_is leaf
-    × (e ≡ refused.Unsafe x.package_is.facts.id leaf)
+    × ((numbers : List ℕ) × AreMeeting plan start x numbers
+    × (e ≡ refused.Unsafe x.package_is.facts.id Rdepend leaf numbers))
 
 -- what a package needs while it runs is there all through its life
 abbrev pub lasting_rule : List Group → List Package → Life → Option Refusal → Type 0

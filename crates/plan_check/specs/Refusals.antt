@@ -15,7 +15,7 @@ pub data Refusal : Type 0 where
   Opening : (fault : state.Fault) → Refusal
   RequiredUse : (id : PackageId) → Refusal
   Unsatisfied : (g : ℕ) (id : PackageId) (class : Class) (leaf : Option AtomValue) → Refusal
-  Unsafe : (id : PackageId) (leaf : Option AtomValue) → Refusal
+  Unsafe : (id : PackageId) (class : Class) (leaf : Option AtomValue) (meeting : List ℕ) → Refusal
   Blocked : (id other : PackageId) → Refusal
   Barred : (g : ℕ) (id other : PackageId) → Refusal
   Build : (g : ℕ) (id : PackageId) (class : Class) (leaf : Option AtomValue) → Refusal
@@ -30,7 +30,8 @@ told (refused.Opening fault) = option_map Opening (state.told fault)
 told (refused.RequiredUse id) = Some (RequiredUse id)
 told (refused.Unsatisfied g id class leaf) =
     Some (Unsatisfied g id class (option_map atom_value leaf))
-told (refused.Unsafe id leaf) = Some (Unsafe id (option_map atom_value leaf))
+told (refused.Unsafe id class leaf meeting) =
+    Some (Unsafe id class (option_map atom_value leaf) meeting.items)
 told (refused.Blocked id other) = Some (Blocked id other)
 told (refused.Barred g id other) = Some (Barred g id other)
 told (refused.Build g id class leaf) = Some (Build g id class (option_map atom_value leaf))

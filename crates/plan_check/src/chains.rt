@@ -34,7 +34,7 @@ fn add_matching<'a>(
 }
 
 /// The lives whose packages one of the atoms matches.
-fn gathered<'a>(
+pub(crate) fn gathered<'a>(
     alloc: Global,
     index: &Index<'a>,
     atoms: &[&Atom],

@@ -13,6 +13,7 @@ ghost use Rattle.plan_check.specs.Stretches.{IsStretchWithin, stretch_value};
 use crate::firm::{are_firm, leaf_of_all};
 use crate::index::Index;
 use crate::life::{Life, Moment};
+use crate::meeting::meeting;
 use crate::packages::Packages;
 use crate::refusal::PlanRefused;
 use crate::stretch::Stretch;
@@ -92,8 +93,14 @@ pub(crate) fn judge_lasting(
     judge_satisfied(alloc, index, left, x)?;
     let pkg = x.pkg;
     let leaf = missing(alloc, index, stretch, Class::Rdepend, pkg)?;
+    let meeting = meeting(alloc, index, x)?;
     let package = pkg.facts.id.try_clone()?;
-    Err(PlanRefused::Unsafe { package, leaf })
+    Err(PlanRefused::Unsafe {
+        package,
+        class: Class::Rdepend,
+        leaf,
+        meeting,
+    })
 }
 
 fn judge_class(

@@ -51,6 +51,7 @@ mod keeping;
 mod lasting;
 mod life;
 mod lives;
+mod meeting;
 mod opening;
 mod order;
 mod packages;

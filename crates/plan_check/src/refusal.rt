@@ -37,10 +37,14 @@ pub enum PlanRefused {
         class: Class,
         leaf: Option<Atom>,
     },
+    /// `meeting` has the groups that may come while the package is there and that bring or take away
+    /// what its RDEPEND asks for or keeps out, rising.
     #[error("what a package needs while it runs may be missing at some time")]
     Unsafe {
         package: PackageId,
+        class: Class,
         leaf: Option<Atom>,
+        meeting: Vec<usize>,
     },
     #[error("a package is there with another one that it blocks")]
     Blocked {

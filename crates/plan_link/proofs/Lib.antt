@@ -3,3 +3,4 @@ pub mod Coming
 pub mod Pairs
 pub mod Ruling
 pub mod Forming
+pub mod Named

@@ -3,6 +3,7 @@ ghost use Rattle.std.specs.Option.{option_map};
 ghost use Rattle.plan_text.specs.Plans.{addition_value};
 ghost use Rattle.plan_link.specs.Offers.{IsFirst, Names};
 
+use crate::offers::Offers;
 use pkg_state::Pkg;
 use plan_text::Addition;
 
@@ -17,10 +18,11 @@ fn is_named(addition: &Addition, pkg: &Pkg) -> bool
 }
 
 /// The first package that the addition names, if one is offered.
-pub(crate) fn find<'a>(addition: &Addition, offered: &'a [Pkg]) -> Option<&'a Pkg>
-    ensures { IsFirst (addition_value addition.now) offered.now (option_map (λ p. p.now) result) }
+pub(crate) fn find<'a>(addition: &Addition, offers: &Offers<'a>) -> Option<&'a Pkg>
+    ensures { IsFirst (addition_value addition.now) offers.now.offered.now
+        (option_map (λ p. p.now) result) }
 {
-    for pkg in offered {
+    for &pkg in offers.named.get(addition.id.name.package.text()) {
         if is_named(addition, pkg) {
             return Some(pkg);
         }

@@ -8,6 +8,7 @@ ghost use Rattle.plan_link.specs.Offers.{Brings};
 
 use crate::fault::LinkFault;
 use crate::finding::find;
+use crate::offers::Offers;
 use crate::package::entering;
 use pkg_state::Pkg;
 use plan_check as check;
@@ -37,15 +38,16 @@ fn judge_flags(g: usize, addition: &Addition, pkg: &Pkg) -> Result<(), LinkFault
 /// What the addition brings.
 fn link_addition(
     alloc: Global,
-    offered: &[Pkg],
+    offers: &Offers<'_>,
     g: usize,
     addition: &Addition,
 ) -> Result<Pkg, LinkFault>
     requires { g < 4096 }
-    ensures brings { IfOk result (λ q. Brings offered.now (addition_value addition.now) q) }
-    ensures says { Says (addition_rule offered.now g (addition_value addition.now)) result }
+    ensures brings { IfOk result (λ q.
+        Brings offers.now.offered.now (addition_value addition.now) q) }
+    ensures says { Says (addition_rule offers.now.offered.now g (addition_value addition.now)) result }
 {
-    let Some(pkg) = find(addition, offered) else {
+    let Some(pkg) = find(addition, offers) else {
         let package = addition.id.try_clone()?;
         return Err(LinkFault::NoCandidate {
             group: g + 1,
@@ -58,19 +60,19 @@ fn link_addition(
 
 fn link_additions(
     alloc: Global,
-    offered: &[Pkg],
+    offers: &Offers<'_>,
     g: usize,
     additions: &[Addition],
 ) -> Result<Vec<Pkg>, LinkFault>
     requires { g < 4096 }
     ensures brings { IfOk result (λ linked.
-        AllZip (Brings offered.now) (map addition_value additions.now) linked.items) }
-    ensures says { Says (each (map addition_value additions.now) (addition_rule offered.now g))
-        result }
+        AllZip (Brings offers.now.offered.now) (map addition_value additions.now) linked.items) }
+    ensures says { Says (each (map addition_value additions.now)
+        (addition_rule offers.now.offered.now g)) result }
 {
     let mut linked = Vec::new(alloc);
     for addition in additions {
-        linked.push(link_addition(alloc, offered, g, addition)?)?;
+        linked.push(link_addition(alloc, offers, g, addition)?)?;
     }
     Ok(linked)
 }
@@ -107,15 +109,16 @@ fn removals_of(alloc: Global, removals: &[Removal]) -> Result<Vec<check::Removal
 /// The group at a place of the text.
 pub(crate) fn link_group(
     alloc: Global,
-    offered: &[Pkg],
+    offers: &Offers<'_>,
     g: usize,
     group: &Group,
 ) -> Result<check::Group, LinkFault>
     requires { g < 4096 }
-    ensures linked { IfOk result (λ r. IsLinkedGroup offered.now (group_value group.now) r) }
-    ensures says { Says (group_rule offered.now g (group_value group.now)) result }
+    ensures linked { IfOk result (λ r.
+        IsLinkedGroup offers.now.offered.now (group_value group.now) r) }
+    ensures says { Says (group_rule offers.now.offered.now g (group_value group.now)) result }
 {
-    let additions = link_additions(alloc, offered, g, &group.additions)?;
+    let additions = link_additions(alloc, offers, g, &group.additions)?;
     let removals = removals_of(alloc, &group.removals)?;
     let after = places(alloc, &group.after)?;
     Ok(check::Group {

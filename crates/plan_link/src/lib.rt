@@ -20,7 +20,8 @@
 //!
 //! **Only tested**: that with ample memory a text is linked and judged.
 //!
-//! Each addition takes time that is linear in the number of packages that are offered.
+//! The packages that are offered are sorted by their names once; an addition is sought among those of
+//! its name alone.
 //!
 //! ```
 //! let plan = judge_plan(alloc, "plan 1\ngroup 1\nadd c/p-1:0/0\n", &offered, &installed)?;
@@ -34,6 +35,7 @@ mod flags;
 mod group;
 mod judging;
 mod linking;
+mod offers;
 mod package;
 
 pub use fault::{LinkFault, PlanFault};

@@ -7,6 +7,7 @@ ghost use Rattle.plan_link.specs.declared.fault.LinkFault.TheVariants.{Memory};
 
 use crate::fault::LinkFault;
 use crate::group::link_group;
+use crate::offers::Offers;
 use pkg_state::Pkg;
 use plan_check as check;
 use plan_text::{Group, Plan};
@@ -14,17 +15,17 @@ use std::alloc::Global;
 
 fn link_groups(
     alloc: Global,
-    offered: &[Pkg],
+    offers: &Offers<'_>,
     groups: &[Group],
 ) -> Result<Vec<check::Group>, LinkFault>
     requires { length groups.now ≤ 4096 }
     ensures linked { IfOk result (λ plan.
-        IsLinked offered.now (map group_value groups.now) plan.items) }
-    ensures says { Says (link_rule offered.now (map group_value groups.now)) result }
+        IsLinked offers.now.offered.now (map group_value groups.now) plan.items) }
+    ensures says { Says (link_rule offers.now.offered.now (map group_value groups.now)) result }
 {
     let mut linked = Vec::new(alloc);
     for (g, group) in groups.iter().enumerate() {
-        linked.push(link_group(alloc, offered, g, group)?)?;
+        linked.push(link_group(alloc, offers, g, group)?)?;
     }
     Ok(linked)
 }
@@ -39,7 +40,8 @@ pub fn link(alloc: Global, text: &Plan, offered: &[Pkg]) -> Result<check::Plan, 
     ensures fault { IfErr result (λ e. e ≢ Memory →
         link_rule offered.now (plan_value text.now) (Some e)) }
 {
-    let groups = link_groups(alloc, offered, &text.groups)?;
+    let offers = Offers::new(alloc, offered)?;
+    let groups = link_groups(alloc, &offers, &text.groups)?;
     match check::Plan::new(groups) {
         Some(plan) => Ok(plan),
         None => unreachable!(),

@@ -5,7 +5,7 @@ ghost use Rattle.plan_link.specs.Offers.{ComesAs, with_flags};
 use crate::entering::{closed_tree, entered_tree};
 use crate::flags::flags_on;
 use dep_atom::Facts;
-use pkg_state::Pkg;
+use pkg_state::{Pkg, copy_facts};
 use plan_text::Addition;
 use pms_names::Flags;
 use std::alloc::{AllocError, Global};
@@ -13,17 +13,9 @@ use std::alloc::{AllocError, Global};
 fn facts_with(facts: &Facts, enabled: Flags) -> Result<Facts, AllocError>
     ensures { IfOk result (λ copy. copy ≡ with_flags enabled facts.now) }
 {
-    let id = facts.id.try_clone()?;
-    let slot = facts.slot.try_clone()?;
-    let subslot = facts.subslot.try_clone()?;
-    let iuse = facts.iuse.try_clone()?;
-    Ok(Facts {
-        id,
-        slot,
-        subslot,
-        iuse,
-        enabled,
-    })
+    let mut copy = copy_facts(facts)?;
+    copy.enabled = enabled;
+    Ok(copy)
 }
 
 /// The offered package as it enters with the addition.

@@ -14,7 +14,7 @@ pub returns-in_err-link_addition-clause-says : goal.returns-in_err-link_addition
 returns-in_err-link_addition-clause-says c =
     let xs = map addition_value c.args.additions.now in
     let i = c.loop-addition.addition-index in
-    let J = addition_rule c.args.offered.now c.args.g in
+    let J = addition_rule c.args.offers.now.offered.now c.args.g in
     let p = err_from_is_err_and c.from_residual.result c.from_residual.ensures.1 in
     rw (p.1, p.2) (λ other. each_refused xs i (addition_value c.addition-item.result) J (each xs J) c.in_err-link_addition.field-0.0 (seen_within addition_value c.args.additions.now i (omega arith)) (seen_at addition_value c.args.additions.now i c.addition-item.result (omega arith) c.addition-item.is) c.loop-addition.invariant.1 (c.in_err-link_addition.ensures.says other))
 
@@ -22,10 +22,10 @@ pub loop-addition-preserved : goal.loop-addition-preserved
 loop-addition-preserved c =
     let xs = map addition_value c.args.additions.now in
     let i = c.loop-addition.addition-index in
-    let J = addition_rule c.args.offered.now c.args.g in
+    let J = addition_rule c.args.offers.now.offered.now c.args.g in
     let within = seen_within addition_value c.args.additions.now i (omega arith) in
     let is = seen_at addition_value c.args.additions.now i c.addition-item.result (omega arith) c.addition-item.is in (
-      subst (λ (ys : List Package). AllZip (Brings c.args.offered.now) (take (i + 1) xs) ys) (sym {A = List Package} c.in_ok-push.ensures.items)
-          (zip_next (Brings c.args.offered.now) xs c.loop-addition.linked.items i (addition_value c.addition-item.result) c.in_ok-link_addition.field-0 within is c.loop-addition.invariant.0 c.in_ok-link_addition.ensures.brings),
+      subst (λ (ys : List Package). AllZip (Brings c.args.offers.now.offered.now) (take (i + 1) xs) ys) (sym {A = List Package} c.in_ok-push.ensures.items)
+          (zip_next (Brings c.args.offers.now.offered.now) xs c.loop-addition.linked.items i (addition_value c.addition-item.result) c.in_ok-link_addition.field-0 within is c.loop-addition.invariant.0 c.in_ok-link_addition.ensures.brings),
       each_next xs i (addition_value c.addition-item.result) J (each xs J) within is c.loop-addition.invariant.1 c.in_ok-link_addition.ensures.says,
     )

@@ -9,5 +9,5 @@ use Rattle.plan_link.proofs.group.link_additions.Given as goal
 
 abbrev pub invariant-loop-addition : goal.invariant-loop-addition
 invariant-loop-addition l =
-    AllZip (Brings l.offered) (take l.addition-index (map addition_value l.additions)) l.linked.items
-    × Hears (each (drop l.addition-index (map addition_value l.additions)) (addition_rule l.offered l.g)) (each (map addition_value l.additions) (addition_rule l.offered l.g))
+    AllZip (Brings l.offers.offered.now) (take l.addition-index (map addition_value l.additions)) l.linked.items
+    × Hears (each (drop l.addition-index (map addition_value l.additions)) (addition_rule l.offers.offered.now l.g)) (each (map addition_value l.additions) (addition_rule l.offers.offered.now l.g))

@@ -9,5 +9,5 @@ use Rattle.plan_link.proofs.linking.link_groups.Given as goal
 
 abbrev pub invariant-loop-g : goal.invariant-loop-g
 invariant-loop-g l =
-    AllZip (IsLinkedGroup l.offered) (take l.g (map group_value l.groups)) l.linked.items
-    × Hears (each_from l.g (drop l.g (map group_value l.groups)) (group_rule l.offered)) (each_from 0 (map group_value l.groups) (group_rule l.offered))
+    AllZip (IsLinkedGroup l.offers.offered.now) (take l.g (map group_value l.groups)) l.linked.items
+    × Hears (each_from l.g (drop l.g (map group_value l.groups)) (group_rule l.offers.offered.now)) (each_from 0 (map group_value l.groups) (group_rule l.offers.offered.now))
