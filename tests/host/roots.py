@@ -4,16 +4,16 @@ import os
 import re
 import shutil
 import stat
-import struct
 import subprocess
 import tempfile
 
+from asked import TOP, Wrong
+from journal import JOBS as JOURNAL, OPEN, journal_path, record, stage_path
+
 # where the roots are made, and the program; set by what imports this
 WORK = PROGRAM = None
-TOP = os.path.dirname(os.path.dirname(os.path.dirname(os.path.abspath(__file__))))
 CACHE = "var/db/repos/gentoo/metadata/md5-cache"
 ENTRY = "EAPI=8\nKEYWORDS=amd64\nSLOT=0\n_md5_=d41d8cd98f00b204e9800998ecf8427e\n"
-JOURNAL = "var/lib/portage/jobs"
 HELLO = "app-misc/hello-2.12"
 HELLO_FILE = "usr/share/hello/greeting"
 HELLO_TEXT = b"Hello, world!\n"
@@ -22,10 +22,6 @@ PLAIN, EXEC, LINK = 0, 1, 2
 MODES = {PLAIN: 0o644, EXEC: 0o755}
 LARGE = 100_000
 DONE = f"done 1 +{HELLO}\nemerge: ok 1\n"
-
-
-class Wrong(Exception):
-    """What a test found."""
 
 
 class Skipped(Exception):
@@ -254,23 +250,14 @@ def programs(sync):
     return folder
 
 
-def sized(form, data):
-    return struct.pack(form, len(data)) + data
-
-
 def open_journal(host, removals, placements):
     """Leaves the journal of a stopped run whose group 1 is open: placements are a kind, a path and
     the bytes."""
-    record = b"EMJR\x01" + struct.pack(">II", 1, len(removals))
-    record += b"".join(sized(">H", it.encode()) for it in removals)
-    record += struct.pack(">I", len(placements))
-    folder = host.at(f"{JOURNAL}/00000001")
-    for at, (kind, path, data) in enumerate(placements):
-        record += struct.pack(">BQ", kind, len(data)) + hashlib.md5(data).digest()
-        record += sized(">H", path.encode())
-        put(f"{folder}/stage/{at:08x}", kind, data)
-    for name, data in (("record", record), ("token", b"\x01"), ("gate", b"\x01")):
-        write(f"{folder}/{name}", data)
+    for index, (kind, _, data) in enumerate(placements):
+        put(host.at(stage_path(1, index)), kind, data)
+    text = record(1, removals, placements)
+    for name, data in (("record", text), ("token", OPEN), ("gate", OPEN)):
+        write(host.at(journal_path(1, name)), data)
 
 
 NAMED = r"\d+<(?P<open>.*?)>|\"(?P<name>.*?)\"(?:, \"(?P<new>.*?)\")?"

@@ -13,20 +13,16 @@ ghost use Rattle.build_pool.specs.Pool.{AreOnce};
 use build_pool::{BuildPool, Builder, numbered_builders};
 use emerge_run::{Ended, Status, emerge};
 use emerge_words::{Host, host_of};
+use file_tree::{Sink, Tree};
 use host_side::{CommandBuilder, FolderBuilder, HostSink, HostTree, OpenFault};
-use samples::{ImageBuilder, sample_image};
 use std::alloc::{AllocError, Global};
-use std::io::Write;
+use std::env;
 use std::process::ExitCode;
 use std::rt::Env;
-use std::{env, io};
-use tree_mem::{MemSink, MemTree};
+use tree_mem::MemTree;
 
 /// The status of a run that found no memory before it began.
 const NO_MEMORY: u8 = 19;
-
-/// The status of a run whose lines could not be printed.
-const NO_OUTPUT: u8 = 17;
 
 /// The status of a run whose tree another run holds.
 const LOCKED: u8 = 21;
@@ -46,7 +42,7 @@ fn run(rt: HostRuntime, alloc: Global) -> Result<u8, AllocError> {
     let words = words(&rt, alloc)?;
     match host_of(alloc, &words) {
         Ok(host) => run_on_host(rt, alloc, &words, &host),
-        Err(_) => run_in_memory(&rt, alloc, &words),
+        Err(_) => run_in_memory(rt, alloc, &words),
     }
 }
 
@@ -60,11 +56,23 @@ fn run_on_host(
     requires builders { 0 < host.now.builders }
 {
     let name = host.tree.as_str();
+    match HostTree::open(rt, name) {
+        Ok(tree) => run_with_images(rt, alloc, words, host, tree),
+        Err(fault) => Ok(refuse(&rt, name, fault)),
+    }
+}
+
+/// Runs a command over a tree with the builders that it names.
+fn run_with_images<T: Tree + Send + Drop>(
+    rt: HostRuntime,
+    alloc: Global,
+    words: &[String],
+    host: &Host,
+    tree: T,
+) -> Result<u8, AllocError>
+    requires builders { 0 < host.now.builders }
+{
     let images = host.images.as_str();
-    let tree = match HostTree::open(rt, name) {
-        Ok(tree) => tree,
-        Err(fault) => return Ok(refuse(&rt, name, fault)),
-    };
     match &host.build_with {
         Some(program) => {
             let make = |id: u32| CommandBuilder::new(rt, program.as_str(), images, id);
@@ -79,12 +87,12 @@ fn run_on_host(
     }
 }
 
-/// Runs a command over a tree of the host with these builders.
-fn run_with<B: Builder + Send>(
+/// Runs a command over a tree with these builders.
+fn run_with<T: Tree + Send + Drop, B: Builder + Send>(
     rt: HostRuntime,
     alloc: Global,
     words: &[String],
-    tree: HostTree,
+    tree: T,
     builders: Vec<B>,
 ) -> Result<u8, AllocError>
     requires some { 0 < length builders.items }
@@ -92,8 +100,21 @@ fn run_with<B: Builder + Send>(
 {
     let pool = BuildPool::new(alloc, builders)?;
     let out = HostSink::stdout(rt);
+    Ok(number_of(status_of(alloc, words, tree, out, pool)))
+}
+
+/// The status of a run.
+fn status_of<T: Tree + Send + Drop, S: Sink + Send + Drop, B: Builder + Send>(
+    alloc: Global,
+    words: &[String],
+    tree: T,
+    out: S,
+    pool: BuildPool<B>,
+) -> Status
+    requires resting { 0 < length pool.resting }
+{
     let Ended { status, .. } = emerge(alloc, words, tree, out, pool);
-    Ok(number_of(status))
+    status
 }
 
 /// Says why there is no tree, and answers the status's number.
@@ -113,17 +134,11 @@ fn refuse(rt: &HostRuntime, name: &str, fault: OpenFault) -> u8 {
     }
 }
 
-/// Runs words over an empty tree in memory, and prints the lines.
-fn run_in_memory<R: Print>(rt: &R, alloc: Global, words: &[String]) -> Result<u8, AllocError> {
-    let builder = ImageBuilder::new(1, sample_image(alloc)?);
-    let pool = BuildPool::new(alloc, vec![in alloc; builder]?)?;
+/// Runs words that name no folder over an empty tree in memory.
+fn run_in_memory(rt: HostRuntime, alloc: Global, words: &[String]) -> Result<u8, AllocError> {
     let tree = MemTree::new(alloc, Vec::new(alloc)).map_err(|_| AllocError)?;
-    let Ended { status, out, .. } = emerge(alloc, words, tree, MemSink::new(alloc), pool);
-    let code = number_of(status);
-    match io::writer(rt).write_all(out.bytes()) {
-        Ok(()) => Ok(code),
-        Err(_) => Ok(NO_OUTPUT),
-    }
+    let builders = numbered_builders(alloc, 1, |id: u32| FolderBuilder::new(rt, "", id))?;
+    run_with(rt, alloc, words, tree, builders)
 }
 
 fn number_of(status: Status) -> u8 {

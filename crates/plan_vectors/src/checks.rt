@@ -1,0 +1,63 @@
+//! Checks of plans, and of repairs.
+
+use crate::groups::plan;
+use crate::reading::packages;
+use crate::refused::refused_text;
+use crate::texts::{cut, unescaped};
+use pkg_state::Pkg;
+use plan_check::{Plan, PlanRefused, check};
+use plan_link::link;
+use repair_check::check_repair;
+use std::alloc::Global;
+
+/// `ok`, or the rule that is broken.
+fn told(alloc: Global, answer: Result<(), PlanRefused>) -> Option<String> {
+    match answer {
+        Ok(()) => String::from_str(alloc, "ok").ok(),
+        Err(refused) => refused_text(alloc, refused),
+    }
+}
+
+fn check_over(alloc: Global, start: &[Pkg], groups: &str) -> Option<String> {
+    let plan = plan(alloc, groups)?;
+    told(alloc, check(alloc, start, &plan))
+}
+
+/// Whether the plan of these groups is accepted over the packages that are installed.
+pub(crate) fn check_groups(alloc: Global, parts: &str) -> Option<String> {
+    let (installed, groups) = cut(parts);
+    let start = packages(alloc, installed)?;
+    check_over(alloc, &start, groups)
+}
+
+fn repair_over(alloc: Global, start: &[Pkg], plan: &Plan) -> Option<String> {
+    if plan.groups().len() > 1 {
+        return None;
+    }
+    told(alloc, check_repair(alloc, start, plan))
+}
+
+/// The plan of a text; none where the text has a fault or names what isn't offered.
+fn linked(alloc: Global, offered: &[Pkg], text: &str) -> Option<Plan> {
+    let text = plan_text::Plan::parse(alloc, text).ok()?;
+    link(alloc, &text, offered).ok()
+}
+
+fn plan_of(alloc: Global, offered: &str, text: &str) -> Option<Plan> {
+    let text = unescaped(alloc, text).ok()?;
+    let offered = packages(alloc, offered)?;
+    linked(alloc, &offered, text.as_str())
+}
+
+fn repair_offered(alloc: Global, start: &[Pkg], offered: &str, text: &str) -> Option<String> {
+    let plan = plan_of(alloc, offered, text)?;
+    repair_over(alloc, start, &plan)
+}
+
+/// Whether the plan of a text of at most one group repairs the packages that are installed.
+pub(crate) fn repair(alloc: Global, parts: &str) -> Option<String> {
+    let (installed, parts) = cut(parts);
+    let (offered, text) = cut(parts);
+    let start = packages(alloc, installed)?;
+    repair_offered(alloc, &start, offered, text)
+}

@@ -1,0 +1,82 @@
+//! Texts of plans: read and printed, linked to the packages that are offered, and judged.
+
+use crate::linked::{fault_text, plan_text};
+use crate::reading::packages;
+use crate::refused::refused_text;
+use crate::texts::{cut, unescaped};
+use pkg_state::Pkg;
+use plan_check as check;
+use plan_link::{LinkFault, PlanFault, judge_plan, link};
+use plan_text::{Plan, PlanTextFault};
+use std::alloc::{AllocError, Global};
+
+/// The fault, and the number of its line.
+fn text_fault(alloc: Global, fault: PlanTextFault) -> Result<String, AllocError> {
+    match fault {
+        PlanTextFault::Line { line } => format!(in alloc; "Line {line}"),
+        PlanTextFault::Number { line } => format!(in alloc; "Number {line}"),
+        PlanTextFault::NotBefore { line } => format!(in alloc; "NotBefore {line}"),
+        PlanTextFault::Limit => String::from_str(alloc, "Limit"),
+        PlanTextFault::Memory => Err(AllocError),
+    }
+}
+
+/// The text of a plan as it is printed, or its fault.
+pub(crate) fn text(alloc: Global, text: &str) -> Option<String> {
+    let text = unescaped(alloc, text).ok()?;
+    match Plan::parse(alloc, text.as_str()) {
+        Ok(plan) => plan.print(alloc).ok(),
+        Err(fault) => text_fault(alloc, fault).ok(),
+    }
+}
+
+fn told_link(alloc: Global, answer: Result<check::Plan, LinkFault>) -> Option<String> {
+    match answer {
+        Ok(plan) => plan_text(alloc, plan),
+        Err(fault) => fault_text(alloc, fault),
+    }
+}
+
+fn link_over(alloc: Global, offered: &[Pkg], text: &str) -> Option<String> {
+    match Plan::parse(alloc, text) {
+        Ok(plan) => told_link(alloc, link(alloc, &plan, offered)),
+        Err(fault) => text_fault(alloc, fault).ok(),
+    }
+}
+
+/// The plan that a text stands for, over the packages that are offered.
+pub(crate) fn link_text(alloc: Global, parts: &str) -> Option<String> {
+    let (offered, text) = cut(parts);
+    let text = unescaped(alloc, text).ok()?;
+    let offered = packages(alloc, offered)?;
+    link_over(alloc, &offered, text.as_str())
+}
+
+fn told_fault(alloc: Global, fault: PlanFault) -> Option<String> {
+    match fault {
+        PlanFault::Text(fault) => text_fault(alloc, fault).ok(),
+        PlanFault::Link(fault) => fault_text(alloc, fault),
+        PlanFault::Refused(refused) => refused_text(alloc, refused),
+    }
+}
+
+fn judge_over(alloc: Global, start: &[Pkg], offered: &[Pkg], text: &str) -> Option<String> {
+    match judge_plan(alloc, text, offered, start) {
+        Ok(plan) => plan_text(alloc, plan),
+        Err(fault) => told_fault(alloc, fault),
+    }
+}
+
+fn judge_offered(alloc: Global, start: &[Pkg], offered: &str, text: &str) -> Option<String> {
+    let text = unescaped(alloc, text).ok()?;
+    let offered = packages(alloc, offered)?;
+    judge_over(alloc, start, &offered, text.as_str())
+}
+
+/// The plan of a text, if it is accepted over the packages that are installed.
+pub(crate) fn judge(alloc: Global, parts: &str) -> Option<String> {
+    let (installed, parts) = cut(parts);
+    let (offered, text) = cut(parts);
+    let start = packages(alloc, installed)?;
+    judge_offered(alloc, &start, offered, text)
+}

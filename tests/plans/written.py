@@ -1,0 +1,61 @@
+"""The files that are written of an installed package."""
+from cases import case, check_databases
+from databases import objects
+
+# what is said of two packages in odd ways, and the files that are written of each
+PACKAGES = [
+    (
+        """c/p-1/CONTENTS=dir /u
+c/p-1/EAPI= 8
+c/p-1/SLOT=0/0
+c/p-1/USE=~
+c/p-1/other=?""",
+        """c/p-1/CONTENTS=
+c/p-1/EAPI=8~
+c/p-1/SLOT=0~""",
+    ),
+    (
+        """c/q-1.2-r3/CONTENTS=sym /u/b -> a 17~dir /u~obj /u/a 0cc175b9c0f1b6a831c399e269772661 5
+c/q-1.2-r3/EAPI=8~
+c/q-1.2-r3/SLOT=2/3
+c/q-1.2-r3/RDEPEND= c/x:= c/y:0/2=~~ u? ( c/z )
+c/q-1.2-r3/PDEPEND=c/s
+c/q-1.2-r3/DEPEND=>=c/t-1 !!c/u[v]
+c/q-1.2-r3/BDEPEND=|| ( c/x:0= c/y )
+c/q-1.2-r3/IDEPEND= ~
+c/q-1.2-r3/REQUIRED_USE=u? ( !v )~
+c/q-1.2-r3/IUSE=v +u -w
+c/q-1.2-r3/USE=u t""",
+        """c/q-1.2-r3/BDEPEND=|| ( c/x:0 c/y )~
+c/q-1.2-r3/CONTENTS=obj /u/a 0cc175b9c0f1b6a831c399e269772661 0~sym /u/b -> a 0~
+c/q-1.2-r3/DEPEND=>=c/t-1 !!c/u[v]~
+c/q-1.2-r3/EAPI=8~
+c/q-1.2-r3/IUSE=u v w~
+c/q-1.2-r3/PDEPEND=c/s~
+c/q-1.2-r3/RDEPEND=c/x c/y:0/2= u? ( c/z )~
+c/q-1.2-r3/REQUIRED_USE=u? ( !v )~
+c/q-1.2-r3/SLOT=2/3~
+c/q-1.2-r3/USE=t u~""",
+    ),
+]
+
+
+def writes(rows):
+    return [(case("written", objects(said)), objects(files)) for said, files in rows]
+
+
+def the_files_of_two_packages():
+    return check_databases(writes(PACKAGES))
+
+
+def what_is_written_is_written_alike_again():
+    return check_databases(writes([(files, files) for _, files in PACKAGES]))
+
+
+def flags_of_its_own_alone():
+    """The flag `t` is enabled, but none of the package's own."""
+    lines = "c/p-1/CONTENTS=\nc/p-1/EAPI=8\nc/p-1/SLOT=0\nc/p-1/IUSE=v +u w\nc/p-1/USE=w u t"
+    return check_databases([(case("flags", objects(lines)), "u w ")])
+
+
+TESTS = [the_files_of_two_packages, what_is_written_is_written_alike_again, flags_of_its_own_alone]

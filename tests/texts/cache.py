@@ -1,0 +1,106 @@
+"""The entries of the repository's cache: their lines, their fields, and what they say."""
+from lines import rows
+
+# The digest of `abc` in RFC 1321.
+ABC = "900150983cd24fb0d6963f7d28e17f72"
+STALE = "900150983cd24fb0d6963f7d28e17f73"
+
+# An entry of an ebuild `abc` with every key.
+WHOLE = f"""\
+BDEPEND=virtual/pkgconfig
+DEFINED_PHASES=compile install
+DEPEND=dev-libs/icu:=
+DESCRIPTION=A = sign
+EAPI=8
+HOMEPAGE=https://example.org
+IDEPEND=c/i
+INHERIT=flags
+IUSE=+nls test
+KEYWORDS=amd64 ~arm64
+LICENSE=GPL-3+
+PDEPEND=c/q
+PROPERTIES=live
+RDEPEND=dev-libs/icu:= nls? ( virtual/libintl )
+REQUIRED_USE=test? ( nls )
+RESTRICT=!test? ( test )
+SLOT=0/2.12
+SRC_URI=https://example.org/a.tar.xz
+_eclasses_=flags\t{ABC}
+_md5_={ABC}
+"""
+
+
+def entries_of_an_ebuild():
+    # With every key, with none but those that must be there, of another ebuild, and faults of
+    # lines, of EAPI before other fields, and of a field. What is told of an entry: its slots and
+    # flags, those on by default, keywords, RDEPEND, PDEPEND, DEPEND, BDEPEND, IDEPEND, and
+    # REQUIRED_USE.
+    whole = [
+        "0/2.12 nls test ",
+        "nls ",
+        "amd64 ~arm64 ",
+        "dev-libs/icu:= nls? ( virtual/libintl )",
+        "c/q",
+        "dev-libs/icu:=",
+        "virtual/pkgconfig",
+        "c/i",
+        "test? ( nls )",
+    ]
+    table = [
+        (WHOLE, "; ".join(whole)),
+        (f"SLOT=3\n_md5_={ABC}\nEAPI=8", "; ".join(["3/3 "] + [""] * 8)),
+        (f"EAPI=8\nSLOT=0\n_md5_={STALE}\n", f"stale: {STALE}, not {ABC}"),
+        ("EAPI", "line 1 has no equals sign"),
+        ("SLOT=0\nSLOT=0\n", "SLOT twice"),
+        ("EAPI=7\nIUSE=--a\n", "edition 7"),
+        (f"EAPI=8\nSLOT=0\n_md5_={ABC[:-1]}\n", "field _md5_"),
+        (b"EAPI=8\n\xff=\n", "an entry that is not UTF-8"),
+    ]
+    return rows("entry", table)
+
+
+def fields_of_entries():
+    # Every field, none but those that must be there, an edition that goes before what is absent,
+    # the absent ones in their order, and the first line that isn't in form.
+    table = [
+        (f"DEPEND=c/p\nEAPI=8\nIUSE=+a -b\nREQUIRED_USE=a\nSLOT=0/2\n_md5_={ABC}", "in form"),
+        (f"SLOT=0\n_md5_={ABC}\nEAPI=8\nX=(\n", "in form"),
+        ("EAPI=7\n", "edition 7"),
+        ("EAPI=8 \nSLOT=(\n", "edition 8 "),
+        ("SLOT=0\n", "field EAPI"),
+        ("EAPI=8\n_md5_=x\n", "field SLOT"),
+        ("EAPI=8\nSLOT=0\nIUSE=--a\n", "field _md5_"),
+        (f"EAPI=8\nSLOT=0\r\n_md5_={ABC.upper()}\n", "field SLOT"),
+        (f"EAPI=8\nRDEPEND=( c/p\nSLOT=\n_md5_={ABC}\n", "field RDEPEND"),
+    ]
+    return rows("fields", table)
+
+
+def pairs_of_entries():
+    # A last line without its newline, a value with an equals sign and white space at its end, empty
+    # keys and values, no lines, and each fault; of two faults the one that is tried first.
+    table = [
+        ("EAPI=8\nSLOT=0", "EAPI:8|SLOT:0|"),
+        ("A=b=c \n=\nB=\n", "A:b=c |:|B:|"),
+        ("", ""),
+        ("\n", "line 1 has no equals sign"),
+        ("EAPI", "line 1 has no equals sign"),
+        ("A=1\n\nB=2\n", "line 2 has no equals sign"),
+        ("# x\nA=1\n", "line 1 has no equals sign"),
+        ("X=1\nY=2\nY=3\nX=4\n", "Y twice"),
+        ("=\n=\n", " twice"),
+        ("A=1\nA=2\nB", "line 3 has no equals sign"),
+    ]
+    return rows("pairs", table)
+
+
+def entries_that_are_not_utf8():
+    return rows("pairs", [(b"A=1\nA\xc3\n", "an entry that is not UTF-8")])
+
+
+TESTS = [
+    entries_of_an_ebuild,
+    fields_of_entries,
+    pairs_of_entries,
+    entries_that_are_not_utf8,
+]
