@@ -6,8 +6,8 @@
 //! that is masked, none that the candidate doesn't know but the implicit ones; the settings that may
 //! be chosen are given whole and in their order.
 //!
-//! **Only tested**: that with ample memory they are given. Of n flags that may be flipped, k flips give as many settings as
-//! there are lists of at most k of them, each of which is a copy of the set.
+//! **Only tested**: that with ample memory they are given. Of n flags that may be flipped, k flips
+//! give as many settings as there are lists of at most k of them, each of which is a copy of the set.
 //!
 //! ```
 //! let base = base_flags(&iuse.flags, &iuse.on, &rules)?;
