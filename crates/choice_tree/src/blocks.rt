@@ -1,21 +1,11 @@
 ghost use Rattle.std.specs.Prelude.{◌≡◌, ◌++◌, IfOk, OnOk, map};
 ghost use Rattle.dep_atom.specs.Values.{atom_value};
-ghost use Rattle.dep_tree.specs.Grammar.{is_block};
 ghost use Rattle.choice_tree.specs.Blocks.{blocks_in, blocks_of};
 
-use dep_atom::{Atom, Block};
+use dep_atom::Atom;
+use dep_tree::is_block;
 use pkg_state::{Class, Pkg};
 use std::alloc::{AllocError, Global};
-
-/// Whether the atom is a block.
-pub(crate) fn is_block(atom: &Atom) -> bool
-    ensures { result ≡ is_block (atom_value atom.now) }
-{
-    match atom.block {
-        Block::No => false,
-        Block::Weak | Block::Strong => true,
-    }
-}
 
 fn push_blocks<'a>(
     alloc: Global,

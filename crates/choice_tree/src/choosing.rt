@@ -15,7 +15,6 @@ ghost use Rattle.choice_tree.specs.Seen.{place_of, places_of};
 ghost use Rattle.choice_tree.specs.Shown.{candidates_of};
 ghost use Rattle.choice_tree.specs.Views.{decisions_of};
 
-use crate::blocks::is_block;
 use crate::candidate::Candidate;
 use crate::filtering::{harmless, matching, ousting};
 use crate::gathering::{all_free, push_free, push_line};
@@ -25,6 +24,7 @@ use crate::ranking::push_in_order;
 use crate::repeats::once;
 use crate::value::{Decision, Value};
 use dep_atom::Atom;
+use dep_tree::is_block;
 use pkg_state::{Class, Pkg};
 use pms_names::Flags;
 use std::alloc::{AllocError, Global};

@@ -1,6 +1,7 @@
 ghost use Rattle.std.specs.Prelude.{◌≡◌};
-ghost use Rattle.file_tree.specs.Paths.{is_below};
 ghost use Rattle.contents_text.specs.Contents.{is_dropped, meets};
+
+use file_tree::is_below;
 
 /// Whether the path is one that no package owns: in the database, in the journal, or above one of
 /// them.
@@ -14,11 +15,4 @@ fn meets(top: &[u8], path: &[u8]) -> bool
     ensures { result ≡ meets top.now path.now }
 {
     path == top || (is_below(top, path) || is_below(path, top))
-}
-
-/// Whether the second path is strictly below the first.
-fn is_below(top: &[u8], path: &[u8]) -> bool
-    ensures { result ≡ is_below top.now path.now }
-{
-    path.len() > top.len() && path.starts_with(top) && path[top.len()] == b'/'
 }

@@ -26,5 +26,6 @@ mod tree;
 pub use fault::TreeTextFault;
 pub use present::Present;
 pub use tree::{
-    DepTree, Node, one_fault, printed_text_has_the_words, trees_in_form_are_atoms_in_groups,
+    DepTree, Node, is_block, is_member, one_fault, printed_text_has_the_words,
+    trees_in_form_are_atoms_in_groups,
 };

@@ -2,7 +2,7 @@ ghost use Rattle.std.specs.Prelude.{◌≡◌, ◌++◌, ◌↔◌, IfErr, IfOk,
 ghost use Rattle.std.specs.Prelude.{nat_lt, string_bytes, ℕ};
 ghost use Rattle.dep_atom.specs.Values.{atom_value};
 ghost use Rattle.dep_group.specs.Trees.{all_hold, all_leaves, holds, is_member, is_met};
-ghost use Rattle.dep_group.specs.Trees.{leaves, true_members};
+ghost use Rattle.dep_group.specs.Trees.{leaves, no_trees, true_members};
 ghost use Rattle.dep_group.specs.Tokens.{IsInForm};
 ghost use Rattle.pms_names.specs.Flags.{has};
 ghost use Rattle.dep_tree.specs.Faults.{FirstFault, HasFault, IsMemory};
@@ -40,6 +40,15 @@ pub struct DepTree {
 }
 
 impl DepTree {
+    /// That of a package which depends on nothing.
+    pub fn new(alloc: Global) -> DepTree
+        ensures { trees result ≡ no_trees }
+    {
+        DepTree {
+            nodes: Vec::new(alloc),
+        }
+    }
+
     /// Reads the whole text. Its first fault from the left is given; a group that is never closed is
     /// a fault at the end.
     pub fn parse(alloc: Global, text: &str) -> Result<DepTree, TreeTextFault>
@@ -157,7 +166,8 @@ fn is_fact<P: Present>(atom: &Atom, present: &P, asker: &Flags) -> bool
     is_block(atom) || present.some_match(atom, asker)
 }
 
-pub(crate) fn is_block(atom: &Atom) -> bool
+/// Whether the atom is a block, of either kind.
+pub fn is_block(atom: &Atom) -> bool
     ensures { result ≡ is_block (atom_value atom.now) }
 {
     match atom.block {
@@ -166,7 +176,9 @@ pub(crate) fn is_block(atom: &Atom) -> bool
     }
 }
 
-fn is_member(node: &Node, asker: &Flags) -> bool
+/// Whether the dependency is a member of the group that it stands in: all are but those whose
+/// condition isn't met.
+pub fn is_member(node: &Node, asker: &Flags) -> bool
     ensures { result ≡ is_member kind (has asker.now) (view node.now) }
 {
     match node {

@@ -27,5 +27,5 @@ mod traits;
 pub use fault::{Failed, PathFault, TreeFault};
 pub use limits::{MOST_PATH_BYTES, Quantity};
 pub use objects::{Entry, Kind, Look, Object};
-pub use paths::Path;
+pub use paths::{Path, is_below};
 pub use traits::{Sink, Tree};

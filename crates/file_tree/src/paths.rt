@@ -1,7 +1,7 @@
 ghost use Rattle.std.specs.Prelude.{◌≡◌, ◌≤◌, ◌==◌, ◌&&◌, ◌||◌, drop, false, length, true};
 ghost use Rattle.std.specs.Prelude.{MatchOption, slice_index, nat_eq};
 ghost use Rattle.std.specs.List.{starts_with};
-ghost use Rattle.file_tree.specs.Paths.{FaultAt, FirstFault, bad_at, begins_badly, first_part};
+ghost use Rattle.file_tree.specs.Paths.{FaultAt, FirstFault, bad_at, begins_badly, first_part, is_below};
 ghost use Rattle.file_tree.specs.Paths.{is_bad_part, is_path};
 
 use crate::fault::PathFault;
@@ -30,6 +30,13 @@ impl Model for Path {
     ghost inverse = { λ v. record { text = v } };
 }
 
+/// Whether the second of two texts of paths is strictly below the first.
+pub fn is_below(top: &[u8], path: &[u8]) -> bool
+    ensures { result ≡ is_below top.now path.now }
+{
+    path.len() > top.len() && path.starts_with(top) && path[top.len()] == b'/'
+}
+
 impl Path {
     ghost use Rattle.std.specs.Prelude.{◌≡◌, true, IfErr, IfOk};
     ghost use Rattle.file_tree.specs.Paths.{FirstFault, is_below, is_path};
@@ -55,9 +62,7 @@ impl Path {
     pub fn is_above(&self, other: &Path) -> bool
         ensures { result ≡ is_below self.now other.now }
     {
-        let top = self.text().as_bytes();
-        let path = other.text().as_bytes();
-        path.len() > top.len() && path.starts_with(top) && path[top.len()] == b'/'
+        is_below(self.text().as_bytes(), other.text().as_bytes())
     }
 
     pub fn text(&self) -> &str

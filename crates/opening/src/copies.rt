@@ -1,8 +1,5 @@
 ghost use Rattle.std.specs.Prelude.{◌≡◌, IfOk};
-ghost use Rattle.dep_group.specs.Trees.{no_trees};
-ghost use Rattle.dep_tree.specs.View.{trees};
 ghost use Rattle.package_law.specs.Records.{needing_nothing};
-ghost use Rattle.required_use.specs.View as required;
 
 use dep_atom::Facts;
 use dep_tree::DepTree;
@@ -18,27 +15,11 @@ pub(crate) fn needing_nothing(alloc: Global, facts: &Facts) -> Result<Pkg, Alloc
     Ok(Pkg {
         facts,
         eapi: Eapi::Eight,
-        rdepend: no_needs(alloc),
-        pdepend: no_needs(alloc),
-        depend: no_needs(alloc),
-        bdepend: no_needs(alloc),
-        idepend: no_needs(alloc),
-        required_use: no_demand(alloc),
+        rdepend: DepTree::new(alloc),
+        pdepend: DepTree::new(alloc),
+        depend: DepTree::new(alloc),
+        bdepend: DepTree::new(alloc),
+        idepend: DepTree::new(alloc),
+        required_use: RequiredUse::new(alloc),
     })
-}
-
-fn no_needs(alloc: Global) -> DepTree
-    ensures { trees result ≡ no_trees }
-{
-    DepTree {
-        nodes: Vec::new(alloc),
-    }
-}
-
-fn no_demand(alloc: Global) -> RequiredUse
-    ensures { required.trees result ≡ no_trees }
-{
-    RequiredUse {
-        nodes: Vec::new(alloc),
-    }
 }

@@ -105,9 +105,7 @@ fn first_below<'a>(
 fn is_below(top: &str, path: &str) -> bool
     ensures { result ≡ is_below top.now path.now }
 {
-    let top = top.as_bytes();
-    let path = path.as_bytes();
-    path.len() > top.len() && path.starts_with(top) && path[top.len()] == b'/'
+    file_tree::is_below(top.as_bytes(), path.as_bytes())
 }
 
 fn path_of(alloc: Global, text: &Text) -> Result<Path, AllocError>

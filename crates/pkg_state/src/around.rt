@@ -24,7 +24,11 @@ pub(crate) struct Around<'a> {
     ghost are_blocks: { AreBlocks (all_blocks packages.now) blocks.lists },
 }
 
-fn by_own_name<'a>(alloc: Global, packages: &'a [Pkg]) -> Result<ByText<'a, &'a Pkg>, AllocError>
+/// The packages under their own names.
+pub fn by_own_name<'a>(
+    alloc: Global,
+    packages: &'a [Pkg],
+) -> Result<ByText<'a, &'a Pkg>, AllocError>
     ensures { IfOk result (λ named. AreNamed packages.now named.lists) }
 {
     let mut named = ByText::new(alloc);

@@ -1,6 +1,5 @@
 ghost use Rattle.std.specs.Prelude.{◌≡◌};
 ghost use Rattle.dep_atom.specs.Values.{atom_value};
-ghost use Rattle.dep_tree.specs.Grammar.{is_block};
 ghost use Rattle.pkg_state.specs.Index.{keeps_out};
 ghost use Rattle.pkg_state.specs.Package.{line_of};
 
@@ -26,15 +25,5 @@ impl<'a> Block<'a> {
     {
         let owner = self.owner;
         self.atom.matches(&other.facts, &owner.facts.enabled) && self.line != *line
-    }
-}
-
-/// Whether the atom is a block.
-pub(crate) fn is_block(atom: &Atom) -> bool
-    ensures { result ≡ is_block (atom_value atom.now) }
-{
-    match atom.block {
-        Blocking::No => false,
-        Blocking::Weak | Blocking::Strong => true,
     }
 }

@@ -2,10 +2,11 @@ ghost use Rattle.std.specs.Prelude.{◌≡◌, ◌++◌, ℕ, List, OnOk, map};
 ghost use Rattle.pkg_state.specs.Blocks.{block_value};
 ghost use Rattle.pkg_state.specs.Index.{blocks_of, blocks_of_class, listed, those_on};
 
-use crate::block::{Block, is_block};
+use crate::block::Block;
 use crate::by_text::ByText;
 use crate::class::Class;
 use crate::package::Pkg;
+use dep_tree::is_block;
 use std::alloc::{AllocError, Global};
 
 fn add_class<'a>(

@@ -1,14 +1,13 @@
 ghost use Rattle.std.specs.Prelude.{◌≡◌, IfOk};
 ghost use Rattle.std.specs.Option.{option_map};
 ghost use Rattle.dep_atom.specs.Values.{atom_value};
-ghost use Rattle.dep_group.specs.Trees.{is_member};
-ghost use Rattle.dep_tree.specs.Truth.{is_fact, kind};
+ghost use Rattle.dep_tree.specs.Truth.{is_fact};
 ghost use Rattle.dep_tree.specs.View.{trees_view, view};
 ghost use Rattle.pms_names.specs.Flags.{has};
 ghost use Rattle.pkg_state.specs.Fault.{lacking, lacking_of_all, lacking_of_first};
 
 use dep_atom::Atom;
-use dep_tree::{Node, Present};
+use dep_tree::{Node, Present, is_member};
 use pms_names::Flags;
 use std::alloc::AllocError;
 
@@ -71,13 +70,4 @@ fn lacking_of_first<'a, P: Present>(
         }
     }
     None
-}
-
-fn is_member(node: &Node, asker: &Flags) -> bool
-    ensures { result ≡ is_member kind (has asker.now) (view node.now) }
-{
-    match node {
-        Node::When { flag, on, .. } => asker.has(flag) == *on,
-        _ => true,
-    }
 }

@@ -31,6 +31,7 @@ mod package;
 mod state;
 mod twins;
 
+pub use around::by_own_name;
 pub use broken::Broken;
 pub use by_text::ByText;
 pub use class::{Class, Eapi};

@@ -1,9 +1,7 @@
 ghost use Rattle.std.specs.Prelude.{◌≡◌, ◌⊎◌, ◌↔◌, ◌∷◌, IfOk, IsTrue, [], false, length, map};
 ghost use Rattle.std.specs.Option.{option_map};
 ghost use Rattle.dep_atom.specs.Values.{atom_value};
-ghost use Rattle.dep_group.specs.Trees.{is_member};
 ghost use Rattle.dep_tree.specs.Grammar.{is_block};
-ghost use Rattle.dep_tree.specs.Truth.{kind};
 ghost use Rattle.dep_tree.specs.View.{trees_view, view};
 ghost use Rattle.pms_names.specs.Flags.{has};
 ghost use Rattle.plan_law.specs.Firm.{AreFirm, HasFirm, IsFirm, direct};
@@ -15,28 +13,10 @@ ghost use Rattle.plan_check.specs.Stretches.{IsStretchWithin, stretch_value};
 use crate::chains::is_chained;
 use crate::index::Index;
 use crate::stretch::Stretch;
-use dep_atom::{Atom, Block};
-use dep_tree::Node;
+use dep_atom::Atom;
+use dep_tree::{Node, is_block, is_member};
 use pms_names::Flags;
 use std::alloc::{AllocError, Global};
-
-fn is_block(atom: &Atom) -> bool
-    ensures { result ≡ is_block (atom_value atom.now) }
-{
-    match atom.block {
-        Block::No => false,
-        Block::Weak | Block::Strong => true,
-    }
-}
-
-fn is_member(node: &Node, asker: &Flags) -> bool
-    ensures { result ≡ is_member kind (has asker.now) (view node.now) }
-{
-    match node {
-        Node::When { flag, on, .. } => asker.has(flag) == *on,
-        _ => true,
-    }
-}
 
 /// The atoms that stand directly in a group.
 fn direct<'a>(alloc: Global, nodes: &'a [Node]) -> Result<Vec<&'a Atom>, AllocError>

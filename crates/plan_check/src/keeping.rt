@@ -2,24 +2,15 @@ ghost use Rattle.std.specs.Prelude.{◌≡◌, ◌++◌, IfOk, OnOk, map};
 ghost use Rattle.std.specs.List.{list_any};
 ghost use Rattle.dep_atom.specs.Match.{value_matches};
 ghost use Rattle.dep_atom.specs.Values.{atom_value};
-ghost use Rattle.dep_tree.specs.Grammar.{is_block};
 ghost use Rattle.plan_law.specs.Sound.{is_strong_block};
 ghost use Rattle.plan_check.specs.Keeping.{barring_blocks, blocks_in, running_blocks};
 ghost use Rattle.plan_check.specs.Keeping.{strong_blocks_in};
 
 use dep_atom::{Atom, Block};
+use dep_tree::is_block;
 use pkg_state::{Class, Pkg};
 use pms_names::Flags;
 use std::alloc::{AllocError, Global};
-
-fn is_block(atom: &Atom) -> bool
-    ensures { result ≡ is_block (atom_value atom.now) }
-{
-    match atom.block {
-        Block::No => false,
-        Block::Weak | Block::Strong => true,
-    }
-}
 
 fn is_strong_block(atom: &Atom) -> bool
     ensures { result ≡ is_strong_block atom.now.block }

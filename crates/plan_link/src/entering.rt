@@ -3,25 +3,15 @@ ghost use Rattle.pms_names.specs.Flags.{has};
 ghost use Rattle.dep_atom.specs.Values.{atom_value};
 ghost use Rattle.dep_atom.specs.declared.slot.SlotPart.TheVariants.{Given};
 ghost use Rattle.dep_group.specs.Trees.{leaf};
-ghost use Rattle.dep_tree.specs.Grammar.{is_block};
 ghost use Rattle.dep_tree.specs.View.{trees, trees_view, view};
 ghost use Rattle.database_law.specs.Fields.{without_equals};
 ghost use Rattle.plan_link.specs.Entering.{all_entered, all_left, asks, bound_slot, entered};
 ghost use Rattle.plan_link.specs.Entering.{entered_leaf, is_open, left, left_by};
 
-use dep_atom::{Atom, Bind, Block, SlotPart};
-use dep_tree::{DepTree, Node};
+use dep_atom::{Atom, Bind, SlotPart};
+use dep_tree::{DepTree, Node, is_block};
 use pms_names::{Flags, SlotName};
 use std::alloc::{AllocError, Global};
-
-fn is_block(atom: &Atom) -> bool
-    ensures { result ≡ is_block (atom_value atom.now) }
-{
-    match atom.block {
-        Block::No => false,
-        Block::Weak | Block::Strong => true,
-    }
-}
 
 fn is_open(slot: &SlotPart) -> bool
     ensures { result ≡ is_open slot.now }

@@ -45,7 +45,8 @@ fn link_addition(
     requires { g < 4096 }
     ensures brings { IfOk result (λ q.
         Brings offers.now.offered.now (addition_value addition.now) q) }
-    ensures says { Says (addition_rule offers.now.offered.now g (addition_value addition.now)) result }
+    ensures says { Says (addition_rule offers.now.offered.now g (addition_value addition.now))
+        result }
 {
     let Some(pkg) = find(addition, offers) else {
         let package = addition.id.try_clone()?;

@@ -1,7 +1,7 @@
 ghost use Rattle.std.specs.Prelude.{◌≡◌, IfOk};
 ghost use Rattle.pkg_state.specs.Index.{AreNamed};
 
-use pkg_state::{ByText, Pkg};
+use pkg_state::{ByText, Pkg, by_own_name};
 use std::alloc::{AllocError, Global};
 
 /// Packages that are offered, which are found by their names.
@@ -12,21 +12,11 @@ pub(crate) struct Offers<'a> {
     ghost are_named: { AreNamed offered.now named.lists },
 }
 
-fn by_name<'a>(alloc: Global, offered: &'a [Pkg]) -> Result<ByText<'a, &'a Pkg>, AllocError>
-    ensures { IfOk result (λ named. AreNamed offered.now named.lists) }
-{
-    let mut named = ByText::new(alloc);
-    for pkg in offered {
-        named.add(alloc, pkg.facts.id.name.package.text(), pkg)?;
-    }
-    Ok(named)
-}
-
 impl<'a> Offers<'a> {
     pub(crate) fn new(alloc: Global, offered: &'a [Pkg]) -> Result<Offers<'a>, AllocError>
         ensures { IfOk result (λ offers. offers.offered.now ≡ offered.now) }
     {
-        let named = by_name(alloc, offered)?;
+        let named = by_own_name(alloc, offered)?;
         Ok(Offers { offered, named })
     }
 }

@@ -1,29 +1,10 @@
 ghost use Rattle.std.specs.Prelude.{◌≡◌, IfOk, map};
-ghost use Rattle.dep_group.specs.Trees.{no_trees};
-ghost use Rattle.dep_tree.specs.View.{trees};
-ghost use Rattle.required_use.specs.View as required;
 ghost use Rattle.repair_check.specs.Repair.{bare};
 
 use dep_tree::DepTree;
 use pkg_state::{Pkg, copy_facts};
 use required_use::RequiredUse;
 use std::alloc::{AllocError, Global};
-
-fn no_needs(alloc: Global) -> DepTree
-    ensures { trees result ≡ no_trees }
-{
-    DepTree {
-        nodes: Vec::new(alloc),
-    }
-}
-
-fn no_demand(alloc: Global) -> RequiredUse
-    ensures { required.trees result ≡ no_trees }
-{
-    RequiredUse {
-        nodes: Vec::new(alloc),
-    }
-}
 
 /// The package as if it needed nothing.
 fn bare(alloc: Global, pkg: &Pkg) -> Result<Pkg, AllocError>
@@ -33,12 +14,12 @@ fn bare(alloc: Global, pkg: &Pkg) -> Result<Pkg, AllocError>
     Ok(Pkg {
         facts,
         eapi: pkg.eapi,
-        rdepend: no_needs(alloc),
-        pdepend: no_needs(alloc),
-        depend: no_needs(alloc),
-        bdepend: no_needs(alloc),
-        idepend: no_needs(alloc),
-        required_use: no_demand(alloc),
+        rdepend: DepTree::new(alloc),
+        pdepend: DepTree::new(alloc),
+        depend: DepTree::new(alloc),
+        bdepend: DepTree::new(alloc),
+        idepend: DepTree::new(alloc),
+        required_use: RequiredUse::new(alloc),
     })
 }
 

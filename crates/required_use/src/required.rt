@@ -1,7 +1,8 @@
 ghost use Rattle.std.specs.Prelude.{◌≡◌, ◌+◌, ◌≤◌, ◌↔◌, Bool, IfErr, IfOk, IsNone, IsTrue, List};
 ghost use Rattle.std.specs.Prelude.{MatchResult, map, not, string_bytes, ℕ};
 ghost use Rattle.std.specs.List.{position};
-ghost use Rattle.dep_group.specs.Trees.{Trees, all_hold, holds, is_member, is_met, true_members};
+ghost use Rattle.dep_group.specs.Trees.{Trees, all_hold, holds, is_member, is_met, no_trees};
+ghost use Rattle.dep_group.specs.Trees.{true_members};
 ghost use Rattle.pms_names.specs.Flags.{has};
 ghost use Rattle.dep_group.specs.Tokens.{IsInForm};
 ghost use Rattle.required_use.specs.Faults.{FirstFault, HasFault, IsMemory};
@@ -48,6 +49,15 @@ pub struct RequiredUse {
 }
 
 impl RequiredUse {
+    /// That of a package whose flags may be set in any way.
+    pub fn new(alloc: Global) -> RequiredUse
+        ensures { trees result ≡ no_trees }
+    {
+        RequiredUse {
+            nodes: Vec::new(alloc),
+        }
+    }
+
     /// Reads the whole text. Its first fault from the left is given; a group that is never closed is
     /// a fault at the end.
     pub fn parse(alloc: Global, text: &str) -> Result<RequiredUse, RequiredFault>
