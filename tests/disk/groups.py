@@ -1,11 +1,16 @@
 """Whole runs of one group and of two, and the claims of two groups of a site."""
-from asked import ask
+import asked
 from crashes import Group, images, left_of, looks, recover_case
 from told import held, line, same
 
 PROGRAM = "groups_in_memory"
 LINES = ["line 0 done 0 +c/o-1", "line 1 done 1 +c/p-1"]
 RECORD = "var/db/pkg/c/p-1/SLOT"
+
+
+def ask(lines):
+    """What the program answers. What runs many tests may put another function here."""
+    return asked.ask(PROGRAM, lines)
 
 
 def told(answer):
@@ -21,7 +26,7 @@ def plain(**texts):
 
 
 def check_run(what, fields, end, groups, written, objects):
-    (answer,) = ask(PROGRAM, [line(what, *fields)])
+    (answer,) = ask([line(what, *fields)])
     same(what, (end, groups, groups, written, objects), told(answer))
 
 
@@ -101,17 +106,17 @@ def a_run_of_two_is_stopped_at_each_call():
     both = {**first, "b": "again", "var/db/pkg/c/q-1/SLOT": "0"}
     stages = [before, first, both]
     p, q = SLOTS
-    asked = looks([Group(dict.fromkeys(["a", p]), ("b", "c")), Group(dict.fromkeys(["b", q]))])
-    (whole,) = ask(PROGRAM, [line("two", *TWO)])
+    looked = looks([Group(dict.fromkeys(["a", p]), ("b", "c")), Group(dict.fromkeys(["b", q]))])
+    (whole,) = ask([line("two", *TWO)])
     stops = range(1, left_of(whole).calls + 1)
     cases = {}
-    for answer in ask(PROGRAM, [line("two", f"stop {stop}", *TWO, *asked) for stop in stops]):
+    for answer in ask([line("two", f"stop {stop}", *TWO, *looked) for stop in stops]):
         left = left_of(answer)
         same("the end of a run that is stopped", "device", left.end)
         acknowledged = len(left.rest[2])
         for case in map(recover_case, images(left)):
             cases[case] = max(acknowledged, cases.get(case, 0))
-    for (case, least), answer in zip(cases.items(), ask(PROGRAM, list(cases))):
+    for (case, least), answer in zip(cases.items(), ask(list(cases))):
         left = left_of(answer)
         same(f"the recovery of {case[:200]}", True, texts_of(left.objects) in stages[least:])
 
@@ -130,7 +135,7 @@ def paths_of_another_group():
         ("a/b", "a/c", "12", ""),
         ("a", "a-b", "12", ""),
     ]
-    answers = ask(PROGRAM, [sealed_and_claimed(*row[:2]) for row in table])
+    answers = ask([sealed_and_claimed(*row[:2]) for row in table])
     for (_, _, came, refusal), answer in zip(table, answers):
         left = left_of(answer)
         same("claims", (came, refusal), (left.end, left.rest[1]))

@@ -1,7 +1,8 @@
 """Two groups of a site in every order of their events, and what crashes leave at each call."""
 import itertools
 
-from asked import Wrong, ask, shown
+import asked
+from asked import Wrong, shown
 from crashes import (
     Group,
     events_case,
@@ -28,6 +29,11 @@ GROUPS = [Group({"a": NEW}), Group({"b": NEW}, ("c",), (7,)), Group({"d": NEW})]
 TO_THE_CLAIMS = "01" * 6
 
 
+def ask(lines):
+    """What the program answers. What runs many tests may put another function here."""
+    return asked.ask(PROGRAM, lines)
+
+
 def orders(most):
     """Each order of one event or more, of so many of each group at most, and of ten at most."""
     for size in range(1, 11):
@@ -37,7 +43,7 @@ def orders(most):
 
 
 def lefts(cases):
-    return [left_of(answer) for answer in ask(PROGRAM, cases)]
+    return [left_of(answer) for answer in ask(cases)]
 
 
 def stopped(begun, later):
@@ -90,15 +96,16 @@ def paths_in_every_order():
 
 def each_call_of_some_orders():
     """Whole runs of two groups, in some orders, stopped at each of their calls."""
-    found = []
-    for order in ("0" * 13 + "1" * 14, "1" * 14 + "0" * 13, "01" * 13 + "1", "0011" * 6 + "101"):
-        (run,) = lefts([events_case(TREE, OWNED, GROUPS, order)])
+    tried = ["0" * 13 + "1" * 14, "1" * 14 + "0" * 13, "01" * 13 + "1", "0011" * 6 + "101"]
+    stops = []
+    for order, run in zip(tried, lefts([events_case(TREE, OWNED, GROUPS, it) for it in tried])):
         same(f"events of {order}", "27", run.end)
-        stops = range(1, run.calls + 2)
-        cases = [events_case(TREE, OWNED, GROUPS, order, stop) for stop in stops]
-        for left in lefts(cases):
-            came = order[: int(left.end)]
-            found.append((order, [came.count(str(at)) for at in range(3)], left))
+        stops += [(order, stop) for stop in range(1, run.calls + 2)]
+    found = []
+    cases = [events_case(TREE, OWNED, GROUPS, order, stop) for order, stop in stops]
+    for (order, _), left in zip(stops, lefts(cases)):
+        came = order[: int(left.end)]
+        found.append((order, [came.count(str(at)) for at in range(3)], left))
     check_images(found)
 
 

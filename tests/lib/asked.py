@@ -2,16 +2,20 @@
 
 A program that is asked so reads lines and writes one line for each. It is the one that the gate has
 built, in crates/NAME/out, or the one that the environment names by NAME in capitals; with UNPROVED=1
-there it is tried without any proof (`rt try`).
+there it is made and run without any proof (`rt try`).
 """
 import functools
 import itertools
 import os
+import re
 import subprocess
 import sys
+import tempfile
 
 TOP = os.path.dirname(os.path.dirname(os.path.dirname(os.path.abspath(__file__))))
 SECONDS = 900
+# A try without a proof prints at most 1 MiB in one run, so it gets so many lines at a time.
+AT_A_TIME = 200
 
 
 class Wrong(Exception):
@@ -19,10 +23,8 @@ class Wrong(Exception):
 
 
 def command(name):
-    """The words that start a program, and the folder in which it starts."""
+    """The words that start a proved program, and the folder in which it starts."""
     folder = f"{TOP}/crates/{name}"
-    if os.environ.get("UNPROVED"):
-        return ["rt", "try", "--steps", "1000000000", "--seconds", str(SECONDS)], folder
     made = os.environ.get(name.upper(), f"{folder}/out/{name}")
     if not os.path.isfile(made):
         print(f"{name} is proved and built first", flush=True)
@@ -33,15 +35,36 @@ def command(name):
 
 def ask(name, lines):
     """What the program answers to each of these lines, which hold no line feed."""
-    words, folder = command(name)
-    given = "".join(f"{line}\n" for line in lines).encode()
-    how = {"input": given, "stdout": subprocess.PIPE, "stderr": subprocess.PIPE}
-    ran = subprocess.run(words, cwd=folder, timeout=SECONDS, **how)
+    ran = run_unproved(name, lines) if os.environ.get("UNPROVED") else run_proved(name, lines)
     answers = ran.stdout.decode(errors="surrogateescape").split("\n")[:-1]
     if len(answers) != len(lines):
         said = ran.stderr.decode(errors="replace")[-600:]
         raise Wrong(f"{name} answered {len(answers)} of {len(lines)} lines: {said}")
     return answers
+
+
+def text_of(lines):
+    return "".join(f"{line}\n" for line in lines).encode()
+
+
+def run_proved(name, lines):
+    """The run of the program over these lines."""
+    words, folder = command(name)
+    how = {"input": text_of(lines), "stdout": subprocess.PIPE, "stderr": subprocess.PIPE}
+    return subprocess.run(words, cwd=folder, timeout=SECONDS, **how)
+
+
+def run_unproved(name, lines):
+    """The same without any proof: the program is made once, and run for some lines after others."""
+    words = ["rt", "try", "--steps", "1000000000", "--seconds", str(SECONDS), "--cases"]
+    how = {"cwd": f"{TOP}/crates/{name}", "stdout": subprocess.PIPE, "stderr": subprocess.PIPE}
+    with tempfile.TemporaryDirectory() as cases:
+        for at in range(0, len(lines), AT_A_TIME):
+            with open(f"{cases}/{at:09}", "wb") as case:
+                case.write(text_of(lines[at : at + AT_A_TIME]))
+        ran = subprocess.run([*words, cases], timeout=4 * SECONDS, **how)
+    ran.stdout = re.sub(rb"^== \d{9}\n", b"", ran.stdout, flags=re.MULTILINE)
+    return ran
 
 
 def hold(rows, answers):

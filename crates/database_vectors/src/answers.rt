@@ -1,7 +1,7 @@
 //! The packages of a database with a bar behind each, or its fault.
 
-use crate::texts::cut;
 use crate::trees::tree_of;
+use asked_lines::cut;
 use database_read::{DatabaseFault, read_database};
 use file_tree::Path;
 use record_read::Installed;
@@ -88,7 +88,7 @@ pub(crate) fn read(alloc: Global, parts: &str) -> Option<String> {
 
 /// The packages of the tree, of which one call fails.
 pub(crate) fn read_failing(alloc: Global, parts: &str) -> Option<String> {
-    let (call, parts) = cut(parts);
+    let (call, parts) = cut(parts, '\t');
     let call = call.parse::<u64>().ok()?;
     let mut tree = tree_of(alloc, parts)?;
     tree.fail_at(call).ok()?;

@@ -10,40 +10,28 @@ mod config;
 mod records;
 mod words;
 
+use asked_lines::{answer_each, exit_of};
 use percent_encoding::{AsciiSet, CONTROLS, percent_decode, percent_encode};
 use std::alloc::{AllocError, Global};
 use std::io;
-use std::io::Write;
 use std::process::ExitCode;
-
-/// The status where the input could not be read, or the lines not be printed.
-const FAILED: u8 = 1;
 
 /// The bytes that are escaped.
 const ESCAPED: AsciiSet = percent_encoding::ascii_set!(CONTROLS.add(b'%'));
 
 fn main(rt: HostRuntime) -> ExitCode {
-    match run(&rt, rt.alloc()) {
-        Ok(()) => ExitCode::SUCCESS,
-        Err(_) => ExitCode::from(FAILED),
-    }
+    exit_of(answer_each(&rt, rt.alloc(), answer_line))
 }
 
-fn run<R: Input + Print + AllocGlobal>(rt: &R, alloc: Global) -> io::Result<()> {
-    let mut text = String::new(alloc);
-    for line in rt.lines(alloc) {
-        push_answer(alloc, line?.as_str(), &mut text)?;
-    }
-    io::writer(rt).write_all(text.as_bytes())
-}
-
-fn push_answer(alloc: Global, line: &str, text: &mut String) -> Result<(), AllocError> {
+/// What is answered to a line, both with their escapes.
+fn answer_line(alloc: Global, line: &str) -> io::Result<String> {
     let (query, escaped) = line.split_once(' ').unwrap_or((line, ""));
     let mut bytes = Vec::new(alloc);
     percent_decode(escaped.as_bytes()).append_to(&mut bytes)?;
     let answer = answer(alloc, query, bytes.as_slice())?;
-    percent_encode(answer.as_bytes(), ESCAPED).append_to(text)?;
-    text.push('\n')
+    let mut text = String::new(alloc);
+    percent_encode(answer.as_bytes(), ESCAPED).append_to(&mut text)?;
+    Ok(text)
 }
 
 fn answer(alloc: Global, query: &str, bytes: &[u8]) -> Result<String, AllocError> {

@@ -7,22 +7,13 @@
 //! It promises nothing: the programs that are asked line by line stand on it, and no other crate.
 #![tactic(auto)]
 
+pub use asked_lines::{cut, not_in_form};
 use file_tree::{Entry, Kind, Object, Path};
 use std::alloc::{AllocError, Global};
 use std::io;
 
 /// What stands between two paths or objects in one field.
 pub const THEN: &str = " -> ";
-
-/// The error of a line that is not in form.
-pub fn not_in_form() -> io::Error {
-    io::Error::new(io::ErrorKind::InvalidData, "a line is not in form")
-}
-
-/// A text before and behind the first of these.
-pub fn cut(text: &str, at: char) -> (&str, &str) {
-    text.split_once(at).unwrap_or((text, ""))
-}
 
 /// The path that a text is.
 pub fn path_of(alloc: Global, text: &str) -> io::Result<Path> {

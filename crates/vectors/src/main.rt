@@ -13,30 +13,19 @@ mod settings;
 mod trees;
 mod versions;
 
+use asked_lines::{answer_each, exit_of, not_in_form};
 use percent_encoding::percent_decode;
 use std::alloc::{AllocError, Global};
 use std::io;
-use std::io::Write;
 use std::process::ExitCode;
 
-/// The status where the input could not be read, or the lines not be printed.
-const FAILED: u8 = 1;
-
 fn main(rt: HostRuntime) -> ExitCode {
-    match run(&rt, rt.alloc()) {
-        Ok(()) => ExitCode::SUCCESS,
-        Err(_) => ExitCode::from(FAILED),
-    }
+    exit_of(answer_each(&rt, rt.alloc(), answer_line))
 }
 
-fn run<R: Input + Print + AllocGlobal>(rt: &R, alloc: Global) -> io::Result<()> {
-    let mut text = String::new(alloc);
-    for line in rt.lines(alloc) {
-        let line = decoded(alloc, line?.as_str())?;
-        text.push_str(answer(alloc, line.as_str())?.as_str())?;
-        text.push('\n')?;
-    }
-    io::writer(rt).write_all(text.as_bytes())
+fn answer_line(alloc: Global, line: &str) -> io::Result<String> {
+    let line = decoded(alloc, line)?;
+    Ok(answer(alloc, line.as_str())?)
 }
 
 /// The line without its escapes.
@@ -44,11 +33,6 @@ fn decoded(alloc: Global, line: &str) -> io::Result<String> {
     let mut bytes = Vec::new(alloc);
     percent_decode(line.as_bytes()).append_to(&mut bytes)?;
     String::from_utf8(bytes).map_err(|_| not_in_form())
-}
-
-/// The error of a line that is no text.
-fn not_in_form() -> io::Error {
-    io::Error::new(io::ErrorKind::InvalidData, "the input is not in form")
 }
 
 fn answer(alloc: Global, line: &str) -> Result<String, AllocError> {
