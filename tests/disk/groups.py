@@ -94,6 +94,31 @@ def a_package_goes_and_another_takes_its_path():
     check_run("two", TWO, "ok", "01", "done 0 +c/p-1\ndone 1 +c/q-1\n", objects)
 
 
+def two_packages_come_in_one_group():
+    """Group 0 brings packages 9 and 19, each with its record. What the second one placed is its
+    own then, and group 1 may not place it."""
+    records = {name: f"var/db/pkg/c/{name}-1/SLOT" for name in "pqr"}
+    fields = [
+        "goes 0 8",
+        "goes 1 8",
+        f"bring 0 {held('usr/bin/p', 'run', 'x')}",
+        f"folder 0 {held(records['p'], '0')}",
+        f"also 0 {held('usr/bin/q', 'p', 'l')}",
+        f"also 0 {held('etc/q', 'set')}",
+        f"beside 0 {held(records['q'], '0')}",
+        f"bring 1 {held('etc/q', 'other')}",
+        f"folder 1 {held(records['r'], '0')}",
+        "line 0 done 0 +c/p-1 +c/q-1",
+        "line 1 done 1 +c/r-1",
+    ]
+    objects = {
+        "usr/bin/p": ("x", "run"),
+        "usr/bin/q": ("l", "p"),
+        **plain(**{"etc/q": "set", records["p"]: "0", records["q"]: "0"}),
+    }
+    check_run("two", fields, "owned etc/q 19", "0", "done 0 +c/p-1 +c/q-1\n", objects)
+
+
 def texts_of(tree):
     return {path: text.decode() for path, (_, text) in tree.items()}
 
@@ -148,6 +173,7 @@ TESTS = [
     over_what_nobody_owns,
     with_a_link_to_nothing,
     a_package_goes_and_another_takes_its_path,
+    two_packages_come_in_one_group,
     a_run_of_two_is_stopped_at_each_call,
     paths_of_another_group,
 ]

@@ -2,6 +2,7 @@
 use Rattle.std.proofs.Common.{◌≡◌, ◌⊎◌, ◌<◌, ◌++◌, ◌∙◌, ℕ, Bool, true, List, [], ◌∷◌, Result, Ok, Err, inl, inr, refl, ap, subst, sym, length, take, get_or, map, append_assoc, arith}
 use Rattle.std.specs.Prelude.{IfErr, replicate}
 use Rattle.std.specs.List.{AllByRecursion}
+use Rattle.std.proofs.lemmas.Grind.{flat_map-append}
 use Rattle.std.proofs.lemmas.List.{get_or-set_same, length-append, length-map, length-replicate, length-set, length_push, map-append, take_more}
 use Rattle.basics.proofs.Each.{all-append}
 use Rattle.file_tree.specs.Disk.{Map}
@@ -29,7 +30,8 @@ use Rattle.merge_site.specs.declared.group.SiteGroup.{SiteGroup}
 use Rattle.group_run.specs.Causes.{IsPlain, StopsChanges, StopsRecord, StopsStages}
 use Rattle.group_run.specs.Granted.{wishes_for}
 use Rattle.group_run.specs.Stops.{stop_of_site, stop_of_stage, stop_of_tree}
-use Rattle.group_run.specs.Working.{Changes, HasStaged, object_of, standing_at}
+use Rattle.group_run.specs.Working.{Changes, HasStaged, all_in, all_of, object_of, standing_at}
+use Rattle.group_run.specs.declared.files.Files.{Files}
 use Rattle.group_run.specs.declared.stop.Stop.{Stop}
 use Rattle.group_run.specs.declared.stop.Stop.TheVariants as stops
 
@@ -121,23 +123,35 @@ first_behind P Q xs ys all f = record {
   has = f.has;
 }
 
-pub stages_more : (xs ys : List Entry) (e : Stop) → StopsStages [] xs e → StopsStages [] (xs ++ ys) e
-stages_more xs ys stops.Device h = tt
-stages_more xs ys stops.Output h = absurd h
-stages_more xs ys (stops.Image b) h = first_more (λ x. is_good x ≡ true) (IsBad b) xs ys h
-stages_more xs ys (stops.Claim s) h = absurd h
-stages_more xs ys stops.Limit h =
+-- what stops the first of some files stops all of them
+pub stages_more : (before xs ys : List Entry) (e : Stop) → StopsStages before xs e → StopsStages before (xs ++ ys) e
+stages_more before xs ys stops.Device h = tt
+stages_more before xs ys stops.Output h = absurd h
+stages_more before xs ys (stops.Image b) h = first_more (λ x. is_good x ≡ true) (IsBad b) xs ys h
+stages_more before xs ys (stops.Claim s) h = absurd h
+stages_more before xs ys stops.Limit h =
+    let short = length-append before xs in
+    let long = length-append before (xs ++ ys) in
     let n = length-append xs ys in
-    omega (arith, h, n)
-stages_more xs ys stops.Memory h = tt
+    omega (arith, h, short, long, n)
+stages_more before xs ys stops.Memory h = tt
 
-pub stages_behind : (xs ys : List Entry) (e : Stop) → AreGood xs → StopsStages xs ys e → StopsStages [] (xs ++ ys) e
-stages_behind xs ys stops.Device all h = tt
-stages_behind xs ys stops.Output all h = absurd h
-stages_behind xs ys (stops.Image b) all h = first_behind (λ x. is_good x ≡ true) (IsBad b) xs ys all h
-stages_behind xs ys (stops.Claim s) all h = absurd h
-stages_behind xs ys stops.Limit all h = h
-stages_behind xs ys stops.Memory all h = tt
+-- .. and so does what stops those behind good ones
+pub stages_behind : (before xs ys : List Entry) (e : Stop) → AreGood xs → StopsStages (before ++ xs) ys e → StopsStages before (xs ++ ys) e
+stages_behind before xs ys stops.Device all h = tt
+stages_behind before xs ys stops.Output all h = absurd h
+stages_behind before xs ys (stops.Image b) all h = first_behind (λ x. is_good x ≡ true) (IsBad b) xs ys all h
+stages_behind before xs ys (stops.Claim s) all h = absurd h
+stages_behind before xs ys stops.Limit all h =
+    let same = ap (λ (l : List Entry). length l) (append_assoc before xs ys) in
+    omega (arith, h, same)
+stages_behind before xs ys stops.Memory all h = tt
+
+-- .. so what stops a package behind good ones stops all packages
+pub packages_stop : (ps behind all : List Files) (files : Files) (e : Stop) → all ≡ ps ++ files ∷ behind → AreGood (all_of ps) → StopsStages (all_of ps) (all_in files) e → StopsStages [] (all_of all) e
+packages_stop ps behind all files e split good h =
+    subst (λ (l : List Entry). StopsStages [] l e) (sym (ap all_of split ∙ flat_map-append all_in ps (files ∷ behind)))
+    (stages_behind [] (all_of ps) (all_in files ++ all_of behind) e good (stages_more (all_of ps) (all_in files) (all_of behind) e h))
 
 -- ---- what is wished
 

@@ -1,6 +1,6 @@
 -- When a group may be merged.
 use Rattle.std.specs.Prelude.{◌≡◌, ◌++◌, ℕ, Bool, true, false, List, [], None, map}
-use Rattle.std.specs.List.{AllByRecursion}
+use Rattle.std.specs.List.{AllByRecursion, flat_map}
 use Rattle.file_tree.specs.Disk.{Map}
 use Rattle.file_tree.specs.Paths.{is_below}
 use Rattle.file_tree.specs.declared.objects.Entry.{Entry}
@@ -14,7 +14,8 @@ use Rattle.merge_site.specs.Booking.{dying_at, wish_for, wishes_at}
 use Rattle.merge_site.specs.Claiming.{IsClearFor, MayClaim}
 use Rattle.merge_site.specs.Site.{Account}
 use Rattle.merge_site.specs.declared.group.SiteGroup.{SiteGroup}
-use Rattle.group_run.specs.Working.{Changes, IsAlone, all_in, changing, group_in, placing}
+use Rattle.group_run.specs.Working.{Changes, IsAlone, all_in, all_of, changing, group_in}
+use Rattle.group_run.specs.Working.{placing}
 use Rattle.group_run.specs.declared.files.Files.{Files}
 
 -- the wishes for the paths of some files
@@ -26,14 +27,18 @@ abbrev pub wishes_in : Files → List Wish
 wishes_in files = wishes_for files.owner false files.image.items ++
     wishes_for files.owner true files.folder.items
 
--- the changes of a group that removes these paths and brings this package
-abbrev pub changes_in : List (List ℕ) → Files → Changes
-changes_in removals files =
-    record { removals = removals; files = all_in files; wishes = wishes_in files }
+-- what some packages wish, package by package
+abbrev pub wishes_of : List Files → List Wish
+wishes_of packages = flat_map wishes_in packages
 
--- the changes of a group that brings this package and removes nothing
+-- the changes of a group that removes these paths and brings these packages
+abbrev pub changes_in : List (List ℕ) → List Files → Changes
+changes_in removals packages =
+    record { removals = removals; files = all_of packages; wishes = wishes_of packages }
+
+-- the changes of a group that brings this one package and removes nothing
 abbrev pub bringing : Files → Changes
-bringing files = changes_in [] files
+bringing files = record { removals = []; files = all_in files; wishes = wishes_in files }
 
 -- a book with the owners of the opened one, and no claim
 pub record IsUnclaimed (opened book : Book) : Type 0 where

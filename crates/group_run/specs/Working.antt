@@ -1,6 +1,6 @@
 -- One group of a site on its way, step by step.
 use Rattle.std.specs.Prelude.{◌≡◌, ◌++◌, ℕ, Bool, true, false, List, [], ◌∷◌, length, map, ⊤}
-use Rattle.std.specs.List.{AllByRecursion}
+use Rattle.std.specs.List.{AllByRecursion, flat_map}
 use Rattle.file_tree.specs.Disk.{Map}
 use Rattle.file_tree.specs.Thing.{Thing}
 use Rattle.file_tree.specs.declared.objects.Entry.{Entry}
@@ -142,6 +142,11 @@ placing g files = record {
 -- all that a package places, in the order in which it is staged
 abbrev pub all_in : Files → List Entry
 all_in files = files.image.items ++ files.folder.items
+
+-- all that some packages place: each one's image and then the files of its own folder, package by
+-- package
+abbrev pub all_of : List Files → List Entry
+all_of packages = flat_map all_in packages
 
 -- the standing has staged these files, and removes nothing
 pub record HasStaged (files : List Entry) (s : Standing) : Type 0 where

@@ -1,6 +1,6 @@
 //! Groups merged one after another into a tree at rest through one site, from the beginning of the
-//! first to the cleared journal; and one group, as the run of just that. A group brings a package,
-//! and removes the paths that go with it.
+//! first to the cleared journal; and one group, as the run of just that. A group brings any number
+//! of packages, and removes the paths that go with it; what is merged alone brings one package.
 //!
 //! **A contract sees** the tree as its story, the groups that a crash leaves and the tree holds
 //! (`WentWith`, and `Went` of one group), the sink as the bytes that it took, and the machine as its
@@ -19,8 +19,8 @@
 //! beginning of the next one's. A run that a file, a limit or a claim stopped has its cause, over
 //! what the groups of the history left (`StopsBehind`); only want of memory comes without one.
 //!
-//! **Only tested**: with ample memory a group is merged, or refused for its first collision, and a
-//! package goes whose path the next group takes.
+//! **Only tested**: with ample memory a group is merged, or refused for its first collision, a
+//! package goes whose path the next group takes, and two packages come in one group.
 //!
 //! ```
 //! let merged = merge_groups(alloc, tree, sink, batch);

@@ -8,7 +8,7 @@ ghost use Rattle.merge_core.specs.declared.phase.Phase.TheVariants as phases;
 ghost use Rattle.merge_core.specs.declared.step.Step.TheVariants as steps;
 ghost use Rattle.merge_site.specs.Booking.{wishes_at};
 ghost use Rattle.group_run.specs.Causes.{StopsChanges};
-ghost use Rattle.group_run.specs.Granted.{MayChange, changes_in, wishes_in};
+ghost use Rattle.group_run.specs.Granted.{MayChange, changes_in, wishes_of};
 ghost use Rattle.group_run.specs.Working.{IsAlone, Works, changing, group_in, is_shut};
 ghost use Rattle.group_run.specs.Working.{standing_at, stood_at};
 
@@ -16,7 +16,7 @@ use crate::claiming::claim;
 use crate::files::Files;
 use crate::opening::{open, place_paths, remove_paths, settle};
 use crate::sealing::{mark, record};
-use crate::staging::{begin, stage_files};
+use crate::staging::{begin, stage_packages};
 use crate::stop::Stop;
 use file_tree::{Path, Sink, Tree};
 use merge_site::Site;
@@ -26,7 +26,7 @@ pub(crate) fn build<T: Tree, S: Sink>(
     site: &mut Site<T, S>,
     group: u32,
     removals: Vec<Path>,
-    files: Files,
+    packages: Vec<Files>,
 ) -> Result<(), Stop>
     requires taken { IsTaken site.old.keeping group steps.Begin }
     requires alone { IsAlone group site.old }
@@ -36,24 +36,24 @@ pub(crate) fn build<T: Tree, S: Sink>(
     ensures order { site.new.keeping.order ≡ site.old.keeping.order }
     ensures at { OnOk result (IsAt site.new.keeping group phases.Claimed) }
     ensures group { OnOk result
-        (group_in site.new group ≡ changing group (changes_in removals.items files)) }
+        (group_in site.new group ≡ changing group (changes_in removals.items packages.items)) }
     ensures shut { is_shut (standing_at site.new group).phase ≡ true }
     ensures unopened { was_opened (standing_at site.new group).phase ≡ false }
     ensures quiet { IfErr result (λ e. ¬ (e ≡ Stop.Output)) }
-    ensures wishes { OnOk result (wishes_at site.new.wishes group ≡ wishes_in files) }
+    ensures wishes { OnOk result (wishes_at site.new.wishes group ≡ wishes_of packages.items) }
     ensures let_in { IsTrue T.tells → OnOk result
         (MayChange (stood_at (T.story site.old.opened).now.holds site.old) site.old.book
-        site.old.groups (changes_in removals.items files) group) }
+        site.old.groups (changes_in removals.items packages.items) group) }
     ensures cause { IfErr result (StopsChanges T.tells
         (stood_at (T.story site.old.opened).now.holds site.old) site.old.book site.old.groups
-        (changes_in removals.items files) group) }
+        (changes_in removals.items packages.items) group) }
     ensures sink { site.new.sink ≡ site.old.sink }
     ensures faults { CountsFault (IsErrOf result Stop.Device) (T.faults site.old.tree)
         (T.faults site.new.tree) }
 {
     site.promise();
     begin(site, group);
-    stage_files(site, group, files)?;
+    stage_packages(site, group, packages)?;
     record(site, group, removals)?;
     mark(site, group)?;
     site.promise();

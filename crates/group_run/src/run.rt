@@ -1,14 +1,13 @@
 ghost use Rattle.std.specs.Prelude.{◌≡◌, ◌⊎◌, ◌∷◌, ◌+◌, ◌<◌, ◌≤◌, ◌^◌, [], ℕ, true, length};
 ghost use Rattle.std.specs.Prelude.{IfErr, IfOk, IsErrOf, IsTrue, List, MatchOption, OnErr, OnOk};
-ghost use Rattle.std.specs.Prelude.{Vec, vec_capacity, vec_len};
-ghost use Rattle.std.specs.Global.{Global};
+ghost use Rattle.std.specs.Prelude.{vec_capacity, vec_len};
 ghost use Rattle.basics.specs.Members.{AreDistinct, Has};
 ghost use Rattle.file_tree.specs.Disk.{CountsFault};
 ghost use Rattle.merge_core.specs.Trail.{IsAtRest};
 ghost use Rattle.group_run.specs.Causes.{HasCause, IsOfGroup};
 ghost use Rattle.group_run.specs.Granted.{IsLetIn};
 ghost use Rattle.group_run.specs.Lines.{AreLines, IsBeginning, Wrote, line_in};
-ghost use Rattle.group_run.specs.Turns.{AreFirst, HaveCause, numbers};
+ghost use Rattle.group_run.specs.Turns.{AreFirst, HaveCause, IsTurnOf, numbers};
 ghost use Rattle.group_run.specs.Went.{HasRun, HaveRun, Went, WentWith};
 ghost use Rattle.group_run.specs.declared.turn.Turn.{Turn};
 
@@ -192,15 +191,17 @@ pub fn merge_group<T: Tree, S: Sink>(alloc: Global, tree: T, sink: S, task: Task
     }
 }
 
+/// The turn of a group that brings one package.
 fn only_turn(alloc: Global, group: u32, files: Files) -> Result<Vec<Turn>, AllocError>
-    ensures { IfOk result (λ v. (r : Vec (List ℕ) Global) × (r.items ≡ []) ×
-        (v.items ≡ (record { group = group; removals = r; files = files }) ∷ [])) }
+    ensures { IfOk result (λ v. (t : Turn) × IsTurnOf group files t × (v.items ≡ t ∷ [])) }
 {
+    let mut packages = Vec::with_capacity(alloc, 1)?;
+    packages.push(files)?;
     let mut turns = Vec::with_capacity(alloc, 1)?;
     turns.push(Turn {
         group,
         removals: Vec::new(alloc),
-        files,
+        packages,
     })?;
     Ok(turns)
 }

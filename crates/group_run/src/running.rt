@@ -13,7 +13,7 @@ ghost use Rattle.merge_site.specs.Booking.{wishes_at};
 ghost use Rattle.merge_site.specs.Site.{IsOpened};
 ghost use Rattle.group_run.specs.Applied.{number};
 ghost use Rattle.group_run.specs.Causes.{IsOfGroup, StopsChanges};
-ghost use Rattle.group_run.specs.Granted.{IsAdmitted, changes_in, wishes_in};
+ghost use Rattle.group_run.specs.Granted.{IsAdmitted, changes_in, wishes_of};
 ghost use Rattle.group_run.specs.Lines.{AreLines, IsBeginning, Wrote, line_in};
 ghost use Rattle.group_run.specs.Through.{HasEnded, HasRoom, IsSameSite, IsThrough};
 ghost use Rattle.group_run.specs.Turns.{AreFirst, StopsBehind, numbers};
@@ -36,7 +36,7 @@ fn merge<T: Tree, S: Sink>(
     site: &mut Site<T, S>,
     group: u32,
     removals: Vec<Path>,
-    files: Files,
+    packages: Vec<Files>,
     history: &mut Vec<u32>,
 ) -> Result<(), Stop>
     requires taken { IsTaken site.old.keeping group steps.Begin }
@@ -54,22 +54,22 @@ fn merge<T: Tree, S: Sink>(
     ensures left { (n : ℕ) → HasRoom (suc n) history.old → HasRoom n history.new }
     ensures at { OnOk result (IsAt site.new.keeping group phases.Done) }
     ensures group { OnOk result
-        (group_in site.new group ≡ changing group (changes_in removals.items files)) }
-    ensures wishes { OnOk result (wishes_at site.new.wishes group ≡ wishes_in files) }
+        (group_in site.new group ≡ changing group (changes_in removals.items packages.items)) }
+    ensures wishes { OnOk result (wishes_at site.new.wishes group ≡ wishes_of packages.items) }
     ensures let_in { IsTrue T.tells → was_opened (standing_at site.new group).phase ≡ true →
         IsAdmitted (stood_at (T.story site.old.opened).now.holds site.old) site.old.book
-        site.old.groups (changes_in removals.items files) group (group_in site.new group) }
+        site.old.groups (changes_in removals.items packages.items) group (group_in site.new group) }
     ensures shut { (¬ IsErrOf result Stop.Device) →
         is_shut (standing_at site.new group).phase ≡ true }
     ensures quiet { IfErr result (λ e. ¬ (e ≡ Stop.Output)) }
     ensures cause { IfErr result (StopsChanges T.tells
         (stood_at (T.story site.old.opened).now.holds site.old) site.old.book site.old.groups
-        (changes_in removals.items files) group) }
+        (changes_in removals.items packages.items) group) }
     ensures sink { site.new.sink ≡ site.old.sink }
     ensures faults { CountsFault (IsErrOf result Stop.Device) (T.faults site.old.tree)
         (T.faults site.new.tree) }
 {
-    build(site, group, removals, files)?;
+    build(site, group, removals, packages)?;
     commit(site, group)?;
     add(history, group);
     close(site, group)
@@ -80,7 +80,7 @@ fn merge_and_tell<T: Tree, S: Sink>(
     site: &mut Site<T, S>,
     group: u32,
     removals: Vec<Path>,
-    files: Files,
+    packages: Vec<Files>,
     history: &mut Vec<u32>,
     acknowledged: &mut Vec<u32>,
 ) -> Result<(), Stop>
@@ -105,12 +105,12 @@ fn merge_and_tell<T: Tree, S: Sink>(
     ensures more { (n : ℕ) → HasRoom (suc n) acknowledged.old → HasRoom n acknowledged.new }
     ensures at { OnOk result (IsAt site.new.keeping group phases.Told) }
     ensures group { OnOk result
-        (group_in site.new group ≡ changing group (changes_in removals.items files)) }
+        (group_in site.new group ≡ changing group (changes_in removals.items packages.items)) }
     ensures settled { OnOk result (HasSettled site.old.book site.new.book
-        (record { placed = wishes_in files; removed = removals.items })) }
+        (record { placed = wishes_of packages.items; removed = removals.items })) }
     ensures let_in { IsTrue T.tells → was_opened (standing_at site.new group).phase ≡ true →
         IsAdmitted (stood_at (T.story site.old.opened).now.holds site.old) site.old.book
-        site.old.groups (changes_in removals.items files) group (group_in site.new group) }
+        site.old.groups (changes_in removals.items packages.items) group (group_in site.new group) }
     ensures shut { (¬ IsErrOf result Stop.Device) →
         is_shut (standing_at site.new group).phase ≡ true }
     ensures written { IsTrue S.tells → (start : List ℕ) →
@@ -120,14 +120,14 @@ fn merge_and_tell<T: Tree, S: Sink>(
         start (S.written site.new.sink) }
     ensures cause { IfErr result (StopsChanges T.tells
         (stood_at (T.story site.old.opened).now.holds site.old) site.old.book site.old.groups
-        (changes_in removals.items files) group) }
+        (changes_in removals.items packages.items) group) }
     ensures device { CountsFault (IsErrOf result Stop.Device) (T.faults site.old.tree)
         (T.faults site.new.tree) }
     ensures output { CountsFault (IsErrOf result Stop.Output) (S.faults site.old.sink)
         (S.faults site.new.sink) }
 {
     site.promise();
-    merge(site, group, removals, files, history)?;
+    merge(site, group, removals, packages, history)?;
     tell(site, group)?;
     add(acknowledged, group);
     site.promise();
@@ -177,9 +177,9 @@ fn merge_all<T: Tree, S: Sink>(
         let Turn {
             group,
             removals,
-            files,
+            packages,
         } = turn;
-        merge_and_tell(site, group, removals, files, history, acknowledged)?;
+        merge_and_tell(site, group, removals, packages, history, acknowledged)?;
     }
     Ok(())
 }

@@ -8,8 +8,8 @@ ghost use Rattle.merge_core.specs.declared.step.Step.TheVariants as steps;
 ghost use Rattle.image_fit.specs.Misfits.{AreGood};
 ghost use Rattle.merge_site.specs.Booking.{wishes_at};
 ghost use Rattle.group_run.specs.Causes.{StopsStages};
-ghost use Rattle.group_run.specs.Granted.{wishes_for, wishes_in};
-ghost use Rattle.group_run.specs.Working.{HasStaged, Works, all_in, standing_at};
+ghost use Rattle.group_run.specs.Granted.{wishes_for, wishes_in, wishes_of};
+ghost use Rattle.group_run.specs.Working.{HasStaged, Works, all_in, all_of, standing_at};
 
 use crate::files::Files;
 use crate::stop::Stop;
@@ -64,25 +64,27 @@ fn stage_all<T: Tree, S: Sink>(
     Ok(())
 }
 
-/// Stages all that a package places, of a group that has begun.
-pub(crate) fn stage_files<T: Tree, S: Sink>(
+/// Stages all that a package places, behind what the group has.
+fn stage_files<T: Tree, S: Sink>(
     site: &mut Site<T, S>,
     group: u32,
     files: Files,
 ) -> Result<(), Stop>
     requires at { IsAt site.old.keeping group phases.Building }
-    requires staged { HasStaged [] (standing_at site.old group) }
     requires row { group < length site.old.wishes }
-    requires unwished { wishes_at site.old.wishes group ≡ [] }
     ensures works { Works group site.old site.new }
     ensures order { site.new.keeping.order ≡ site.old.keeping.order }
     ensures at { OnOk result (IsAt site.new.keeping group phases.Building) }
-    ensures staged { OnOk result (HasStaged (all_in files) (standing_at site.new group)) }
+    ensures staged { (before : List Entry) → HasStaged before (standing_at site.old group) →
+        OnOk result (HasStaged (before ++ all_in files) (standing_at site.new group)) }
     ensures early { may_end (standing_at site.new group).phase ≡ true }
     ensures quiet { IfErr result (λ e. ¬ (e ≡ Stop.Output)) }
-    ensures cause { IfErr result (StopsStages [] (all_in files)) }
+    ensures cause { (before : List Entry) → HasStaged before (standing_at site.old group) →
+        IfErr result (StopsStages before (all_in files)) }
     ensures good { OnOk result (AreGood (all_in files)) }
-    ensures wishes { OnOk result (wishes_at site.new.wishes group ≡ wishes_in files) }
+    ensures wishes { OnOk result (wishes_at site.new.wishes group ≡
+        wishes_at site.old.wishes group ++ wishes_in files) }
+    ensures rows { OnOk result (length site.new.wishes ≡ length site.old.wishes) }
     ensures sink { site.new.sink ≡ site.old.sink }
     ensures faults { CountsFault (IsErrOf result Stop.Device) (T.faults site.old.tree)
         (T.faults site.new.tree) }
@@ -94,4 +96,35 @@ pub(crate) fn stage_files<T: Tree, S: Sink>(
     } = files;
     stage_all(site, group, owner, false, image)?;
     stage_all(site, group, owner, true, folder)
+}
+
+/// Stages all that some packages place, package by package, of a group that has begun.
+pub(crate) fn stage_packages<T: Tree, S: Sink>(
+    site: &mut Site<T, S>,
+    group: u32,
+    packages: Vec<Files>,
+) -> Result<(), Stop>
+    requires at { IsAt site.old.keeping group phases.Building }
+    requires staged { HasStaged [] (standing_at site.old group) }
+    requires row { group < length site.old.wishes }
+    requires unwished { wishes_at site.old.wishes group ≡ [] }
+    ensures works { Works group site.old site.new }
+    ensures order { site.new.keeping.order ≡ site.old.keeping.order }
+    ensures at { OnOk result (IsAt site.new.keeping group phases.Building) }
+    ensures staged { OnOk result
+        (HasStaged (all_of packages.items) (standing_at site.new group)) }
+    ensures early { may_end (standing_at site.new group).phase ≡ true }
+    ensures quiet { IfErr result (λ e. ¬ (e ≡ Stop.Output)) }
+    ensures cause { IfErr result (StopsStages [] (all_of packages.items)) }
+    ensures good { OnOk result (AreGood (all_of packages.items)) }
+    ensures wishes { OnOk result
+        (wishes_at site.new.wishes group ≡ wishes_of packages.items) }
+    ensures sink { site.new.sink ≡ site.old.sink }
+    ensures faults { CountsFault (IsErrOf result Stop.Device) (T.faults site.old.tree)
+        (T.faults site.new.tree) }
+{
+    for files in packages {
+        stage_files(site, group, files)?;
+    }
+    Ok(())
 }

@@ -7,7 +7,7 @@ use owner_book::ImageBad;
 pub enum Stop {
     Device,
     Output,
-    /// A file of the package whose object may not be placed.
+    /// A file of a package whose object may not be placed.
     Image(ImageBad),
     /// What refused the claim of the group's paths, but for a failed device and want of memory.
     Claim(ClaimStop),

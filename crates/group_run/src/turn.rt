@@ -7,5 +7,6 @@ pub struct Turn {
     pub group: u32,
     /// What the packages own that go with the group, but for the paths that it places.
     pub removals: Vec<Path>,
-    pub files: Files,
+    /// What each of its packages places, with its owner. A group may bring none.
+    pub packages: Vec<Files>,
 }

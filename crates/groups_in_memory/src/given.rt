@@ -158,8 +158,24 @@ pub fn removals(alloc: Global, fields: &str, group: u32) -> io::Result<Vec<Path>
     Ok(paths)
 }
 
+/// Whether a field with this word says something of a group.
+pub fn says_of(fields: &str, word: &str, group: u32) -> bool {
+    for field in fields.split('\t') {
+        if said_of(field, word, group).is_some() {
+            return true;
+        }
+    }
+    false
+}
+
 /// The package that a group brings.
 pub fn brought(group: u32) -> OwnerKey {
     let number = group.saturating_add(9);
+    OwnerKey { number }
+}
+
+/// The second package that a group brings.
+pub fn brought_also(group: u32) -> OwnerKey {
+    let number = group.saturating_add(19);
     OwnerKey { number }
 }

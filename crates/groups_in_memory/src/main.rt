@@ -13,6 +13,7 @@
 //! | `goes G K` | package K goes with group G |
 //! | `line G TEXT` | what is written of group G, and a line feed |
 //! | `bring G OBJECT`, `folder G OBJECT` | group G places it; a file of the package's folder |
+//! | `also G OBJECT`, `beside G OBJECT` | for `two`: the same of a second package of group G |
 //! | `drop G PATH` | group G removes it |
 //! | `order GROUPS` | for `events`: whose event comes, a digit for each, of three groups |
 //! | `claim PATH`, `again PATH` | for `book`: what groups 9 and 10 claim |
@@ -20,12 +21,12 @@
 //! | `look PATH` | the path is asked for |
 //! | a step and its group, as `Begin 0` | for `core`: with `-` in front, its call failed |
 //!
-//! The package that group G brings is 9 + G. `events`, `one`, `two` and `recover` print how they
-//! ended, the calls of the tree behind the opening, its syncs, which of the paths asked for were
-//! changed since the last sync, the objects that are left, and what was written. `events` ends with
-//! how many came, and what refused a claim. `one` merges group 1 of two, and `two` both; each ends
-//! with `ok` or why it stopped, the history, and the acknowledged groups. The program ends with
-//! status 1 at a line that is none of these.
+//! The package that group G brings is 9 + G, and the second one is 19 + G. `events`, `one`, `two`
+//! and `recover` print how they ended, the calls of the tree behind the opening, its syncs, which
+//! of the paths asked for were changed since the last sync, the objects that are left, and what was
+//! written. `events` ends with how many came, and what refused a claim. `one` merges group 1 of
+//! two, and `two` both; each ends with `ok` or why it stopped, the history, and the acknowledged
+//! groups. The program ends with status 1 at a line that is none of these.
 #![tactic(auto)]
 
 mod books;

@@ -6,7 +6,7 @@ ghost use Rattle.group_run.specs.Turns.{numbers};
 ghost use Rattle.merge_core.specs.Trail.{IsAtRest};
 ghost use Rattle.tree_mem.specs.MemTree.{mem_story};
 
-use crate::given::{book, brought, entries, group, removals};
+use crate::given::{book, brought, brought_also, entries, group, removals, says_of};
 use crate::opened::stopping;
 use crate::told::{push_image_bad, push_stop, push_tree, push_written};
 use group_run::{Batch, Files, Merged, Stop, Task, Turn, merge_group, merge_groups};
@@ -43,6 +43,7 @@ fn merge_two(alloc: Global, fields: &str, tree: MemTree) -> io::Result<Merged<Me
     Ok(merge_groups(alloc, tree, MemSink::new(alloc), batch))
 }
 
+/// What the package of a group places.
 fn files(alloc: Global, fields: &str, group: u32) -> io::Result<Files> {
     let image = entries(alloc, fields, "bring", group)?;
     let folder = entries(alloc, fields, "folder", group)?;
@@ -51,6 +52,27 @@ fn files(alloc: Global, fields: &str, group: u32) -> io::Result<Files> {
         image,
         folder,
     })
+}
+
+/// What the second package of a group places.
+fn other_files(alloc: Global, fields: &str, group: u32) -> io::Result<Files> {
+    let image = entries(alloc, fields, "also", group)?;
+    let folder = entries(alloc, fields, "beside", group)?;
+    Ok(Files {
+        owner: brought_also(group),
+        image,
+        folder,
+    })
+}
+
+/// What the packages of a group place: a second one comes where a field says so.
+fn packages(alloc: Global, fields: &str, group: u32) -> io::Result<Vec<Files>> {
+    let first = files(alloc, fields, group)?;
+    let mut packages = vec![in alloc; first]?;
+    if says_of(fields, "also", group) {
+        packages.push(other_files(alloc, fields, group)?)?;
+    }
+    Ok(packages)
 }
 
 fn both_groups(alloc: Global, fields: &str) -> io::Result<Vec<SiteGroup>>
@@ -90,11 +112,11 @@ fn turn(alloc: Global, fields: &str, group: u32) -> io::Result<Turn>
     ensures { IfOk result (λ t. t.group ≡ group) }
 {
     let removals = removals(alloc, fields, group)?;
-    let files = files(alloc, fields, group)?;
+    let packages = packages(alloc, fields, group)?;
     Ok(Turn {
         group,
         removals,
-        files,
+        packages,
     })
 }
 

@@ -42,7 +42,7 @@ returns-in_err-commit-clause-cause g c =
 
 pub returns-clause-cause : goal.returns-clause-cause
 returns-clause-cause g c =
-    only_err (StopsChanges g.T.Tree.tells (stood_at (g.T.Tree.story c.args.site.now.opened).now.holds c.args.site.now) c.args.site.now.book c.args.site.now.groups (changes_in c.args.removals.items c.args.files) c.args.group) stops.Device tt c.close.result c.close.ensures.only
+    only_err (StopsChanges g.T.Tree.tells (stood_at (g.T.Tree.story c.args.site.now.opened).now.holds c.args.site.now) c.args.site.now.book c.args.site.now.groups (changes_in c.args.removals.items c.args.packages.items) c.args.group) stops.Device tt c.close.result c.close.ensures.only
 
 pub returns-clause-group : goal.returns-clause-group
 returns-clause-group g c = ok_if c.close.result (c.close.ensures.group ∙ (c.commit.ensures.group ∙ c.in_ok-build.ensures.group))

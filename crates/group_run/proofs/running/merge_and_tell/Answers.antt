@@ -4,7 +4,7 @@ use Rattle.journal.specs.Group.{Group}
 use Rattle.merge_core.specs.Phase.{was_opened}
 use Rattle.merge_site.specs.Booking.{is_over}
 use Rattle.group_run.specs.Lines.{line_in}
-use Rattle.group_run.specs.Granted.{wishes_in}
+use Rattle.group_run.specs.Granted.{wishes_of}
 use Rattle.group_run.specs.Working.{is_staged}
 use Rattle.group_run.proofs.Settling.{owners_settled}
 use Rattle.group_run.proofs.Told.{wrote_none, wrote_part, wrote_whole}
@@ -46,7 +46,7 @@ returns-clause-settled g c =
     let works = works_then c.args.group c.args.site.now c.merge.new.site c.tell.new.site c.merge.ensures.works c.tell.ensures.works in
     let wished = (c.tell.ensures.works.wishes.mine (ap is_staged c.in_ok-merge.ensures.at.phase)).1 ∙ c.in_ok-merge.ensures.wishes in
     let group = c.tell.ensures.group ∙ c.in_ok-merge.ensures.group in
-    owners_settled c.args.group c.args.site.now c.tell.new.site (wishes_in c.args.files) c.args.removals.items works c.promise.ensures.booked c.promise-2.ensures.booked (ap is_over c.requires.taken.phase) (ap is_over c.in_ok-tell.ensures.at.phase) wished
+    owners_settled c.args.group c.args.site.now c.tell.new.site (wishes_of c.args.packages.items) c.args.removals.items works c.promise.ensures.booked c.promise-2.ensures.booked (ap is_over c.requires.taken.phase) (ap is_over c.in_ok-tell.ensures.at.phase) wished
     (ap (λ (x : Group). x.content.removals) group)
 
 pub returns-in_err-tell-clause-cause : goal.returns-in_err-tell-clause-cause
