@@ -39,32 +39,14 @@ mod recovered;
 mod told;
 mod walk;
 
+use asked_lines::{answer_each, exit_of};
 use std::alloc::Global;
 use std::io;
-use std::io::{BufRead, BufReader, Write};
 use std::process::ExitCode;
 use tree_lines::{cut, not_in_form};
 
-/// The status where a line is not in form, or could not be read or answered.
-const FAILED: u8 = 1;
-
 fn main(rt: HostRuntime) -> ExitCode {
-    match run(&rt, rt.alloc()) {
-        Ok(()) => ExitCode::from(0),
-        Err(_) => ExitCode::from(FAILED),
-    }
-}
-
-/// Answers each line of the input.
-fn run<R: Input + Print>(rt: &R, alloc: Global) -> io::Result<()> {
-    let mut text = String::new(alloc);
-    for line in BufReader::new(alloc, rt.reader())?.lines(alloc) {
-        let line = line?;
-        let answer = answer(alloc, line.as_str())?;
-        text.push_str(answer.as_str())?;
-        text.push('\n')?;
-    }
-    io::writer(rt).write_all(text.as_bytes())
+    exit_of(answer_each(&rt, rt.alloc(), answer))
 }
 
 /// What is answered to a case.
