@@ -1,0 +1,4 @@
+pub mod Exchanged
+pub mod Pieces
+pub mod Planned
+pub mod Together

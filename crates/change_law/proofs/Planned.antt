@@ -1,0 +1,115 @@
+-- A group that is a whole plan leaves a sound tree.
+use Rattle.std.proofs.Common.{◌≡◌, ◌⊎◌, ◌∙◌, ℕ, zero, suc, List, [], ◌∷◌, None, Option, ap, arith, inl, inr, map, refl, subst, sym}
+use Rattle.std.specs.Prelude.{if◌then◌else◌}
+use Rattle.basics.specs.Members.{Has}
+use Rattle.file_tree.specs.Disk.{Disk, Map}
+use Rattle.file_tree.specs.Paths.{is_below}
+use Rattle.file_tree.specs.Thing.{Thing}
+use Rattle.file_tree.specs.declared.objects.Entry.{Entry}
+use Rattle.journal.specs.Group.{AreStaged, Group, applied, with_group, with_groups}
+use Rattle.journal.proofs.Changes.{again}
+use Rattle.merge_record.specs.Names.{jobs}
+use Rattle.merge_record.specs.declared.record.OwnerKey.{OwnerKey}
+use Rattle.merge_site.specs.Staging.{placement_of}
+use Rattle.merge_site.specs.declared.group.SiteGroup.{SiteGroup}
+use Rattle.owner_book.specs.Book.{Book}
+use Rattle.database_law.specs.Packages.{Installed}
+use Rattle.database_law.specs.Step.{AreSteps, Change, groups_of}
+use Rattle.plan_law.specs.Plans as plans
+use Rattle.plan_law.specs.Plans.{IsRun, WaitsForEarlier, group_at}
+use Rattle.commit_law.specs.Commits as commits
+use Rattle.commit_law.specs.Commits.{CommitsLeaveSoundTrees, IsOf, IsSoundTree}
+use Rattle.group_run.specs.Applied.{AreOf, HasHistory, Recovers, number}
+use Rattle.group_run.specs.Granted.{IsAdmitted}
+use Rattle.group_run.specs.Working.{object_of}
+use Rattle.package_law.proofs.Runs.{none_told}
+use Rattle.change_law.specs.Changes.{Exchange, GrantedExchangesLeaveOwnedTrees, change_of, changes_of}
+use Rattle.change_law.specs.Packages.{all_of}
+use Rattle.change_law.specs.Planned.{HoldsAfter, IsPlannedExchange, OneGroupPlansLeaveSoundTrees, OneGroupPlansReadSoundly, OneGroupPlansRecoverSoundly, RecoversSoundly}
+
+-- ---- a group that comes again
+
+staged : (es : List Entry) → AreStaged (map placement_of es) (map object_of es)
+staged [] = tt
+staged (e ∷ es) = (record { object = e.object; there = refl; kind = refl; size = refl; digest = refl }, staged es)
+
+-- a group that comes again changes nothing
+many_as_one : (g : Group) (xs : List Group) (q : List ℕ) (y : Option Thing) → AreStaged g.content.placements g.objects → ((x : Group) → Has xs x → x ≡ g) → with_groups xs q (with_group g q y) ≡ with_group g q y
+many_as_one g [] q y staged all = refl
+many_as_one g (x ∷ xs) q y staged all =
+    ap (λ (h : Group). with_groups xs q (with_group h q (with_group g q y))) (all x (inl refl))
+    ∙ (ap (λ (z : Option Thing). with_groups xs q z) (again g q y staged) ∙ many_as_one g xs q y staged (λ z has. all z (inr has)))
+
+applied_once : (m : Map) (g x : Group) (xs : List Group) (q : List ℕ) → AreStaged g.content.placements g.objects → ((z : Group) → Has (x ∷ xs) z → z ≡ g) → applied m (x ∷ xs) q ≡ applied m (g ∷ []) q
+applied_once m g x xs q staged same =
+    subst (λ (h : Group). applied m (h ∷ xs) q ≡ applied m (g ∷ []) q) (sym (same x (inl refl)))
+    (ap (λ (z : Option Thing). if is_below jobs q then None else z) (many_as_one g xs q (m q) staged (λ z has. same z (inr has))))
+
+-- ---- a plan of one group
+
+change_alone : (g : plans.Group) (c : Change) → IsOf g c → commits.AreOf (g ∷ []) (λ i. c)
+change_alone g c is zero within = is
+change_alone g c is (suc i) within = absurd (omega (arith, within))
+
+run_alone : (g : plans.Group) → WaitsForEarlier (g ∷ []) → IsRun (g ∷ []) (0 ∷ [])
+run_alone g earlier = (omega arith, (λ has. has), (λ h has. let less = earlier 0 h has in absurd (omega (arith, less))), tt)
+
+module _ (leave : GrantedExchangesLeaveOwnedTrees) (commit : CommitsLeaveSoundTrees) (key : Installed → OwnerKey) (m : Map) (ps : List Installed) (book : Book) (groups : List SiteGroup) (n : ℕ) (g : plans.Group) (x : Exchange)
+    (is : IsPlannedExchange key m ps book groups n g x) where
+  abbrev Is : Group → Type 0
+  Is = IsAdmitted m book groups (changes_of x) n
+
+  abbrev c : Change
+  c = change_of n x
+
+  abbrev gs : List plans.Group
+  gs = g ∷ []
+
+  -- what stands behind a run of the plan
+  sound_by : (run : List ℕ) (qs : List Installed) → IsRun gs run → AreSteps (map (λ (i : ℕ). c) run) m ps qs → IsSoundTree (applied m (groups_of (map (λ (i : ℕ). c) run))) qs
+  sound_by run qs goes steps =
+      commit gs (λ i. c) m ps qs run is.planned.earlier is.planned.accepted (change_alone g c is.planned.is) is.tree.database is.tree.kept goes steps
+
+  some_came : (y : Group) (ys : List Group) → AreOf Is (y ∷ ys) → HoldsAfter ps x (IsSoundTree (applied m (y ∷ ys)))
+  some_came y ys of =
+      let left = (leave key m ps book groups n x is.tree is.exchange (of y (inl refl)).1).1 in
+      let qs = left.packages in
+      let sound = sound_by (0 ∷ []) qs (run_alone g is.planned.earlier) (left.comes.step, (qs, left.after, refl)) in (
+        qs,
+        left.after,
+        subst (λ (t : Map). IsSoundTree t qs) (λ i q. sym (applied_once m c.does y ys q (staged (all_of x.packages)) (λ z has. (of z has).0)) i) sound,
+      )
+
+  pub groups_leave : (xs : List Group) → AreOf (IsAdmitted m book groups (changes_of x) n) xs → ((xs ≡ []) × IsSoundTree (applied m xs) ps) ⊎ (¬ (xs ≡ []) × HoldsAfter ps x (IsSoundTree (applied m xs)))
+  groups_leave [] of = inl (refl, sound_by [] ps tt refl)
+  groups_leave (y ∷ ys) of = inr ((λ e. cc e), some_came y ys of)
+
+  pub crash_leaves : (history : List ℕ) (d : Map) → Recovers (IsAdmitted m book groups (changes_of x) n) m history d → ((history ≡ []) × RecoversSoundly d ps) ⊎ HoldsAfter ps x (RecoversSoundly d)
+  crash_leaves history d r = elim (groups_leave r.groups r.of) [
+    | inl before ↦ inl (none_told Is m history d r before.0, record { tree = applied m r.groups; recovers = r.is; sound = before.1 })
+    | inr (some, (qs, after, sound)) ↦ inr (qs, after, record { tree = applied m r.groups; recovers = r.is; sound = sound })
+  ]
+
+  none_numbered : (xs : List Group) → map number xs ≡ [] → xs ≡ []
+  none_numbered [] e = refl
+  none_numbered (y ∷ ys) e = absurd (cc e)
+
+  pub disk_reads : (history : List ℕ) (d : Disk) → HasHistory (IsAdmitted m book groups (changes_of x) n) m history d → ((history ≡ []) × IsSoundTree d.holds ps) ⊎ (¬ (history ≡ []) × HoldsAfter ps x (IsSoundTree d.holds))
+  disk_reads history d reads =
+      let same : applied m reads.groups ≡ d.holds = λ i q. sym (reads.reads q) i in
+      elim (groups_leave reads.groups reads.of) [
+        | inl before ↦ inl (sym reads.are ∙ ap (map number) before.0, subst (λ (t : Map). IsSoundTree t ps) same before.1)
+        | inr (some, (qs, after, sound)) ↦ inr (
+          (λ e. some (none_numbered reads.groups (reads.are ∙ e))),
+          (qs, after, subst (λ (t : Map). IsSoundTree t qs) same sound),
+        )
+      ]
+
+pub groups_leave_sound : GrantedExchangesLeaveOwnedTrees → CommitsLeaveSoundTrees → OneGroupPlansLeaveSoundTrees
+groups_leave_sound leave commit key m ps book groups n g x xs is of = groups_leave leave commit key m ps book groups n g x is xs of
+
+pub crashes_recover_soundly : GrantedExchangesLeaveOwnedTrees → CommitsLeaveSoundTrees → OneGroupPlansRecoverSoundly
+crashes_recover_soundly leave commit key m ps book groups n g x history c is r = crash_leaves leave commit key m ps book groups n g x is history c r
+
+pub disks_read_soundly : GrantedExchangesLeaveOwnedTrees → CommitsLeaveSoundTrees → OneGroupPlansReadSoundly
+disks_read_soundly leave commit key m ps book groups n g x history d is reads = disk_reads leave commit key m ps book groups n g x is history d reads

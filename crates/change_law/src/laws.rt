@@ -1,0 +1,27 @@
+ghost use Rattle.change_law.specs.Changes.{GrantedExchangesLeaveOwnedTrees};
+ghost use Rattle.change_law.specs.Planned.{OneGroupPlansLeaveSoundTrees};
+ghost use Rattle.change_law.specs.Planned.{OneGroupPlansReadSoundly, OneGroupPlansRecoverSoundly};
+
+/// A law: a group that was granted, and that brings packages and takes others away, leaves a kept
+/// tree with the packages after it, which are the owners once its claim is settled.
+pub fn granted_exchanges_leave_owned_trees()
+    ensures { GrantedExchangesLeaveOwnedTrees }
+{
+    claim_law::granted_claims_are_good();
+    claim_law::settled_owners_are();
+    database_law::groups_keep_the_database();
+    version_text::one_name_and_version();
+    version_text::one_spelling();
+}
+
+/// A law: where it is the one group of an accepted plan, it leaves a sound tree, whatever a crash
+/// leaves of its run recovers to one, and a disk that reads as the opening with its history holds
+/// one.
+pub fn one_group_plans_leave_sound_trees()
+    ensures groups { OneGroupPlansLeaveSoundTrees }
+    ensures crashes { OneGroupPlansRecoverSoundly }
+    ensures reads { OneGroupPlansReadSoundly }
+{
+    granted_exchanges_leave_owned_trees();
+    commit_law::commits_leave_sound_trees();
+}
