@@ -42,7 +42,7 @@ use Rattle.group_run.specs.Working.{all_in, changing}
 use Rattle.group_run.specs.declared.files.Files.{Files}
 use Rattle.package_law.specs.Packages.{AreFilesOf, held_by}
 use Rattle.package_law.proofs.Places.{distinct_back, held_at, held_none, placed_paths, put_at, put_by}
-use Rattle.change_law.specs.Changes.{Exchange, GrantedExchangesLeaveOwnedTrees, IsExchange, IsOwnedTree, LeavesOwnedTree, change_of, changes_of}
+use Rattle.change_law.specs.Changes.{Exchange, GrantedExchangesAreTold, GrantedExchangesLeaveOwnedTrees, IsExchange, IsOwnedTree, LeavesOwnedTree, change_by, changes_by}
 use Rattle.change_law.specs.Packages.{IsRemovalOf, all_of, changes_in_all, wishes_of}
 use Rattle.change_law.proofs.Pieces.{both_zip, distinct_piece, has-piece, has-piece_back, left, one_piece, pairs_of, right}
 use Rattle.change_law.proofs.Together.{all_wished, each_wish, held_has, image_wish, own_wish, paths_by_piece, paths_in, reserved_outside}
@@ -54,7 +54,7 @@ pub record IsBrought (key : Installed → OwnerKey) (z : Files × Installed) : T
 
 module _ (comes : ComesApart) (spells : OneSpelling) (key : Installed → OwnerKey) (m : Map) (ps : List Installed) (book : Book) (groups : List SiteGroup) (n : ℕ)
     (zs : List (Files × Installed)) (gone : Installed → Bool) (removals : List (List ℕ))
-    (owners : OwnersAre key m ps (owner_in book.owned)) (brought : (z : Files × Installed) → Has zs z → IsBrought key z)
+    (brought : (z : Files × Installed) → Has zs z → IsBrought key z)
     (apart : AreDistinct (map key (map right zs))) (is_removal : IsRemovalOf m ps gone (map left zs) removals)
     (dies : (p : Installed) → Has ps p → is_dying (dying_at groups n) (key p) ≡ gone p)
     (may : MayChange m book groups (changes_in_all removals (map left zs)) n) where
@@ -259,20 +259,20 @@ owners_by key m ps own its same are = record {
 }
 
 module _ (comes : ComesApart) (spells : OneSpelling) (key : Installed → OwnerKey) (m : Map) (ps : List Installed) (book : Book) (groups : List SiteGroup) (n : ℕ) (x : Exchange)
-    (tree : IsOwnedTree key m ps (owner_in book.owned)) (is : IsExchange key m ps (is_dying (dying_at groups n)) x) (may : MayChange m book groups (changes_of x) n) where
+    (is : IsExchange key m ps (is_dying (dying_at groups n)) x) (may : MayChange m book groups (changes_by x) n) where
   abbrev change : Change
-  change = change_of n x
+  change = change_by n x
 
   abbrev dying : OwnerKey → Bool
   dying = is_dying (dying_at groups n)
 
-  all_told : Tells key m ps change dying (wishes_of x.packages)
+  pub all_told : Tells key m ps (change_by n x) (is_dying (dying_at groups n)) (wishes_of x.packages)
   all_told =
       let k = pairs_of (λ f a. AreFilesOf f a × (key a ≡ f.owner)) x.packages x.added (both_zip AreFilesOf (λ f a. key a ≡ f.owner) x.packages x.added is.files is.keys) in
       let zs = k.pairs in
       subst (λ (fs : List Files). Tells key m ps (record { gone = x.gone; added = x.added; does = changing n (changes_in_all x.removals fs) }) dying (wishes_of fs)) k.lefts
       (subst (λ (l : List Installed). Tells key m ps (record { gone = x.gone; added = l; does = changing n (changes_in_all x.removals (map left zs)) }) dying (wishes_of (map left zs))) k.rights
-      (tells comes spells key m ps book groups n zs x.gone x.removals tree.owners
+      (tells comes spells key m ps book groups n zs x.gone x.removals
       (λ z has. record { files = (k.each z has).0; mine = (k.each z has).1 })
       (subst (λ (l : List Installed). AreDistinct (map key l)) (sym k.rights) is.apart)
       (subst (λ (fs : List Files). IsRemovalOf m ps x.gone fs x.removals) (sym k.lefts) is.removes)
@@ -282,8 +282,8 @@ module _ (comes : ComesApart) (spells : OneSpelling) (key : Installed → OwnerK
   taken : IsTaken may.book dying change (wishes_of x.packages)
   taken = record { removable = may.granted.taken.removable; free = may.granted.taken.free }
 
-  module _ (good : GrantedClaimsAreGood) (settles : SettledOwnersAre) (keeps : GroupKeepsDatabase) (some : SomeAfter) where
-    leaves : LeavesOwnedTree key m ps (owner_in book.owned) change (wishes_of x.packages)
+  module _ (good : GrantedClaimsAreGood) (settles : SettledOwnersAre) (keeps : GroupKeepsDatabase) (some : SomeAfter) (tree : IsOwnedTree key m ps (owner_in book.owned)) where
+    pub leaves : LeavesOwnedTree key m ps (owner_in book.owned) (change_by n x) (wishes_of x.packages)
     leaves =
         let ws = wishes_of x.packages in
         let there = owners_by key m ps (owner_in book.owned) (owner_in may.book.owned) may.unclaimed.owners tree.owners in
@@ -301,9 +301,9 @@ module _ (comes : ComesApart) (spells : OneSpelling) (key : Installed → OwnerK
           };
         }
 
-    pub both : Tells key m ps (change_of n x) (is_dying (dying_at groups n)) (wishes_of x.packages) × LeavesOwnedTree key m ps (owner_in book.owned) (change_of n x) (wishes_of x.packages)
-    both = (all_told, leaves)
+pub are_told : ComesApart → OneSpelling → GrantedExchangesAreTold
+are_told comes spells key m ps book groups n x is may = all_told comes spells key m ps book groups n x is may
 
 pub leave_owned_trees : GrantedClaimsAreGood → SettledOwnersAre → GroupKeepsDatabase → SomeAfter → ComesApart → OneSpelling → GrantedExchangesLeaveOwnedTrees
 leave_owned_trees good settles keeps some comes spells key m ps book groups n x tree is may =
-    both comes spells key m ps book groups n x tree is may good settles keeps some
+    leaves comes spells key m ps book groups n x is may good settles keeps some tree

@@ -23,9 +23,9 @@ use Rattle.group_run.specs.Applied.{AreOf, HasHistory, Recovers, number}
 use Rattle.group_run.specs.Granted.{IsAdmitted}
 use Rattle.group_run.specs.Working.{object_of}
 use Rattle.package_law.proofs.Runs.{none_told}
-use Rattle.change_law.specs.Changes.{Exchange, GrantedExchangesLeaveOwnedTrees, change_of, changes_of}
+use Rattle.change_law.specs.Changes.{Exchange, GrantedExchangesLeaveOwnedTrees, change_by, changes_by}
 use Rattle.change_law.specs.Packages.{all_of}
-use Rattle.change_law.specs.Planned.{HoldsAfter, IsPlannedExchange, OneGroupPlansLeaveSoundTrees, OneGroupPlansReadSoundly, OneGroupPlansRecoverSoundly, RecoversSoundly}
+use Rattle.change_law.specs.Planned.{HoldsExchanged, IsPlannedExchange, OneGroupPlansLeaveSoundTrees, OneGroupPlansReadSoundly, OneGroupPlansRecoverSoundly, RecoversSoundly}
 
 -- ---- a group that comes again
 
@@ -57,10 +57,10 @@ run_alone g earlier = (omega arith, (λ has. has), (λ h has. let less = earlier
 module _ (leave : GrantedExchangesLeaveOwnedTrees) (commit : CommitsLeaveSoundTrees) (key : Installed → OwnerKey) (m : Map) (ps : List Installed) (book : Book) (groups : List SiteGroup) (n : ℕ) (g : plans.Group) (x : Exchange)
     (is : IsPlannedExchange key m ps book groups n g x) where
   abbrev Is : Group → Type 0
-  Is = IsAdmitted m book groups (changes_of x) n
+  Is = IsAdmitted m book groups (changes_by x) n
 
   abbrev c : Change
-  c = change_of n x
+  c = change_by n x
 
   abbrev gs : List plans.Group
   gs = g ∷ []
@@ -70,9 +70,9 @@ module _ (leave : GrantedExchangesLeaveOwnedTrees) (commit : CommitsLeaveSoundTr
   sound_by run qs goes steps =
       commit gs (λ i. c) m ps qs run is.planned.earlier is.planned.accepted (change_alone g c is.planned.is) is.tree.database is.tree.kept goes steps
 
-  some_came : (y : Group) (ys : List Group) → AreOf Is (y ∷ ys) → HoldsAfter ps x (IsSoundTree (applied m (y ∷ ys)))
+  some_came : (y : Group) (ys : List Group) → AreOf Is (y ∷ ys) → HoldsExchanged ps x (IsSoundTree (applied m (y ∷ ys)))
   some_came y ys of =
-      let left = (leave key m ps book groups n x is.tree is.exchange (of y (inl refl)).1).1 in
+      let left = leave key m ps book groups n x is.tree is.exchange (of y (inl refl)).1 in
       let qs = left.packages in
       let sound = sound_by (0 ∷ []) qs (run_alone g is.planned.earlier) (left.comes.step, (qs, left.after, refl)) in (
         qs,
@@ -80,11 +80,11 @@ module _ (leave : GrantedExchangesLeaveOwnedTrees) (commit : CommitsLeaveSoundTr
         subst (λ (t : Map). IsSoundTree t qs) (λ i q. sym (applied_once m c.does y ys q (staged (all_of x.packages)) (λ z has. (of z has).0)) i) sound,
       )
 
-  pub groups_leave : (xs : List Group) → AreOf (IsAdmitted m book groups (changes_of x) n) xs → ((xs ≡ []) × IsSoundTree (applied m xs) ps) ⊎ (¬ (xs ≡ []) × HoldsAfter ps x (IsSoundTree (applied m xs)))
+  pub groups_leave : (xs : List Group) → AreOf (IsAdmitted m book groups (changes_by x) n) xs → ((xs ≡ []) × IsSoundTree (applied m xs) ps) ⊎ (¬ (xs ≡ []) × HoldsExchanged ps x (IsSoundTree (applied m xs)))
   groups_leave [] of = inl (refl, sound_by [] ps tt refl)
   groups_leave (y ∷ ys) of = inr ((λ e. cc e), some_came y ys of)
 
-  pub crash_leaves : (history : List ℕ) (d : Map) → Recovers (IsAdmitted m book groups (changes_of x) n) m history d → ((history ≡ []) × RecoversSoundly d ps) ⊎ HoldsAfter ps x (RecoversSoundly d)
+  pub crash_leaves : (history : List ℕ) (d : Map) → Recovers (IsAdmitted m book groups (changes_by x) n) m history d → ((history ≡ []) × RecoversSoundly d ps) ⊎ HoldsExchanged ps x (RecoversSoundly d)
   crash_leaves history d r = elim (groups_leave r.groups r.of) [
     | inl before ↦ inl (none_told Is m history d r before.0, record { tree = applied m r.groups; recovers = r.is; sound = before.1 })
     | inr (some, (qs, after, sound)) ↦ inr (qs, after, record { tree = applied m r.groups; recovers = r.is; sound = sound })
@@ -94,7 +94,7 @@ module _ (leave : GrantedExchangesLeaveOwnedTrees) (commit : CommitsLeaveSoundTr
   none_numbered [] e = refl
   none_numbered (y ∷ ys) e = absurd (cc e)
 
-  pub disk_reads : (history : List ℕ) (d : Disk) → HasHistory (IsAdmitted m book groups (changes_of x) n) m history d → ((history ≡ []) × IsSoundTree d.holds ps) ⊎ (¬ (history ≡ []) × HoldsAfter ps x (IsSoundTree d.holds))
+  pub disk_reads : (history : List ℕ) (d : Disk) → HasHistory (IsAdmitted m book groups (changes_by x) n) m history d → ((history ≡ []) × IsSoundTree d.holds ps) ⊎ (¬ (history ≡ []) × HoldsExchanged ps x (IsSoundTree d.holds))
   disk_reads history d reads =
       let same : applied m reads.groups ≡ d.holds = λ i q. sym (reads.reads q) i in
       elim (groups_leave reads.groups reads.of) [

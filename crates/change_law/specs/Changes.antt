@@ -28,12 +28,12 @@ pub record Exchange : Type 0 where
   pub removals : List (List ℕ)
 
 -- what a group with this exchange changes
-abbrev pub changes_of : Exchange → Changes
-changes_of x = changes_in_all x.removals x.packages
+abbrev pub changes_by : Exchange → Changes
+changes_by x = changes_in_all x.removals x.packages
 
 -- the change that the group with this number and this exchange makes
-abbrev pub change_of : ℕ → Exchange → Change
-change_of n x = record { gone = x.gone; added = x.added; does = changing n (changes_of x) }
+abbrev pub change_by : ℕ → Exchange → Change
+change_by n x = record { gone = x.gone; added = x.added; does = changing n (changes_by x) }
 
 -- the files are those of the packages that come, under their keys, which differ; the removed paths
 -- are those that the packages that go own and none that comes places; those that go have the dying
@@ -62,14 +62,21 @@ pub record LeavesOwnedTree (key : Installed → OwnerKey) (m : Map) (ps : List I
   pub after : IsAfter ps c.gone c.added packages
   pub tree : IsOwnedTree key (applied m (c.does ∷ [])) packages (owner_after c ws own)
 
--- Over a kept tree whose packages are the book's owners: a group with an exchange, whose claim is
--- granted, wishes, removes and puts what its change says, and leaves such a tree again.
+-- A group with an exchange, whose claim is granted, wishes, removes and puts what its change says.
+abbrev pub GrantedExchangesAreTold : Type 0
+GrantedExchangesAreTold =
+    (key : Installed → OwnerKey) (m : Map) (ps : List Installed) (book : Book)
+    (groups : List SiteGroup) (n : ℕ) (x : Exchange) →
+    IsExchange key m ps (is_dying (dying_at groups n)) x →
+    MayChange m book groups (changes_by x) n →
+    Tells key m ps (change_by n x) (is_dying (dying_at groups n)) (wishes_of x.packages)
+
+-- Over a kept tree whose packages are the book's owners it leaves such a tree again.
 abbrev pub GrantedExchangesLeaveOwnedTrees : Type 0
 GrantedExchangesLeaveOwnedTrees =
     (key : Installed → OwnerKey) (m : Map) (ps : List Installed) (book : Book)
     (groups : List SiteGroup) (n : ℕ) (x : Exchange) →
     IsOwnedTree key m ps (owner_in book.owned) →
     IsExchange key m ps (is_dying (dying_at groups n)) x →
-    MayChange m book groups (changes_of x) n →
-    Tells key m ps (change_of n x) (is_dying (dying_at groups n)) (wishes_of x.packages)
-    × LeavesOwnedTree key m ps (owner_in book.owned) (change_of n x) (wishes_of x.packages)
+    MayChange m book groups (changes_by x) n →
+    LeavesOwnedTree key m ps (owner_in book.owned) (change_by n x) (wishes_of x.packages)

@@ -16,7 +16,7 @@ use Rattle.plan_law.specs.Plans.{WaitsForEarlier}
 use Rattle.commit_law.specs.Commits.{IsOf, IsSoundTree, packages_of}
 use Rattle.group_run.specs.Applied.{AreOf, HasHistory, Recovers}
 use Rattle.group_run.specs.Granted.{IsAdmitted}
-use Rattle.change_law.specs.Changes.{Exchange, IsExchange, IsOwnedTree, change_of, changes_of}
+use Rattle.change_law.specs.Changes.{Exchange, IsExchange, IsOwnedTree, change_by, changes_by}
 
 -- a plan of this one group is accepted over the packages, and the change is what the group says
 pub record IsPlannedAlone (g : plans.Group) (ps : List Installed) (c : Change) : Type 0 where
@@ -30,11 +30,11 @@ pub record IsPlannedExchange (key : Installed → OwnerKey) (m : Map) (ps : List
     Type 0 where
   pub tree : IsOwnedTree key m ps (owner_in book.owned)
   pub exchange : IsExchange key m ps (is_dying (dying_at groups n)) x
-  pub planned : IsPlannedAlone g ps (change_of n x)
+  pub planned : IsPlannedAlone g ps (change_by n x)
 
 -- something holds of the packages that these are after the exchange
-abbrev pub HoldsAfter : List Installed → Exchange → (List Installed → Type 0) → Type 0
-HoldsAfter ps x P = (qs : List Installed) × IsAfter ps x.gone x.added qs × P qs
+abbrev pub HoldsExchanged : List Installed → Exchange → (List Installed → Type 0) → Type 0
+HoldsExchanged ps x P = (qs : List Installed) × IsAfter ps x.gone x.added qs × P qs
 
 -- Whatever groups with this exchange are let in leave a sound tree: with the packages from before
 -- where there is none, or else with those after the exchange.
@@ -43,9 +43,9 @@ OneGroupPlansLeaveSoundTrees =
     (key : Installed → OwnerKey) (m : Map) (ps : List Installed) (book : Book)
     (groups : List SiteGroup) (n : ℕ) (g : plans.Group) (x : Exchange) (xs : List Group) →
     IsPlannedExchange key m ps book groups n g x →
-    AreOf (IsAdmitted m book groups (changes_of x) n) xs →
+    AreOf (IsAdmitted m book groups (changes_by x) n) xs →
     ((xs ≡ []) × IsSoundTree (applied m xs) ps)
-    ⊎ (¬ (xs ≡ []) × HoldsAfter ps x (IsSoundTree (applied m xs)))
+    ⊎ (¬ (xs ≡ []) × HoldsExchanged ps x (IsSoundTree (applied m xs)))
 
 -- a map recovers to a sound tree with these packages
 pub record RecoversSoundly (c : Map) (ps : List Installed) : Type 0 where
@@ -61,8 +61,8 @@ OneGroupPlansRecoverSoundly =
     (groups : List SiteGroup) (n : ℕ) (g : plans.Group) (x : Exchange) (history : List ℕ)
     (c : Map) →
     IsPlannedExchange key m ps book groups n g x →
-    Recovers (IsAdmitted m book groups (changes_of x) n) m history c →
-    ((history ≡ []) × RecoversSoundly c ps) ⊎ HoldsAfter ps x (RecoversSoundly c)
+    Recovers (IsAdmitted m book groups (changes_by x) n) m history c →
+    ((history ≡ []) × RecoversSoundly c ps) ⊎ HoldsExchanged ps x (RecoversSoundly c)
 
 -- Where such a run leaves a disk that reads as the opening with its history, with nothing unsynced,
 -- the disk holds a sound tree: with the packages from before where the history has no group, and
@@ -73,6 +73,6 @@ OneGroupPlansReadSoundly =
     (groups : List SiteGroup) (n : ℕ) (g : plans.Group) (x : Exchange) (history : List ℕ)
     (d : Disk) →
     IsPlannedExchange key m ps book groups n g x →
-    HasHistory (IsAdmitted m book groups (changes_of x) n) m history d →
+    HasHistory (IsAdmitted m book groups (changes_by x) n) m history d →
     ((history ≡ []) × IsSoundTree d.holds ps)
-    ⊎ (¬ (history ≡ []) × HoldsAfter ps x (IsSoundTree d.holds))
+    ⊎ (¬ (history ≡ []) × HoldsExchanged ps x (IsSoundTree d.holds))
