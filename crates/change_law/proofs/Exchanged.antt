@@ -37,13 +37,13 @@ use Rattle.claim_law.specs.Granted.{GrantedClaimsAreGood, IsTaken}
 use Rattle.claim_law.specs.Owners.{OwnersAre, Tells, Wishes}
 use Rattle.claim_law.specs.Settled.{SettledOwnersAre}
 use Rattle.claim_law.proofs.Granted.{free_wish}
-use Rattle.group_run.specs.Granted.{MayChange, wishes_in}
-use Rattle.group_run.specs.Working.{all_in, changing}
+use Rattle.group_run.specs.Granted.{MayChange, changes_in, wishes_in, wishes_of}
+use Rattle.group_run.specs.Working.{all_in, all_of, changing}
 use Rattle.group_run.specs.declared.files.Files.{Files}
 use Rattle.package_law.specs.Packages.{AreFilesOf, held_by}
 use Rattle.package_law.proofs.Places.{distinct_back, held_at, held_none, placed_paths, put_at, put_by}
 use Rattle.change_law.specs.Changes.{Exchange, GrantedExchangesAreTold, GrantedExchangesLeaveOwnedTrees, IsExchange, IsOwnedTree, LeavesOwnedTree, change_by, changes_by}
-use Rattle.change_law.specs.Packages.{IsRemovalOf, all_of, changes_in_all, wishes_of}
+use Rattle.change_law.specs.Packages.{IsRemovalOf}
 use Rattle.change_law.proofs.Pieces.{both_zip, distinct_piece, has-piece, has-piece_back, left, one_piece, pairs_of, right}
 use Rattle.change_law.proofs.Together.{all_wished, each_wish, held_has, image_wish, own_wish, paths_by_piece, paths_in, reserved_outside}
 
@@ -57,7 +57,7 @@ module _ (comes : ComesApart) (spells : OneSpelling) (key : Installed → OwnerK
     (brought : (z : Files × Installed) → Has zs z → IsBrought key z)
     (apart : AreDistinct (map key (map right zs))) (is_removal : IsRemovalOf m ps gone (map left zs) removals)
     (dies : (p : Installed) → Has ps p → is_dying (dying_at groups n) (key p) ≡ gone p)
-    (may : MayChange m book groups (changes_in_all removals (map left zs)) n) where
+    (may : MayChange m book groups (changes_in removals (map left zs)) n) where
   abbrev packages : List Files
   packages = map left zs
 
@@ -71,7 +71,7 @@ module _ (comes : ComesApart) (spells : OneSpelling) (key : Installed → OwnerK
   ws = wishes_of packages
 
   abbrev g : Group
-  g = changing n (changes_in_all removals packages)
+  g = changing n (changes_in removals packages)
 
   abbrev c : Change
   c = record { gone = gone; added = added; does = g }
@@ -246,7 +246,7 @@ module _ (comes : ComesApart) (spells : OneSpelling) (key : Installed → OwnerK
     keys = apart;
   }
 
-  pub tells : Tells key m ps (record { gone = gone; added = map right zs; does = changing n (changes_in_all removals (map left zs)) }) (is_dying (dying_at groups n)) (wishes_of (map left zs))
+  pub tells : Tells key m ps (record { gone = gone; added = map right zs; does = changing n (changes_in removals (map left zs)) }) (is_dying (dying_at groups n)) (wishes_of (map left zs))
   tells = record { wishes = wishes; removes = removes; puts = puts; dies = dies }
 
 -- ---- with the premises of the law
@@ -270,14 +270,14 @@ module _ (comes : ComesApart) (spells : OneSpelling) (key : Installed → OwnerK
   all_told =
       let k = pairs_of (λ f a. AreFilesOf f a × (key a ≡ f.owner)) x.packages x.added (both_zip AreFilesOf (λ f a. key a ≡ f.owner) x.packages x.added is.files is.keys) in
       let zs = k.pairs in
-      subst (λ (fs : List Files). Tells key m ps (record { gone = x.gone; added = x.added; does = changing n (changes_in_all x.removals fs) }) dying (wishes_of fs)) k.lefts
-      (subst (λ (l : List Installed). Tells key m ps (record { gone = x.gone; added = l; does = changing n (changes_in_all x.removals (map left zs)) }) dying (wishes_of (map left zs))) k.rights
+      subst (λ (fs : List Files). Tells key m ps (record { gone = x.gone; added = x.added; does = changing n (changes_in x.removals fs) }) dying (wishes_of fs)) k.lefts
+      (subst (λ (l : List Installed). Tells key m ps (record { gone = x.gone; added = l; does = changing n (changes_in x.removals (map left zs)) }) dying (wishes_of (map left zs))) k.rights
       (tells comes spells key m ps book groups n zs x.gone x.removals
       (λ z has. record { files = (k.each z has).0; mine = (k.each z has).1 })
       (subst (λ (l : List Installed). AreDistinct (map key l)) (sym k.rights) is.apart)
       (subst (λ (fs : List Files). IsRemovalOf m ps x.gone fs x.removals) (sym k.lefts) is.removes)
       is.dies
-      (subst (λ (fs : List Files). MayChange m book groups (changes_in_all x.removals fs) n) (sym k.lefts) may)))
+      (subst (λ (fs : List Files). MayChange m book groups (changes_in x.removals fs) n) (sym k.lefts) may)))
 
   taken : IsTaken may.book dying change (wishes_of x.packages)
   taken = record { removable = may.granted.taken.removable; free = may.granted.taken.free }

@@ -21,10 +21,9 @@ use Rattle.commit_law.specs.Commits as commits
 use Rattle.commit_law.specs.Commits.{CommitsLeaveSoundTrees, IsOf, IsSoundTree}
 use Rattle.group_run.specs.Applied.{AreOf, HasHistory, Recovers, number}
 use Rattle.group_run.specs.Granted.{IsAdmitted}
-use Rattle.group_run.specs.Working.{object_of}
+use Rattle.group_run.specs.Working.{all_of, object_of}
 use Rattle.package_law.proofs.Runs.{none_told}
 use Rattle.change_law.specs.Changes.{Exchange, GrantedExchangesLeaveOwnedTrees, change_by, changes_by}
-use Rattle.change_law.specs.Packages.{all_of}
 use Rattle.change_law.specs.Planned.{HoldsExchanged, IsPlannedExchange, OneGroupPlansLeaveSoundTrees, OneGroupPlansReadSoundly, OneGroupPlansRecoverSoundly, RecoversSoundly}
 
 -- ---- a group that comes again

@@ -19,12 +19,11 @@ use Rattle.vdb_text.specs.Files.{database_path}
 use Rattle.database_law.specs.Database.{IsOf}
 use Rattle.database_law.specs.Packages.{Installed, id_of, paths}
 use Rattle.claim_law.specs.Owners.{IsWishOf}
-use Rattle.group_run.specs.Granted.{wishes_for, wishes_in}
-use Rattle.group_run.specs.Working.{all_in}
+use Rattle.group_run.specs.Granted.{wishes_for, wishes_in, wishes_of}
+use Rattle.group_run.specs.Working.{all_in, all_of}
 use Rattle.group_run.specs.declared.files.Files.{Files}
 use Rattle.package_law.specs.Packages.{AreFilesOf, held_by}
 use Rattle.package_law.proofs.Places.{held_none, wished_paths}
-use Rattle.change_law.specs.Packages.{all_of, wishes_of}
 use Rattle.change_law.proofs.Pieces.{left}
 
 -- a path that an image may have is not below the database

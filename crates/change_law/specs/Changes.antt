@@ -15,10 +15,10 @@ use Rattle.database_law.specs.Step.{Change, IsAfter}
 use Rattle.commit_law.specs.Claims.{MayCome}
 use Rattle.claim_law.specs.Owners.{OwnersAre, Tells}
 use Rattle.claim_law.specs.Settled.{owner_after}
-use Rattle.group_run.specs.Granted.{MayChange}
+use Rattle.group_run.specs.Granted.{MayChange, changes_in, wishes_of}
 use Rattle.group_run.specs.Working.{Changes, changing}
 use Rattle.group_run.specs.declared.files.Files.{Files}
-use Rattle.change_law.specs.Packages.{AreFilesOfEach, AreKeysOfEach, IsRemovalOf, changes_in_all, wishes_of}
+use Rattle.change_law.specs.Packages.{AreFilesOfEach, AreKeysOfEach, IsRemovalOf}
 
 -- which packages go and which come, the files of each that comes, and the paths that are removed
 pub record Exchange : Type 0 where
@@ -29,7 +29,7 @@ pub record Exchange : Type 0 where
 
 -- what a group with this exchange changes
 abbrev pub changes_by : Exchange → Changes
-changes_by x = changes_in_all x.removals x.packages
+changes_by x = changes_in x.removals x.packages
 
 -- the change that the group with this number and this exchange makes
 abbrev pub change_by : ℕ → Exchange → Change

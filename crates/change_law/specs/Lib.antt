@@ -1,3 +1,4 @@
 pub mod Changes
 pub mod Packages
 pub mod Planned
+pub mod Turns

@@ -2,6 +2,7 @@ ghost use Rattle.change_law.specs.Changes.{GrantedExchangesAreTold};
 ghost use Rattle.change_law.specs.Changes.{GrantedExchangesLeaveOwnedTrees};
 ghost use Rattle.change_law.specs.Planned.{OneGroupPlansLeaveSoundTrees};
 ghost use Rattle.change_law.specs.Planned.{OneGroupPlansReadSoundly, OneGroupPlansRecoverSoundly};
+ghost use Rattle.change_law.specs.Turns.{ExchangedTurnsAreTold};
 
 /// A law: a group that was granted, and that brings packages and takes others away, does what its
 /// change says; it leaves a kept tree with the packages after it, which are the owners once its
@@ -27,4 +28,12 @@ pub fn one_group_plans_leave_sound_trees()
 {
     granted_exchanges_leave_owned_trees();
     commit_law::commits_leave_sound_trees();
+}
+
+/// A law: turns of a run that are such exchanges, each over what those before it left, tell what
+/// they do where they are let in, as the law of the turns of a plan asks.
+pub fn exchanged_turns_are_told()
+    ensures { ExchangedTurnsAreTold }
+{
+    granted_exchanges_leave_owned_trees();
 }

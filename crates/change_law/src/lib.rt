@@ -9,9 +9,13 @@
 //! does what its change says, and leaves a kept tree with the packages after it, which are the
 //! owners then. Where it is the one group of a plan that is accepted over the tree's packages, the
 //! tree is sound: its packages go together, too. So does whatever a crash leaves of its run recover
-//! to a sound tree, with the packages from before or those after it.
+//! to a sound tree, with the packages from before or those after it. Turns of a run that are such
+//! groups meet what `turn_law` asks of the turns of a plan.
 #![tactic(auto)]
 
 mod laws;
 
-pub use laws::{granted_exchanges_leave_owned_trees, one_group_plans_leave_sound_trees};
+pub use laws::{
+    exchanged_turns_are_told, granted_exchanges_leave_owned_trees,
+    one_group_plans_leave_sound_trees,
+};

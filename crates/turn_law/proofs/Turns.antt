@@ -39,10 +39,11 @@ first_run : (plan : List plans.Group) (done : List ℕ) (first rest : List Turn)
 first_run plan done [] rest all = tt
 first_run plan done (t ∷ ts) rest (there, new, waited, later) = (there, new, waited, first_run plan (t.group ∷ done) ts rest later)
 
-first_told : (key : Installed → OwnerKey) (change : ℕ → Change) (groups : List SiteGroup) (m : Map) (ps : List Installed) (first rest : List Turn) → AreTold key change groups m ps (first ++ rest) → AreTold key change groups m ps first
-first_told key change groups m ps [] rest all = tt
-first_told key change groups m ps (t ∷ ts) rest (tells, later) =
-    (tells, λ qs is. first_told key change groups (applied m ((change t.group).does ∷ [])) qs ts rest (later qs is))
+first_told : (key : Installed → OwnerKey) (change : ℕ → Change) (groups : List SiteGroup) (m : Map) (b : Book) (ps : List Installed) (first rest : List Turn) → AreTold key change groups m b ps (first ++ rest) → AreTold key change groups m b ps first
+first_told key change groups m b ps [] rest all = tt
+first_told key change groups m b ps (t ∷ ts) rest told = λ may.
+    let k = told may in
+    (k.0, λ qs is. first_told key change groups (applied m ((change t.group).does ∷ [])) (settled (changes_of t) b) qs ts rest (k.1 qs is))
 
 -- ---- the groups of turns, by their changes
 
@@ -56,10 +57,12 @@ module _ (claims : GrantedClaimsAreGood) (settles : SettledOwnersAre) (keeps : G
   -- the changes of turns that were let in are steps
   are_steps : (key : Installed → OwnerKey) (change : ℕ → Change) (groups : List SiteGroup) (m : Map) (ps : List Installed) (b : Book) (turns : List Turn)
       → IsDatabase m ps → IsKept m ps → OwnersAre key m ps (owner_in b.owned) → ((t : Turn) → Has turns t → (change t.group).does ≡ group_for t)
-      → AreTold key change groups m ps turns → AreLetIn m b groups turns
+      → AreTold key change groups m b ps turns → AreLetIn m b groups turns
       → (qs : List Installed) × AreSteps (map change (numbers turns)) m ps qs
   are_steps key change groups m ps b [] database kept are does told let_in = (ps, refl)
-  are_steps key change groups m ps b (t ∷ ts) database kept are does (tells, later) (may, more) =
+  are_steps key change groups m ps b (t ∷ ts) database kept are does told (may, more) =
+      let tells = (told may).0 in
+      let later = (told may).1 in
       let c : Change = change t.group in
       let is : c.does ≡ group_for t = does t (inl refl) in
       let ws = (changes_of t).wishes in
@@ -86,7 +89,7 @@ module _ (claims : GrantedClaimsAreGood) (settles : SettledOwnersAre) (keeps : G
         λ t has. all.does t (subst (λ (l : List Turn). Has l t) (sym are.split) (has-append_left first are.rest t has)) in
         let run : plans.IsRun plan (numbers first) =
         first_run plan [] first are.rest (subst (λ (l : List Turn). plans.IsRun plan (numbers l)) are.split all.run) in
-        let told = first_told key change groups m ps first are.rest (subst (AreTold key change groups m ps) are.split all.told) in
+        let told = first_told key change groups m b ps first are.rest (subst (AreTold key change groups m b ps) are.split all.told) in
         let planned = all.planned in
         let steps = are_steps key change groups m ps b first planned.database planned.kept all.owners does told are.let_in in
         let sound = commits plan change m ps steps.0 (numbers first) planned.earlier planned.accepted planned.changes planned.database planned.kept run steps.1 in

@@ -10,7 +10,8 @@ use Rattle.owner_book.specs.Rules.{is_dying}
 use Rattle.merge_site.specs.Booking.{dying_at}
 use Rattle.merge_site.specs.declared.group.SiteGroup.{SiteGroup}
 use Rattle.group_run.specs.Applied.{ReadsWith, RecoversWith, number}
-use Rattle.group_run.specs.Turns.{AreFirst, changes_of, group_for, numbers}
+use Rattle.group_run.specs.Granted.{MayChange}
+use Rattle.group_run.specs.Turns.{AreFirst, changes_of, group_for, numbers, settled}
 use Rattle.group_run.specs.declared.turn.Turn.{Turn}
 use Rattle.database_law.specs.Packages.{Installed}
 use Rattle.database_law.specs.Step.{AreSteps, Change, IsAfter}
@@ -19,15 +20,17 @@ use Rattle.commit_law.specs.Commits.{IsSoundTree}
 use Rattle.commit_law.specs.Crashes.{IsPlanned}
 use Rattle.claim_law.specs.Owners.{OwnersAre, Tells}
 
--- each turn wishes and removes what its change says, over the map and the packages that those
--- before it left
-abbrev pub AreTold : (Installed → OwnerKey) → (ℕ → Change) → List SiteGroup → Map →
+-- each turn that is let in wishes and removes what its change says, over the map, the owners and the
+-- packages that those before it left
+abbrev pub AreTold : (Installed → OwnerKey) → (ℕ → Change) → List SiteGroup → Map → Book →
     List Installed → List Turn → Type 0
-AreTold key change groups m ps [] = ⊤
-AreTold key change groups m ps (t ∷ ts) =
+AreTold key change groups m b ps [] = ⊤
+AreTold key change groups m b ps (t ∷ ts) =
+    MayChange m b groups (changes_of t) t.group →
     Tells key m ps (change t.group) (is_dying (dying_at groups t.group)) (changes_of t).wishes
     × ((qs : List Installed) → IsAfter ps (change t.group).gone (change t.group).added qs →
-    AreTold key change groups (applied m ((change t.group).does ∷ [])) qs ts)
+    AreTold key change groups (applied m ((change t.group).does ∷ [])) (settled (changes_of t) b)
+    qs ts)
 
 -- the turns merge groups of an accepted plan over a kept tree, whose packages are the book's
 -- owners: in an order that the plan allows, each doing what its change says
@@ -38,7 +41,7 @@ pub record ArePlanned (plan : List plans.Group) (change : ℕ → Change) (key :
   pub owners : OwnersAre key m ps (owner_in b.owned)
   pub run : plans.IsRun plan (numbers turns)
   pub does : (t : Turn) → Has turns t → (change t.group).does ≡ group_for t
-  pub told : AreTold key change groups m ps turns
+  pub told : AreTold key change groups m b ps turns
 
 -- the map with these groups of the plan applied, in this order, is a sound tree: with the packages
 -- that their changes leave
