@@ -1,20 +1,13 @@
 -- Turns that are exchanges tell what they do where they are let in.
-use Rattle.std.proofs.Common.{◌≡◌, ℕ, List, [], ◌∷◌, subst, sym}
-use Rattle.file_tree.specs.Disk.{Map}
+use Rattle.std.proofs.Common.{[], ◌∷◌, subst, sym}
 use Rattle.journal.specs.Group.{applied}
-use Rattle.merge_record.specs.declared.record.OwnerKey.{OwnerKey}
 use Rattle.merge_site.specs.Booking.{dying_at}
-use Rattle.merge_site.specs.declared.group.SiteGroup.{SiteGroup}
-use Rattle.owner_book.specs.Book.{Book}
 use Rattle.owner_book.specs.Rules.{is_dying}
-use Rattle.database_law.specs.Packages.{Installed}
 use Rattle.group_run.specs.Granted.{MayChange}
 use Rattle.group_run.specs.Turns.{changes_of, settled}
 use Rattle.group_run.specs.Working.{Changes, changing}
-use Rattle.group_run.specs.declared.turn.Turn.{Turn}
 use Rattle.claim_law.specs.Owners.{Tells}
-use Rattle.turn_law.specs.Turns.{AreTold}
-use Rattle.change_law.specs.Changes.{Exchange, GrantedExchangesAreTold, change_by, changes_by}
+use Rattle.change_law.specs.Changes.{GrantedExchangesAreTold, change_by, changes_by}
 use Rattle.change_law.specs.Turns.{AreExchanged, ExchangedTurnsAreTold}
 
 pub exchanged_told : GrantedExchangesAreTold → ExchangedTurnsAreTold
