@@ -38,3 +38,4 @@ pub use law::{last_word_counts, one_walk};
 pub use line_file::{FileLine, read_lines};
 pub use parents::Parent;
 pub use stack::stacked;
+pub use text::file_in;

@@ -39,7 +39,7 @@ fn text_of(alloc: Global, object: Option<Object>) -> Vec<u8>
 }
 
 /// The path of the file of this name in the folder, unless it would be too long.
-pub(crate) fn file_in(alloc: Global, folder: &Path, name: &str) -> Result<Option<Path>, AllocError>
+pub fn file_in(alloc: Global, folder: &Path, name: &str) -> Result<Option<Path>, AllocError>
     ensures { IfOk result (λ r. MatchOption r (path_of (file_in folder.now name.now) ≡ None)
         (λ p. path_of (file_in folder.now name.now) ≡ Some p)) }
 {
