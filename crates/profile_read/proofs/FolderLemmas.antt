@@ -1,0 +1,17 @@
+-- What the variables and the line files of a folder come to.
+use Rattle.std.proofs.Common.{◌≡◌, ◌∙◌, ℕ, List, ap, inr, inl, subst, sym}
+use Rattle.config_text.specs.declared.assignment.Assignment.{Assignment}
+use Rattle.file_tree.specs.Disk.{Map}
+use Rattle.profile_stack.specs.Defaults.{AreDefaults}
+use Rattle.profile_read.specs.Files.{Content, MissFiles, MissFolder, ReadsFiles, ReadsFolder, with_assigned}
+use Rattle.profile_read.specs.declared.fault.ReadFault.{ReadFault}
+
+module _ (m n : Map) (same : n ≡ m) (folder : List ℕ) (was before : Content) (known those : List Assignment) (known-is : known ≡ was.assigned) (are : AreDefaults m folder known those) (set : before ≡ with_assigned was those) where
+  sets : AreDefaults m folder was.assigned those
+  sets = subst (λ (k : List Assignment). AreDefaults m folder k those) known-is are
+
+  pub folder_reads : (is : Content) → ReadsFiles n folder before is → ReadsFolder m folder was is
+  folder_reads is reads = (those, sets, subst (λ (c : Content). ReadsFiles m folder c is) set (subst (λ (y : Map). ReadsFiles y folder before is) same reads))
+
+  pub folder_misses : (fault : ReadFault) → MissFiles n folder before fault → MissFolder m folder was fault
+  folder_misses fault miss = inr (those, sets, subst (λ (c : Content). MissFiles m folder c fault) set (subst (λ (y : Map). MissFiles y folder before fault) same miss))

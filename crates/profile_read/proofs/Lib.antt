@@ -1,0 +1,6 @@
+pub mod Chains
+pub mod FolderLemmas
+pub mod Lines
+pub mod NoFault
+pub mod Signs
+pub mod WordLemmas

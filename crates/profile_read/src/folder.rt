@@ -1,0 +1,76 @@
+ghost use Rattle.std.specs.Prelude.{◌≡◌, ◌⊎◌, IfErr, IsErrOf, IsTrue, OnOk};
+ghost use Rattle.file_tree.specs.Disk.{CountsFault};
+ghost use Rattle.profile_stack.specs.declared.fault.ProfileFault.TheVariants.{Failed};
+ghost use Rattle.profile_read.specs.Faults.{IsMachine};
+ghost use Rattle.profile_read.specs.Files.{MissFile, MissFiles, MissFolder, ReadsFile, ReadsFiles};
+ghost use Rattle.profile_read.specs.Files.{ReadsFolder, content};
+ghost use Rattle.profile_read.specs.declared.fault.ReadFault.TheVariants.{Profile as ProfileFaults};
+
+use crate::fault::ReadFault;
+use crate::file::{File, LINE_FILES, count_lines, read_file};
+use crate::profile::Profile;
+use file_tree::{Path, Tree};
+use profile_stack::read_defaults;
+use std::alloc::Global;
+
+/// Reads the variables and the line files of the folder, behind what the profile says.
+pub fn read_folder<T: Tree>(
+    alloc: Global,
+    tree: &mut T,
+    folder: &Path,
+    profile: &mut Profile,
+) -> Result<(), ReadFault>
+    ensures found { IsTrue T.tells → OnOk result (ReadsFolder (T.story tree.old).now.holds
+        folder.now (content profile.old) (content profile.new)) }
+    ensures fault { IsTrue T.tells → IfErr result (λ e. IsMachine e ⊎ MissFolder
+        (T.story tree.old).now.holds folder.now (content profile.old) e) }
+    ensures same { IsTrue T.tells → T.story tree.new ≡ T.story tree.old }
+    ensures faults { CountsFault (IsErrOf result (ProfileFaults Failed)) (T.faults tree.old)
+        (T.faults tree.new) }
+{
+    let mut set = read_defaults(alloc, tree, folder, &profile.assigned)?;
+    profile.assigned.append(&mut set)?;
+    read_line_files(alloc, tree, folder, profile)
+}
+
+/// Reads the line files of the folder.
+fn read_line_files<T: Tree>(
+    alloc: Global,
+    tree: &mut T,
+    folder: &Path,
+    profile: &mut Profile,
+) -> Result<(), ReadFault>
+    ensures found { IsTrue T.tells → OnOk result (ReadsFiles (T.story tree.old).now.holds
+        folder.now (content profile.old) (content profile.new)) }
+    ensures fault { IsTrue T.tells → IfErr result (λ e. IsMachine e ⊎ MissFiles
+        (T.story tree.old).now.holds folder.now (content profile.old) e) }
+    ensures same { IsTrue T.tells → T.story tree.new ≡ T.story tree.old }
+    ensures faults { CountsFault (IsErrOf result (ProfileFaults Failed)) (T.faults tree.old)
+        (T.faults tree.new) }
+{
+    for file in &LINE_FILES {
+        read_one(alloc, tree, folder, *file, profile)?;
+    }
+    Ok(())
+}
+
+/// Reads one line file of the folder.
+fn read_one<T: Tree>(
+    alloc: Global,
+    tree: &mut T,
+    folder: &Path,
+    file: File,
+    profile: &mut Profile,
+) -> Result<(), ReadFault>
+    ensures found { IsTrue T.tells → OnOk result (ReadsFile (T.story tree.old).now.holds
+        folder.now file (content profile.old) (content profile.new)) }
+    ensures fault { IsTrue T.tells → IfErr result (λ e. IsMachine e ⊎ MissFile
+        (T.story tree.old).now.holds folder.now file (content profile.old) e) }
+    ensures same { IsTrue T.tells → T.story tree.new ≡ T.story tree.old }
+    ensures faults { CountsFault (IsErrOf result (ProfileFaults Failed)) (T.faults tree.old)
+        (T.faults tree.new) }
+{
+    let lines = read_file(alloc, tree, folder, file)?;
+    count_lines(profile, file, lines)?;
+    Ok(())
+}

@@ -1,0 +1,118 @@
+ghost use Rattle.std.specs.Prelude.{◌≡◌, ◌↔◌, ◌⊎◌, IfErr, IfOk, IsErrOf, IsTrue, OnOk};
+ghost use Rattle.file_tree.specs.Disk.{CountsFault};
+ghost use Rattle.profile_stack.specs.Folders.{Walks};
+ghost use Rattle.profile_stack.specs.Machine.{IsOfMachine};
+ghost use Rattle.profile_stack.specs.declared.fault.ProfileFault.TheVariants.{Failed};
+ghost use Rattle.profile_read.specs.Faults.{IsMachine};
+ghost use Rattle.profile_read.specs.Files.{content, empty};
+ghost use Rattle.profile_read.specs.Profiles.{FirstFault, IsProfile, MissFolders, MissOpens, Opens};
+ghost use Rattle.profile_read.specs.Profiles.{ReadsFolders, repository_masks};
+ghost use Rattle.profile_read.specs.declared.fault.ReadFault.TheVariants.{Profile as ProfileFaults};
+
+use crate::fault::ReadFault;
+use crate::file::{File, count_lines, read_line_file};
+use crate::folder::read_folder;
+use crate::item::Form;
+use crate::profile::Profile;
+use file_tree::{Path, Tree};
+use profile_stack::{ProfileFault, Walk, find_folders};
+use std::alloc::{AllocError, Global};
+
+/// The profile at the path: the masks of the repository, and behind them the folders of the profile
+/// in their order, each parent before the profile that names it.
+pub fn read<T: Tree>(alloc: Global, tree: &mut T, path: &Path) -> Result<Profile, ReadFault>
+    ensures found { IsTrue T.tells → IfOk result (λ p.
+        IsProfile (T.story tree.old).now.holds path.now (content p)) }
+    ensures fault { IsTrue T.tells → IfErr result (λ e. IsMachine e ⊎
+        FirstFault (T.story tree.old).now.holds path.now e) }
+    ensures same { IsTrue T.tells → T.story tree.new ≡ T.story tree.old }
+    ensures faults { CountsFault (IsErrOf result (ProfileFaults Failed)) (T.faults tree.old)
+        (T.faults tree.new) }
+{
+    let mut profile = Profile::new(alloc);
+    read_masks(alloc, tree, &mut profile)?;
+    let Course { folders, end } = walk(alloc, tree, path)?;
+    read_folders(alloc, tree, &folders, &mut profile)?;
+    match end {
+        None => Ok(profile),
+        Some(fault) => Err(ReadFault::Profile(fault)),
+    }
+}
+
+/// Reads the masks of the repository into a profile that says nothing yet.
+fn read_masks<T: Tree>(alloc: Global, tree: &mut T, profile: &mut Profile) -> Result<(), ReadFault>
+    requires empty { content profile.old ≡ empty }
+    ensures found { IsTrue T.tells → OnOk result
+        (Opens (T.story tree.old).now.holds (content profile.new)) }
+    ensures fault { IsTrue T.tells → IfErr result (λ e. IsMachine e ⊎
+        MissOpens (T.story tree.old).now.holds e) }
+    ensures same { IsTrue T.tells → T.story tree.new ≡ T.story tree.old }
+    ensures faults { CountsFault (IsErrOf result (ProfileFaults Failed)) (T.faults tree.old)
+        (T.faults tree.new) }
+{
+    let path = path_of_masks(alloc)?;
+    let lines = read_line_file(alloc, tree, &path, Form::Masks)?;
+    count_lines(profile, File::Masks, lines)?;
+    Ok(())
+}
+
+fn path_of_masks(alloc: Global) -> Result<Path, AllocError>
+    ensures { IfOk result (λ p. p ≡ repository_masks) }
+{
+    Path::parse(alloc, "var/db/repos/gentoo/profiles/package.mask").map_err(|_| AllocError)
+}
+
+/// The folders of a profile that were read to their end, and why they aren't all of them.
+#[derive(Drop)]
+struct Course {
+    folders: Vec<Path>,
+    end: Option<ProfileFault>,
+}
+
+/// Walks over the folders of the profile. Where the machine fails nothing is told of them.
+fn walk<T: Tree>(alloc: Global, tree: &mut T, path: &Path) -> Result<Course, ReadFault>
+    ensures found { IsTrue T.tells → IfOk result (λ c.
+        Walks (T.story tree.old).now.holds path.now c.folders.items c.end) }
+    ensures fault { IfErr result IsMachine }
+    ensures same { IsTrue T.tells → T.story tree.new ≡ T.story tree.old }
+    ensures faults { CountsFault (IsErrOf result (ProfileFaults Failed)) (T.faults tree.old)
+        (T.faults tree.new) }
+{
+    let Walk { folders, end } = find_folders(alloc, tree, path);
+    match end {
+        Ok(()) => Ok(Course { folders, end: None }),
+        Err(fault) if is_of_machine(&fault) => Err(ReadFault::Profile(fault)),
+        Err(fault) => Ok(Course {
+            folders,
+            end: Some(fault),
+        }),
+    }
+}
+
+/// Whether the machine failed, whatever the tree holds.
+fn is_of_machine(fault: &ProfileFault) -> bool
+    ensures { IsTrue result ↔ IsOfMachine fault.now }
+{
+    matches!(fault, ProfileFault::Failed | ProfileFault::Memory)
+}
+
+/// Reads the folders one after the other, behind what the profile says.
+fn read_folders<T: Tree>(
+    alloc: Global,
+    tree: &mut T,
+    folders: &[Path],
+    profile: &mut Profile,
+) -> Result<(), ReadFault>
+    ensures found { IsTrue T.tells → OnOk result (ReadsFolders (T.story tree.old).now.holds
+        folders.now (content profile.old) (content profile.new)) }
+    ensures fault { IsTrue T.tells → IfErr result (λ e. IsMachine e ⊎ MissFolders
+        (T.story tree.old).now.holds folders.now (content profile.old) e) }
+    ensures same { IsTrue T.tells → T.story tree.new ≡ T.story tree.old }
+    ensures faults { CountsFault (IsErrOf result (ProfileFaults Failed)) (T.faults tree.old)
+        (T.faults tree.new) }
+{
+    for folder in folders {
+        read_folder(alloc, tree, folder, profile)?;
+    }
+    Ok(())
+}
