@@ -3,4 +3,5 @@ pub mod FolderLemmas
 pub mod Lines
 pub mod NoFault
 pub mod Signs
+pub mod WholeLemmas
 pub mod WordLemmas

@@ -1,8 +1,9 @@
 -- The profile of a tree as a whole (PMS 5.2): the masks of the repository, and then each of its
 -- folders in their order.
-use Rattle.std.specs.Prelude.{◌≡◌, ◌⊎◌, ℕ, List, Option, None, Some, codes}
+use Rattle.std.specs.Prelude.{◌≡◌, ◌⊎◌, ℕ, List, Option, None, Some, codes, ⊤}
 use Rattle.file_tree.specs.Disk.{Map}
 use Rattle.profile_stack.specs.Folders.{Walks}
+use Rattle.profile_stack.specs.Machine.{IsOfMachine}
 use Rattle.profile_stack.specs.declared.fault.ProfileFault.{ProfileFault}
 use Rattle.profile_read.specs.Chains.{BreaksAt, Chain}
 use Rattle.profile_read.specs.Files.{Content, MissFolder, MissTells, ReadsFolder, Tells, counted, empty}
@@ -41,6 +42,11 @@ pub record IsProfile (m : Map) (path : List ℕ) (is : Content) : Type 0 where
   pub folders : List (List ℕ)
   pub walks : Walks m path folders None
   pub reads : ReadsFolders m folders first is
+
+-- the walk ended at its last folder, or at a fault of the profile and not of the machine
+abbrev pub IsOwnEnd : Option ProfileFault → Type 0
+IsOwnEnd None = ⊤
+IsOwnEnd (Some fault) = ¬ IsOfMachine fault
 
 -- the folders of the profile that were read to their end are at fault, or else the walk over them is
 abbrev pub MissRest : Map → List (List ℕ) → Option ProfileFault → Content → ReadFault → Type 0

@@ -1,12 +1,12 @@
-ghost use Rattle.std.specs.Prelude.{◌≡◌, ◌↔◌, ◌⊎◌, IfErr, IfOk, IsErrOf, IsTrue, OnOk};
+ghost use Rattle.std.specs.Prelude.{◌≡◌, ◌↔◌, ◌⊎◌, IfErr, IfOk, IsErrOf, IsTrue, None, OnOk};
 ghost use Rattle.file_tree.specs.Disk.{CountsFault};
 ghost use Rattle.profile_stack.specs.Folders.{Walks};
 ghost use Rattle.profile_stack.specs.Machine.{IsOfMachine};
 ghost use Rattle.profile_stack.specs.declared.fault.ProfileFault.TheVariants.{Failed};
 ghost use Rattle.profile_read.specs.Faults.{IsMachine};
-ghost use Rattle.profile_read.specs.Files.{content, empty};
-ghost use Rattle.profile_read.specs.Profiles.{FirstFault, IsProfile, MissFolders, MissOpens, Opens};
-ghost use Rattle.profile_read.specs.Profiles.{ReadsFolders, repository_masks};
+ghost use Rattle.profile_read.specs.Files.{Content, content, empty};
+ghost use Rattle.profile_read.specs.Profiles.{FirstFault, IsOwnEnd, IsProfile, MissFolders, MissOpens};
+ghost use Rattle.profile_read.specs.Profiles.{MissRest, Opens, ReadsFolders, repository_masks};
 ghost use Rattle.profile_read.specs.declared.fault.ReadFault.TheVariants.{Profile as ProfileFaults};
 
 use crate::fault::ReadFault;
@@ -23,6 +23,8 @@ use std::alloc::{AllocError, Global};
 pub fn read<T: Tree>(alloc: Global, tree: &mut T, path: &Path) -> Result<Profile, ReadFault>
     ensures found { IsTrue T.tells → IfOk result (λ p.
         IsProfile (T.story tree.old).now.holds path.now (content p)) }
+    ensures only { IsTrue T.tells → (is : Content) →
+        IsProfile (T.story tree.old).now.holds path.now is → IfErr result IsMachine }
     ensures fault { IsTrue T.tells → IfErr result (λ e. IsMachine e ⊎
         FirstFault (T.story tree.old).now.holds path.now e) }
     ensures same { IsTrue T.tells → T.story tree.new ≡ T.story tree.old }
@@ -30,11 +32,54 @@ pub fn read<T: Tree>(alloc: Global, tree: &mut T, path: &Path) -> Result<Profile
         (T.faults tree.new) }
 {
     let mut profile = Profile::new(alloc);
-    read_masks(alloc, tree, &mut profile)?;
-    let Course { folders, end } = walk(alloc, tree, path)?;
-    read_folders(alloc, tree, &folders, &mut profile)?;
+    match read_into(alloc, tree, path, &mut profile) {
+        Ok(()) => Ok(profile),
+        Err(fault) => Err(fault),
+    }
+}
+
+/// Reads the same into a profile that says nothing yet.
+fn read_into<T: Tree>(
+    alloc: Global,
+    tree: &mut T,
+    path: &Path,
+    profile: &mut Profile,
+) -> Result<(), ReadFault>
+    requires empty { content profile.old ≡ empty }
+    ensures found { IsTrue T.tells → OnOk result
+        (IsProfile (T.story tree.old).now.holds path.now (content profile.new)) }
+    ensures fault { IsTrue T.tells → IfErr result (λ e. IsMachine e ⊎
+        FirstFault (T.story tree.old).now.holds path.now e) }
+    ensures same { IsTrue T.tells → T.story tree.new ≡ T.story tree.old }
+    ensures faults { CountsFault (IsErrOf result (ProfileFaults Failed)) (T.faults tree.old)
+        (T.faults tree.new) }
+{
+    read_masks(alloc, tree, profile)?;
+    let course = walk(alloc, tree, path)?;
+    read_course(alloc, tree, course, profile)
+}
+
+/// Reads the folders of the course, and answers why they aren't all, where they aren't.
+fn read_course<T: Tree>(
+    alloc: Global,
+    tree: &mut T,
+    course: Course,
+    profile: &mut Profile,
+) -> Result<(), ReadFault>
+    requires own { IsOwnEnd course.end }
+    ensures found { IsTrue T.tells → OnOk result ((course.end ≡ None) × ReadsFolders
+        (T.story tree.old).now.holds course.folders.items (content profile.old)
+        (content profile.new)) }
+    ensures fault { IsTrue T.tells → IfErr result (λ e. IsMachine e ⊎ MissRest
+        (T.story tree.old).now.holds course.folders.items course.end (content profile.old) e) }
+    ensures same { IsTrue T.tells → T.story tree.new ≡ T.story tree.old }
+    ensures faults { CountsFault (IsErrOf result (ProfileFaults Failed)) (T.faults tree.old)
+        (T.faults tree.new) }
+{
+    let Course { folders, end } = course;
+    read_folders(alloc, tree, &folders, profile)?;
     match end {
-        None => Ok(profile),
+        None => Ok(()),
         Some(fault) => Err(ReadFault::Profile(fault)),
     }
 }
@@ -73,6 +118,7 @@ struct Course {
 fn walk<T: Tree>(alloc: Global, tree: &mut T, path: &Path) -> Result<Course, ReadFault>
     ensures found { IsTrue T.tells → IfOk result (λ c.
         Walks (T.story tree.old).now.holds path.now c.folders.items c.end) }
+    ensures own { IfOk result (λ c. IsOwnEnd c.end) }
     ensures fault { IfErr result IsMachine }
     ensures same { IsTrue T.tells → T.story tree.new ≡ T.story tree.old }
     ensures faults { CountsFault (IsErrOf result (ProfileFaults Failed)) (T.faults tree.old)
