@@ -1,5 +1,5 @@
 -- What the variables and the line files of a folder come to.
-use Rattle.std.proofs.Common.{◌≡◌, ◌∙◌, ℕ, List, ap, inr, inl, subst, sym}
+use Rattle.std.proofs.Common.{◌≡◌, ℕ, List, inr, subst}
 use Rattle.config_text.specs.declared.assignment.Assignment.{Assignment}
 use Rattle.file_tree.specs.Disk.{Map}
 use Rattle.profile_stack.specs.Defaults.{AreDefaults}

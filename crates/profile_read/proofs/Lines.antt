@@ -1,11 +1,9 @@
 -- A line that says something has no fault.
-use Rattle.std.proofs.Common.{◌≡◌, ◌∙◌, ◌<◌, ◌++◌, ◌+◌, ◌⊎◌, ℕ, List, [], ◌∷◌, ap, arith, drop, get_or, inl, inr, length, refl, subst, sym, take}
-use Rattle.std.specs.List.{AllByRecursion, AllZip}
+use Rattle.std.proofs.Common.{◌≡◌, ◌∙◌, ◌<◌, ◌++◌, ◌+◌, ℕ, List, [], ◌∷◌, arith, drop, get_or, inl, inr, length, subst, sym, take}
 use Rattle.dep_group.specs.Words.{words_of}
 use Rattle.profile_stack.specs.declared.fault.ProfileFault.TheVariants as stacks
 use Rattle.profile_stack.specs.declared.line_file.FileLine.{FileLine}
 use Rattle.profile_stack.proofs.Followed.{split_at}
-use Rattle.use_flags.specs.Changes.{IsChange}
 use Rattle.profile_read.specs.Faults.{ChangesNothing, FirstBad, IsBadBy, NamesNothing, fault_at}
 use Rattle.profile_read.specs.Items.{AreEntries, IsEntry, IsRule, Says}
 use Rattle.profile_read.specs.declared.fault.LineFault.{LineFault}

@@ -1,6 +1,5 @@
 -- A profile that can be read has no fault.
-use Rattle.std.specs.Prelude.{IfErr}
-use Rattle.std.proofs.Common.{◌≡◌, ◌∙◌, ◌++◌, ◌⊎◌, ℕ, List, [], ◌∷◌, Option, None, Some, ap, inl, inr, refl, subst, sym}
+use Rattle.std.proofs.Common.{◌≡◌, ◌∙◌, ◌++◌, ℕ, List, [], ◌∷◌, Option, None, Some, inl, inr, subst, sym}
 use Rattle.config_text.proofs.OneText.{no_fault}
 use Rattle.config_text.specs.declared.assignment.Assignment.{Assignment}
 use Rattle.file_tree.specs.Disk.{Map}

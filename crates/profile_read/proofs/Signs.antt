@@ -1,5 +1,5 @@
 -- A word with a hyphen before it, and one without.
-use Rattle.std.proofs.Common.{◌≡◌, ◌==◌, ℕ, Bool, true, false, List, [], ◌∷◌, Option, None, Some, cond, refl, sym}
+use Rattle.std.proofs.Common.{◌≡◌, ◌==◌, ℕ, Bool, true, false, List, [], ◌∷◌, None, Some, cond, refl}
 use Rattle.profile_stack.specs.Stacks.{hyphen, taken_back}
 use Rattle.profile_read.specs.Items.{unsigned}
 

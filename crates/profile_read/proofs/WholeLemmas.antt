@@ -1,10 +1,10 @@
 -- What the repository's masks, the walk and the folders come to together.
-use Rattle.std.proofs.Common.{◌≡◌, ◌∙◌, ◌⊎◌, ℕ, List, Option, None, Some, ap, inl, inr, subst, sym}
+use Rattle.std.proofs.Common.{◌≡◌, ℕ, List, Option, None, inr, subst}
 use Rattle.file_tree.specs.Disk.{Map}
 use Rattle.profile_stack.specs.Folders.{Walks}
 use Rattle.profile_stack.specs.declared.fault.ProfileFault.{ProfileFault}
 use Rattle.profile_read.specs.Files.{Content}
-use Rattle.profile_read.specs.Profiles.{FirstFault, IsProfile, MissFolders, MissRest, Opens, ReadsFolders}
+use Rattle.profile_read.specs.Profiles.{FirstFault, IsProfile, MissRest, Opens, ReadsFolders}
 use Rattle.profile_read.specs.declared.fault.ReadFault.{ReadFault}
 
 module _ (m n : Map) (same : n ≡ m) (o : Map) (same' : o ≡ m) (path : List ℕ) (first : Content) (opens : Opens m first) (folders : List (List ℕ)) (end : Option ProfileFault) (walks : Walks n path folders end) where

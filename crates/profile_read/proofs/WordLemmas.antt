@@ -6,12 +6,11 @@ use Rattle.dep_atom.specs.Atoms.{IsAtomValue}
 use Rattle.dep_atom.specs.Text.{value_text}
 use Rattle.dep_atom.specs.Values.{AtomValue, atom_value}
 use Rattle.dep_atom.specs.declared.atom.Atom.{Atom}
-use Rattle.dep_atom.specs.declared.atom.Block.{Block}
 use Rattle.dep_atom.specs.declared.atom.Block.TheVariants.{No}
 use Rattle.dep_atom.specs.declared.fault.AtomFault.{AtomFault}
 use Rattle.dep_atom.specs.declared.fault.AtomFault.TheVariants as atoms
 use Rattle.dep_group.specs.Views.{spot}
-use Rattle.dep_group.specs.Words.{spaced, spaced_after, texts}
+use Rattle.dep_group.specs.Words.{spaced_after, texts}
 use Rattle.dep_group.specs.declared.word.Word.{Word}
 use Rattle.use_flags.specs.Changes.{IsChange}
 use Rattle.use_flags.specs.declared.change.Change.{Change}

@@ -57,7 +57,8 @@ IsLinesFaultAt m None fault = ⊥
 IsLinesFaultAt m (Some path) fault = IsLinesFault m path fault
 
 -- the line file at the path says these, line by line
-pub record Tells (m : Map) (form : Form) (path : Option (List ℕ)) (entries : List Entry) : Type 0 where
+pub record Tells (m : Map) (form : Form) (path : Option (List ℕ))
+    (entries : List Entry) : Type 0 where
   pub lines : List FileLine
   pub there : AreLinesAt m path lines
   pub say : AreEntries form lines entries
@@ -123,7 +124,8 @@ ReadsFiles m folder was is = Chain (ReadsFile m folder) line_files was is
 
 -- or the first of them that is at fault has this one
 abbrev pub MissFiles : Map → List ℕ → Content → ReadFault → Type 0
-MissFiles m folder was fault = BreaksAt (ReadsFile m folder) (MissFile m folder) line_files was fault
+MissFiles m folder was fault =
+    BreaksAt (ReadsFile m folder) (MissFile m folder) line_files was fault
 
 -- the profile in the folder leads from what was said to what is: first its variables count, then
 -- its line files

@@ -48,7 +48,8 @@ abbrev pub IsOwnEnd : Option ProfileFault → Type 0
 IsOwnEnd None = ⊤
 IsOwnEnd (Some fault) = ¬ IsOfMachine fault
 
--- the folders of the profile that were read to their end are at fault, or else the walk over them is
+-- the folders of the profile that were read to their end are at fault, or else the walk over
+-- them is
 abbrev pub MissRest : Map → List (List ℕ) → Option ProfileFault → Content → ReadFault → Type 0
 MissRest m folders end first fault =
     MissFolders m folders first fault

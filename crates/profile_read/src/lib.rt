@@ -1,4 +1,22 @@
-//! Profiles read as a whole.
+//! The profile of a tree, read as a whole: the masks of the repository, and of each folder of the
+//! profile its variables and the items of its line files.
+//!
+//! **A contract sees** a line as its words, an item by its text, which has one space between its
+//! words, and a profile as lists of assignments and items (`Content` in `specs/Files.antt`). An
+//! atom is one that has this spelling.
+//!
+//! **Proved**: what a line says is read exactly where it is in form, and a file of lines is refused
+//! at its first other line, by its file and number. A hyphen before an atom takes back every equal
+//! item; a mask stands once. A profile is read from just those files, in their order, each parent
+//! before the profile that names it: where one is at fault the first fault is told, and where none
+//! is only the machine can fail. The tree is only read.
+//!
+//! **Only tested**: nothing yet.
+//!
+//! ```
+//! let profile = read(alloc, &mut tree, &path)?;
+//! let masked = profile.masks.iter().any(|mask| mask.text.as_str() == "dev-libs/icu");
+//! ```
 #![tactic(auto)]
 
 mod entries;

@@ -5,8 +5,9 @@ ghost use Rattle.profile_stack.specs.Machine.{IsOfMachine};
 ghost use Rattle.profile_stack.specs.declared.fault.ProfileFault.TheVariants.{Failed};
 ghost use Rattle.profile_read.specs.Faults.{IsMachine};
 ghost use Rattle.profile_read.specs.Files.{Content, content, empty};
-ghost use Rattle.profile_read.specs.Profiles.{FirstFault, IsOwnEnd, IsProfile, MissFolders, MissOpens};
-ghost use Rattle.profile_read.specs.Profiles.{MissRest, Opens, ReadsFolders, repository_masks};
+ghost use Rattle.profile_read.specs.Profiles.{FirstFault, IsOwnEnd, IsProfile, MissFolders};
+ghost use Rattle.profile_read.specs.Profiles.{MissOpens, MissRest, Opens, ReadsFolders};
+ghost use Rattle.profile_read.specs.Profiles.{repository_masks};
 ghost use Rattle.profile_read.specs.declared.fault.ReadFault.TheVariants.{Profile as ProfileFaults};
 
 use crate::fault::ReadFault;

@@ -1,9 +1,8 @@
-use Rattle.std.proofs.Common.{◌≡◌, ◌⊎◌, List, ap, inl, inr}
+use Rattle.std.proofs.Common.{◌≡◌, List, ap, inl, inr}
 use Rattle.std.proofs.lemmas.Result.{IfErr-weaker, on_ok_weaker}
 use Rattle.config_text.specs.declared.assignment.Assignment.{Assignment}
 use Rattle.file_tree.specs.Disk.{Map, Story}
-use Rattle.profile_read.specs.Faults.{IsMachine}
-use Rattle.profile_read.specs.Files.{Content, content, with_assigned}
+use Rattle.profile_read.specs.Files.{Content, content}
 use Rattle.profile_read.proofs.FolderLemmas.{folder_misses, folder_reads}
 use Rattle.profile_read.proofs.folder.read_folder.Goals as goal
 

@@ -1,6 +1,6 @@
 -- What stands, and the lines that are left, come to what all lines come to.
 use Rattle.std.proofs.Common.{◌≡◌}
-use Rattle.std.specs.Vec.Iter.{into_iter_items, into_iter_len}
+use Rattle.std.specs.Vec.Iter.{into_iter_items}
 use Rattle.profile_read.specs.Stacks.{with_entries}
 use Rattle.profile_read.proofs.stack.count_entries.Given as goal
 

@@ -1,5 +1,4 @@
-use Rattle.std.proofs.Common.{inr, refl, ◌∙◌, sym}
-use Rattle.std.specs.Prelude.{◌↔◌}
+use Rattle.std.proofs.Common.{inr, refl}
 use Rattle.profile_read.proofs.WordLemmas.{blocked, refused, untrue}
 use Rattle.profile_read.proofs.words.plain_atom.Goals as goal
 
