@@ -31,7 +31,6 @@ mod words;
 
 pub use entries::read_entries;
 pub use fault::ReadFault;
-pub use file::File;
 pub use folder::read_folder;
 pub use item::{Entry, Form, Item};
 pub use profile::Profile;
