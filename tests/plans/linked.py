@@ -125,7 +125,7 @@ REBUILDS = [
     ),
     (
         "remove c/app-1:0,remove c/lib-1:0,add c/app-1:0/0,bind 0/1,add c/lib-2:0/2",
-        "unsatisfied 1 app-1 RDEPEND c/lib:0/1=",
+        "binding app-1 c/lib:= 0/1",
     ),
 ]
 

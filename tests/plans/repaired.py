@@ -39,6 +39,12 @@ UNFIT = [
     ),
     ("u-1;RDEPEND c/v", "v-1;BDEPEND c/w", "add c/v-1:0/0", "build 1 v-1 BDEPEND c/w"),
     ("u-1;RDEPEND c/v", "v-1;PDEPEND c/w", "add c/v-1:0/0", "final v-1 c/w"),
+    (
+        "lib-2:0/2,app-1;RDEPEND c/lib:0/1=",
+        "app-1;RDEPEND c/lib:=",
+        "remove c/app-1:0,add c/app-1:0/0,bind 0/1",
+        "binding app-1 c/lib:= 0/1",
+    ),
 ]
 
 

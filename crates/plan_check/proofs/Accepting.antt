@@ -23,11 +23,14 @@ use Rattle.plan_law.specs.Sound.{bars, is_of_build}
 use Rattle.plan_law.proofs.Members.{passes_some, some_passes}
 use Rattle.plan_law.proofs.There.{some_life}
 use Rattle.plan_check.specs.Lives.{lives}
-use Rattle.plan_check.specs.PackageRules.{built_rule, finished_rule, if_left, is_never, left_of, package_rule, plan_rule, required_rule, unbarred_rule}
-use Rattle.plan_check.specs.Refusals.{Refusal as refused}
+use Rattle.plan_check.specs.Asks.{AskedValue, asking}
+use Rattle.plan_check.specs.Binding.{AreBound, IsBound}
+use Rattle.plan_check.specs.PackageRules.{built_rule, finished_rule, if_left, is_never, left_of, package_rule, plan_rule, required_rule, standing_rule, unbarred_rule}
+use Rattle.plan_check.specs.Refusals.{Refusal, Refusal as refused}
 use Rattle.plan_check.specs.Rules.{AreOneVersion, Crowds, IsPresent, apart_rule, number_of, present_at, vacant_at, vacant_of, versions_of}
-use Rattle.plan_check.specs.Verdicts.{demand, each_from, refuse}
+use Rattle.plan_check.specs.Verdicts.{both, demand, each_from, refuse}
 use Rattle.plan_check.proofs.AllLives.{has_lives}
+use Rattle.plan_check.proofs.Binds.{binding_none, bound, life_asked, some_asked}
 use Rattle.plan_check.proofs.Clears.{Stands, all_stand, rest_stands, stands_here}
 use Rattle.plan_check.proofs.Trying.{each_none, each_passed}
 
@@ -109,11 +112,23 @@ module _ (plan : List Group) (start : List Package) where
   abbrev NotMet : Package → Type 0
   NotMet p = is_met (facts_of (left_of plan start)) Pdepend p ≡ false
 
-  module _ (h : plan_rule plan start None) where
-    package_passed : (x : Life) → IsLife plan start x → package_rule plan start x None
-    package_passed x is = each_passed xs (package_rule plan start) h.1.1.1.1.1.1 x (listed x is)
+  -- the rules of a package without that of its binds
+  abbrev unbound_rule : Life → Option Refusal → Type 0
+  unbound_rule x = both (required_rule x) (standing_rule plan start x)
 
-    addition_passed : (g : ℕ) (p : Package) → Has (group_at plan g).additions p → (d : Moment) × package_rule plan start (record { package_is = p; birth = commit g; death = d }) None
+  module _ (asks : List AskedValue) (h : plan_rule plan start asks None) where
+    asked_passed : (x : Life) (asked : AskedValue) → Has (asking xs asks) (x, asked) → package_rule plan start (x, asked) None
+    asked_passed x asked has = each_passed (asking xs asks) (package_rule plan start) h.1.1.1.1.1.1 (x, asked) has
+
+    package_passed : (x : Life) → IsLife plan start x → unbound_rule x None
+    package_passed x is =
+        let k = some_asked xs asks x (listed x is) in
+        let passed = asked_passed x k.0 k.1 in (passed.0.0, passed.1)
+
+    pub all_bound : AreBound plan start asks
+    all_bound x asked has = bound plan start x.package_is x.birth x.death asked (asked_passed x asked has).0.1
+
+    addition_passed : (g : ℕ) (p : Package) → Has (group_at plan g).additions p → (d : Moment) × unbound_rule (record { package_is = p; birth = commit g; death = d }) None
     addition_passed g p has = let k = brought g p has in (k.0, package_passed (record { package_is = p; birth = commit g; death = k.0 }) k.1)
 
     present : (g : ℕ) (r : Removal) → Has (group_at plan g).removals r → IsPresent plan start g r
@@ -154,7 +169,7 @@ module _ (plan : List Group) (start : List Package) where
     built g p Bdepend has e = (addition_passed g p has).1.1.1.1.1.0.1.0
     built g p Idepend has e = (addition_passed g p has).1.1.1.1.1.0.1.1
 
-    met_later : (g : ℕ) (p : Package) (d : Moment) → package_rule plan start (record { package_is = p; birth = commit g; death = d }) None → d ≡ never → ¬ NotMet p
+    met_later : (g : ℕ) (p : Package) (d : Moment) → unbound_rule (record { package_is = p; birth = commit g; death = d }) None → d ≡ never → ¬ NotMet p
     met_later g p d passed e = subst (λ (m : Moment). if_left m (refuse (NotMet p) (refused.Final p.facts.id (lacking_leaf (facts_of (left_of plan start)) Pdepend p))) None) e passed.1.1.1.1.1
 
     stays_met : (g : ℕ) (p q : Package) (b d : Moment) → Has (group_at plan g).additions p → IsLife plan start (record { package_is = q; birth = b; death = d }) → d ≡ never → q ≡ p → ¬ NotMet p
@@ -187,8 +202,8 @@ module _ (plan : List Group) (start : List Package) where
       finished = finished;
     }
 
-  -- an accepted plan passes every rule
-  module _ (ok : IsAccepted plan start) where
+  -- an accepted plan whose binds are right passes every rule
+  module _ (asks : List AskedValue) (ok : IsAccepted plan start) (right : AreBound plan start asks) where
     is_life : (x : Life) → Has xs x → IsLife plan start x
     is_life x h = (has_lives plan start x).0 h
 
@@ -217,9 +232,9 @@ module _ (plan : List Group) (start : List Package) where
     finished_none p (commit g) d is = final_none g p d is
     finished_none p never d is = tt
 
-    package_none : (x : Life) → IsLife plan start x → package_rule plan start x None
-    package_none x is = (
-      required_none x.package_is x.birth x.death is.enters,
+    package_none : (x : Life) (asked : AskedValue) → IsLife plan start x → IsBound plan start x.birth x.package_is asked → package_rule plan start (x, asked) None
+    package_none x asked is binds = (
+      (required_none x.package_is x.birth x.death is.enters, binding_none plan start x.package_is x.birth x.death asked binds),
       (
         ok.lasting x is,
         (
@@ -232,7 +247,7 @@ module _ (plan : List Group) (start : List Package) where
       ),
     )
 
-    pub none_refuses : plan_rule plan start None
+    pub none_refuses : plan_rule plan start asks None
     none_refuses = (
       ok.ordered,
       (
@@ -243,7 +258,7 @@ module _ (plan : List Group) (start : List Package) where
             from_none plan apart_rule plan 0 (all_stand plan) ok.single,
             (
               each_none xs (versions_of plan start) (λ x hx. each_none xs (λ (y : Life). refuse (AreOneVersion plan x y) (refused.Occupied (number_of x.birth) x.package_is.facts.id y.package_is.facts.id)) (λ y hy k. k.apart (ok.versions x y (is_life x hx) (is_life y hy) k.meets k.same))),
-              (ok.consistent, each_none xs (package_rule plan start) (λ x h. package_none x (is_life x h))),
+              (ok.consistent, each_none (asking xs asks) (package_rule plan start) (λ it h. package_none it.0 it.1 (is_life it.0 (life_asked xs asks it.0 it.1 h)) (right it.0 it.1 h))),
             ),
           ),
         ),

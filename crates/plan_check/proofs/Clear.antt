@@ -13,12 +13,15 @@ use Rattle.plan_law.specs.Lives.{Life, Meets, Moment, commit, never, opening, st
 use Rattle.plan_law.specs.Accepted.{IsAccepted}
 use Rattle.plan_law.specs.Sound.{IsSound, bars}
 use Rattle.plan_check.specs.Lives.{lives}
-use Rattle.plan_check.specs.PackageRules.{built_of, built_rule, finished_rule, if_brought, if_left, lasting_rule, left_of, package_rule, plan_rule, required_rule, unbarred_of, unbarred_rule, unblocked_rule}
+use Rattle.plan_check.specs.Asks.{AskedValue, asking}
+use Rattle.plan_check.specs.Binding.{AreBound, IsRightBind, binds_rule}
+use Rattle.plan_check.specs.PackageRules.{binding_rule, built_of, built_rule, coming_rule, finished_rule, if_brought, if_left, lasting_rule, left_of, package_rule, plan_rule, required_rule, standing_rule, unbarred_of, unbarred_rule, unblocked_rule}
 use Rattle.plan_check.specs.Refusals.{Refusal, Refusal as refused, Says, told}
 use Rattle.plan_check.specs.Rules.{AreOneVersion, Crowds, apart_rule, line_rule, number_of, opening_rule, present_at, present_of, present_rule, single_rule, vacant_at, vacant_of, vacant_rule, versions_of, versions_rule}
 use Rattle.plan_check.specs.Verdicts.{both, each, nothing, refuse}
 use Rattle.plan_check.specs.declared.refusal.PlanRefused.{PlanRefused}
-use Rattle.plan_check.proofs.Accepting.{accepted, none_refuses}
+use Rattle.plan_check.proofs.Accepting.{accepted, all_bound, none_refuses}
+use Rattle.plan_check.proofs.Binds.{binds_clear}
 use Rattle.plan_check.proofs.Trying.{IsClear, both_clear, each_clear, from_clear}
 
 nothing_clear : {E : Type 0} → IsClear (nothing {E = E})
@@ -71,9 +74,13 @@ module _ (plan : List Group) (start : List Package) where
   finished_clear : (x : Life) → IsClear (finished_rule plan start x)
   finished_clear x = brought_clear x.birth (λ g. if_left x.death (final x.package_is)) (λ g. left_clear x.death (final x.package_is) (λ e h k. h k.0))
 
-  package_clear : (x : Life) → IsClear (package_rule plan start x)
-  package_clear x =
-      both_clear (required_rule x) (both (lasting_rule plan start x) (both (unblocked_rule plan start x) (both (unbarred_rule plan start x) (both (built_rule plan start x) (finished_rule plan start x))))) (required_clear x)
+  binding_clear : (x : Life) (asked : AskedValue) → IsClear (binding_rule plan start x asked)
+  binding_clear x asked = brought_clear x.birth (λ g. binds_rule (IsRightBind plan start g x.package_is.facts.enabled) x.package_is.facts.id asked.leaves asked.binds) (λ g. binds_clear (IsRightBind plan start g x.package_is.facts.enabled) x.package_is.facts.id asked.leaves asked.binds)
+
+  package_clear : (it : Life × AskedValue) → IsClear (package_rule plan start it)
+  package_clear it =
+      let x = it.0 in
+      both_clear (coming_rule plan start x it.1) (standing_rule plan start x) (both_clear (required_rule x) (binding_rule plan start x it.1) (required_clear x) (binding_clear x it.1))
       (both_clear (lasting_rule plan start x) (both (unblocked_rule plan start x) (both (unbarred_rule plan start x) (both (built_rule plan start x) (finished_rule plan start x)))) (lasting_clear x)
       (both_clear (unblocked_rule plan start x) (both (unbarred_rule plan start x) (both (built_rule plan start x) (finished_rule plan start x))) (unblocked_clear x)
       (both_clear (unbarred_rule plan start x) (both (built_rule plan start x) (finished_rule plan start x)) (unbarred_clear x)
@@ -88,33 +95,37 @@ module _ (plan : List Group) (start : List Package) where
   versions_clear : IsClear (versions_rule plan start)
   versions_clear = each_clear (lives plan start) (versions_of plan start) (λ x. each_clear (lives plan start) (λ (y : Life). refuse (AreOneVersion plan x y) (refused.Occupied (number_of x.birth) x.package_is.facts.id y.package_is.facts.id)) (λ y e h k. h k.0))
 
-  abbrev rest : Option Refusal → Type 0
-  rest = each (lives plan start) (package_rule plan start)
+  abbrev rest : List AskedValue → Option Refusal → Type 0
+  rest asks = each (asking (lives plan start) asks) (package_rule plan start)
 
-  plan_clear : IsClear (plan_rule plan start)
-  plan_clear =
-      both_clear (line_rule plan) (both (present_rule plan start) (both (vacant_rule plan start) (both (single_rule plan) (both (versions_rule plan start) (both (opening_rule start) rest))))) (line_clear plan)
-      (both_clear (present_rule plan start) (both (vacant_rule plan start) (both (single_rule plan) (both (versions_rule plan start) (both (opening_rule start) rest)))) present_clear
-      (both_clear (vacant_rule plan start) (both (single_rule plan) (both (versions_rule plan start) (both (opening_rule start) rest))) vacant_clear
-      (both_clear (single_rule plan) (both (versions_rule plan start) (both (opening_rule start) rest)) (from_clear 0 plan apart_rule apart_clear)
-      (both_clear (versions_rule plan start) (both (opening_rule start) rest) versions_clear
-      (both_clear (opening_rule start) rest (opening_clear start) (each_clear (lives plan start) (package_rule plan start) package_clear))))))
+  plan_clear : (asks : List AskedValue) → IsClear (plan_rule plan start asks)
+  plan_clear asks =
+      both_clear (line_rule plan) (both (present_rule plan start) (both (vacant_rule plan start) (both (single_rule plan) (both (versions_rule plan start) (both (opening_rule start) (rest asks)))))) (line_clear plan)
+      (both_clear (present_rule plan start) (both (vacant_rule plan start) (both (single_rule plan) (both (versions_rule plan start) (both (opening_rule start) (rest asks))))) present_clear
+      (both_clear (vacant_rule plan start) (both (single_rule plan) (both (versions_rule plan start) (both (opening_rule start) (rest asks)))) vacant_clear
+      (both_clear (single_rule plan) (both (versions_rule plan start) (both (opening_rule start) (rest asks))) (from_clear 0 plan apart_rule apart_clear)
+      (both_clear (versions_rule plan start) (both (opening_rule start) (rest asks)) versions_clear
+      (both_clear (opening_rule start) (rest asks) (opening_clear start) (each_clear (asking (lives plan start) asks) (package_rule plan start) package_clear))))))
 
-  -- an accepted plan is refused for want of memory alone
-  pub fine : {T : Type 0} (r : Result T PlanRefused) → IfErr r (λ e. IfSome (told e) (λ a. plan_rule plan start (Some a))) → IsAccepted plan start → IfErr r (λ e. told e ≡ None)
-  fine (Ok x) refused ok = tt
-  fine (Err e) refused ok = none_told (told e) refused where
-    none_told : (o : Option Refusal) → IfSome o (λ a. plan_rule plan start (Some a)) → o ≡ None
+  -- an accepted plan whose binds are right is refused for want of memory alone
+  pub fine : {T : Type 0} (asks : List AskedValue) (r : Result T PlanRefused) → IfErr r (λ e. IfSome (told e) (λ a. plan_rule plan start asks (Some a))) → IsAccepted plan start → AreBound plan start asks → IfErr r (λ e. told e ≡ None)
+  fine asks (Ok x) refused ok right = tt
+  fine asks (Err e) refused ok right = none_told (told e) refused where
+    none_told : (o : Option Refusal) → IfSome o (λ a. plan_rule plan start asks (Some a)) → o ≡ None
     none_told None h = refl
-    none_told (Some a) h = absurd (plan_clear a (none_refuses plan start ok) h)
+    none_told (Some a) h = absurd (plan_clear asks a (none_refuses plan start asks ok right) h)
 
-  pub passed : {T : Type 0} (r : Result T PlanRefused) → Says (plan_rule plan start) r → OnOk r (IsAccepted plan start)
-  passed (Ok x) h = accepted plan start h
-  passed (Err e) h = tt
+  pub passed : {T : Type 0} (asks : List AskedValue) (r : Result T PlanRefused) → Says (plan_rule plan start asks) r → OnOk r (IsAccepted plan start)
+  passed asks (Ok x) h = accepted plan start asks h
+  passed asks (Err e) h = tt
 
-  pub refused_told : {T : Type 0} (r : Result T PlanRefused) → Says (plan_rule plan start) r → IfErr r (λ e. IfSome (told e) (λ a. plan_rule plan start (Some a)))
-  refused_told (Ok x) h = tt
-  refused_told (Err e) h = h
+  pub bound_if : {T : Type 0} (asks : List AskedValue) (r : Result T PlanRefused) → Says (plan_rule plan start asks) r → OnOk r (AreBound plan start asks)
+  bound_if asks (Ok x) h = all_bound plan start asks h
+  bound_if asks (Err e) h = tt
+
+  pub refused_told : {T : Type 0} (asks : List AskedValue) (r : Result T PlanRefused) → Says (plan_rule plan start asks) r → IfErr r (λ e. IfSome (told e) (λ a. plan_rule plan start asks (Some a)))
+  refused_told asks (Ok x) h = tt
+  refused_told asks (Err e) h = h
 
   pub sound_if : {T : Type 0} (r : Result T PlanRefused) → (IsAccepted plan start → IsSound plan start) → OnOk r (IsAccepted plan start) → OnOk r (IsSound plan start)
   sound_if (Ok x) law ok = law ok

@@ -9,6 +9,9 @@ pub mod Trying
 pub mod Keyed
 pub mod Ordered
 pub mod Gone
+pub mod Binds
+pub mod Taking
+pub mod Greatest
 pub mod Accepting
 pub mod Clear
 pub mod Within

@@ -14,6 +14,8 @@ pub mod Stretches
 pub mod Chains
 pub mod Leaves
 pub mod Gathered
+pub mod Asks
+pub mod Binding
 pub mod Meeting
 pub mod PackageRules
 pub mod Keeping

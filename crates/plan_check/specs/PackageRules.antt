@@ -12,6 +12,8 @@ use Rattle.plan_law.specs.Firm.{IsChained, IsFirm}
 use Rattle.plan_law.specs.Lives.{Life, Meets, Moment, Stretch, commit, never, opening, stretch_of, until}
 use Rattle.plan_law.specs.Accepted.{AreLeft, IsFirmThrough}
 use Rattle.plan_law.specs.Sound.{bars}
+use Rattle.plan_check.specs.Asks.{AskedValue, asking}
+use Rattle.plan_check.specs.Binding.{IsRightBind, binds_rule}
 use Rattle.plan_check.specs.Home.{AreThereAt, among, met_rule}
 use Rattle.plan_check.specs.Leaves.{IsLeafOfAll}
 use Rattle.plan_check.specs.Lives.{lives}
@@ -31,6 +33,16 @@ abbrev pub required_rule : Life → Option Refusal → Type 0
 required_rule x =
     if_brought x.birth (λ g. refuse (fits_required x.package_is ≡ false)
     (refused.RequiredUse x.package_is.facts.id))
+
+-- the binds of what comes are right
+abbrev pub binding_rule : List Group → List Package → Life → AskedValue → Option Refusal → Type 0
+binding_rule plan start x asked = if_brought x.birth (λ g.
+    binds_rule (IsRightBind plan start g x.package_is.facts.enabled) x.package_is.facts.id
+    asked.leaves asked.binds)
+
+-- what comes is as it may be: first its flags, and then its binds
+abbrev pub coming_rule : List Group → List Package → Life → AskedValue → Option Refusal → Type 0
+coming_rule plan start x asked = both (required_rule x) (binding_rule plan start x asked)
 
 -- the leaf to name of what the package wants in this class and may miss in the stretch
 abbrev pub IsMissing :
@@ -114,21 +126,27 @@ finished_rule plan start x = if_brought x.birth (λ g. if_left x.death (
     (refused.Final x.package_is.facts.id
     (lacking_leaf (facts_of (left_of plan start)) Pdepend x.package_is))))
 
--- the rules of one package
-abbrev pub package_rule : List Group → List Package → Life → Option Refusal → Type 0
-package_rule plan start x =
-    both (required_rule x)
-    (both (lasting_rule plan start x)
+-- what it needs is there when it needs that, and what it keeps out isn't
+abbrev pub standing_rule : List Group → List Package → Life → Option Refusal → Type 0
+standing_rule plan start x =
+    both (lasting_rule plan start x)
     (both (unblocked_rule plan start x)
     (both (unbarred_rule plan start x)
-    (both (built_rule plan start x) (finished_rule plan start x)))))
+    (both (built_rule plan start x) (finished_rule plan start x))))
+
+-- the rules of one package, with what it asks
+abbrev pub package_rule :
+    List Group → List Package → Life × AskedValue → Option Refusal → Type 0
+package_rule plan start it =
+    both (coming_rule plan start it.0 it.1) (standing_rule plan start it.0)
 
 -- all rules: those of the whole plan, and then package by package
-abbrev pub plan_rule : List Group → List Package → Option Refusal → Type 0
-plan_rule plan start =
+abbrev pub plan_rule : List Group → List Package → List AskedValue → Option Refusal → Type 0
+plan_rule plan start asks =
     both (line_rule plan)
     (both (present_rule plan start)
     (both (vacant_rule plan start)
     (both (single_rule plan)
     (both (versions_rule plan start)
-    (both (opening_rule start) (each (lives plan start) (package_rule plan start)))))))
+    (both (opening_rule start)
+    (each (asking (lives plan start) asks) (package_rule plan start)))))))

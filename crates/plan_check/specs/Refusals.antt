@@ -3,6 +3,7 @@ use Rattle.std.specs.Prelude.{ℕ, List, Option, None, Some, IfSome, MatchResult
 use Rattle.std.specs.Option.{option_map}
 use Rattle.dep_atom.specs.Values.{AtomValue, atom_value}
 use Rattle.dep_atom.specs.declared.package.PackageId.{PackageId}
+use Rattle.dep_atom.specs.declared.slot.Bind.{Bind}
 use Rattle.pkg_state.specs.Fault as state
 use Rattle.pkg_state.specs.declared.class.Class.{Class}
 use Rattle.plan_check.specs.declared.refusal.PlanRefused.{PlanRefused}
@@ -14,6 +15,7 @@ pub data Refusal : Type 0 where
   Occupied : (g : ℕ) (id other : PackageId) → Refusal
   Opening : (fault : state.Fault) → Refusal
   RequiredUse : (id : PackageId) → Refusal
+  Binding : (id : PackageId) (leaf : Option AtomValue) (found : Option Bind) → Refusal
   Unsatisfied : (g : ℕ) (id : PackageId) (class : Class) (leaf : Option AtomValue) → Refusal
   Unsafe : (id : PackageId) (class : Class) (leaf : Option AtomValue) (meeting : List ℕ) → Refusal
   Blocked : (id other : PackageId) → Refusal
@@ -28,6 +30,7 @@ told (refused.Absent g id) = Some (Absent g id)
 told (refused.Occupied g id other) = Some (Occupied g id other)
 told (refused.Opening fault) = option_map Opening (state.told fault)
 told (refused.RequiredUse id) = Some (RequiredUse id)
+told (refused.Binding id leaf found) = Some (Binding id (option_map atom_value leaf) found)
 told (refused.Unsatisfied g id class leaf) =
     Some (Unsatisfied g id class (option_map atom_value leaf))
 told (refused.Unsafe id class leaf meeting) =

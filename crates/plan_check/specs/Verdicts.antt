@@ -7,6 +7,11 @@ abbrev pub nothing : {E : Type 0} → Option E → Type 0
 nothing None = ⊤
 nothing (Some e) = ⊥
 
+-- refuses with what is given
+abbrev pub fail : {E : Type 0} → E → Option E → Type 0
+fail e None = ⊥
+fail e (Some f) = f ≡ e
+
 -- refuses with what is given exactly where the fact fails
 abbrev pub demand : {E : Type 0} → Type 0 → E → Option E → Type 0
 demand fact e None = fact

@@ -14,7 +14,7 @@ use pms_names::Flags;
 use std::alloc::{AllocError, Global};
 
 /// Puts the lives whose packages the atom matches behind others.
-fn add_matching<'a>(
+pub(crate) fn add_matching<'a>(
     index: &Index<'a>,
     atom: &Atom,
     asker: &Flags,

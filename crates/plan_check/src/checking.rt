@@ -1,14 +1,19 @@
 ghost use Rattle.std.specs.Prelude.{◌≡◌, IfErr, IfSome, None, OnOk, Some, map};
+ghost use Rattle.std.specs.Option.{option_map};
 ghost use Rattle.basics.specs.Members.{Has};
 ghost use Rattle.plan_law.specs.Accepted.{IsAccepted};
 ghost use Rattle.plan_law.specs.Sound.{IsSound};
+ghost use Rattle.plan_check.specs.Asks.{all_asked, asking, what_asked};
+ghost use Rattle.plan_check.specs.Binding.{AreBound};
 ghost use Rattle.plan_check.specs.Index.{IsIndex, all_lives, plan_of, start_of};
 ghost use Rattle.plan_check.specs.Lives.{life_of};
 ghost use Rattle.plan_check.specs.PackageRules.{left_of, package_rule, plan_rule};
 ghost use Rattle.plan_check.specs.Refusals.{Says, told};
 ghost use Rattle.plan_check.specs.Verdicts.{each};
 
+use crate::asked::{Asked, next_asked, taken_behind};
 use crate::blocked::{judge_unbarred, judge_unblocked};
+use crate::coming::judge_what_comes;
 use crate::finished::judge_finished;
 use crate::index::Index;
 use crate::indexing::{index_of, lines_of};
@@ -22,7 +27,6 @@ use crate::plan::Plan;
 use crate::presence::judge_present;
 use crate::reach::Reach;
 use crate::refusal::PlanRefused;
-use crate::required::judge_required;
 use crate::single::judge_single;
 use crate::vacancy::judge_vacant;
 use crate::versions::judge_versions;
@@ -34,15 +38,17 @@ fn judge_package(
     alloc: Global,
     index: &Index<'_>,
     left: &Packages<'_>,
+    asked: Option<&Asked<'_>>,
     x: &Life<'_>,
 ) -> Result<(), PlanRefused>
     requires is { IsIndex index.now }
     requires left { map (λ p. p.now) left.now.all.items ≡
         left_of (plan_of index.now) (start_of index.now) }
     requires x { Has (all_lives index.now) (life_of x.now) }
-    ensures { Says (package_rule (plan_of index.now) (start_of index.now) (life_of x.now)) result }
+    ensures { Says (package_rule (plan_of index.now) (start_of index.now)
+        (life_of x.now, what_asked (option_map (λ a. a.now) asked.entry))) result }
 {
-    judge_required(x)?;
+    judge_what_comes(alloc, index, asked, x)?;
     judge_lasting(alloc, index, left, x)?;
     judge_unblocked(alloc, index, x)?;
     judge_unbarred(alloc, index, x)?;
@@ -50,22 +56,31 @@ fn judge_package(
     judge_finished(left, x)
 }
 
-fn judge_packages(alloc: Global, index: &Index<'_>, left: &Packages<'_>) -> Result<(), PlanRefused>
+fn judge_packages(
+    alloc: Global,
+    index: &Index<'_>,
+    left: &Packages<'_>,
+    asks: &[Asked<'_>],
+) -> Result<(), PlanRefused>
     requires is { IsIndex index.now }
     requires left { map (λ p. p.now) left.now.all.items ≡
         left_of (plan_of index.now) (start_of index.now) }
-    ensures { Says (each (all_lives index.now)
+    ensures { Says (each (asking (all_lives index.now) (all_asked asks.now))
         (package_rule (plan_of index.now) (start_of index.now))) result }
 {
+    let mut taken = 0;
     for x in index.lives {
-        judge_package(alloc, index, left, x)?;
+        let asked = next_asked(x.birth, asks, taken);
+        judge_package(alloc, index, left, asked, x)?;
+        taken = taken_behind(x.birth, asks, taken);
     }
     Ok(())
 }
 
-fn judge_all(alloc: Global, index: &Index<'_>) -> Result<(), PlanRefused>
+fn judge_all(alloc: Global, index: &Index<'_>, asks: &[Asked<'_>]) -> Result<(), PlanRefused>
     requires { IsIndex index.now }
-    ensures { Says (plan_rule (plan_of index.now) (start_of index.now)) result }
+    ensures { Says (plan_rule (plan_of index.now) (start_of index.now) (all_asked asks.now))
+        result }
 {
     judge_lines(alloc, index.reach)?;
     judge_present(alloc, index)?;
@@ -74,29 +89,37 @@ fn judge_all(alloc: Global, index: &Index<'_>) -> Result<(), PlanRefused>
     judge_versions(alloc, index)?;
     judge_opening(alloc, index.start)?;
     let left = Packages::left(alloc, index.lives)?;
-    judge_packages(alloc, index, &left)
+    judge_packages(alloc, index, &left, asks)
 }
 
-fn judge(alloc: Global, start: &[Pkg], plan: &Plan) -> Result<(), PlanRefused>
-    ensures { Says (plan_rule plan.now start.now) result }
+fn judge(alloc: Global, start: &[Pkg], plan: &Plan, asks: &[Asked<'_>]) -> Result<(), PlanRefused>
+    ensures { Says (plan_rule plan.now start.now (all_asked asks.now)) result }
 {
     let groups = plan.groups();
     let reach = Reach::new(alloc, groups)?;
     let lives = lives_of(alloc, start, groups)?;
     let lines = lines_of(alloc, &lives)?;
     let index = index_of(alloc, start, &reach, &lives, &lines)?;
-    judge_all(alloc, &index)
+    judge_all(alloc, &index, asks)
 }
 
-/// Accepts a plan over the packages that are there, or tells the first rule that it breaks.
-pub fn check(alloc: Global, start: &[Pkg], plan: &Plan) -> Result<(), PlanRefused>
+/// Accepts a plan over the packages that are there, or tells the first rule that it breaks. The
+/// additions of the plan ask in their order; past the last of these asks nothing is asked.
+pub fn check(
+    alloc: Global,
+    start: &[Pkg],
+    plan: &Plan,
+    asks: &[Asked<'_>],
+) -> Result<(), PlanRefused>
     ensures ok { OnOk result (IsAccepted plan.now start.now) }
+    ensures bound { OnOk result (AreBound plan.now start.now (all_asked asks.now)) }
     ensures sound { OnOk result (IsSound plan.now start.now) }
-    ensures refused { IfErr result (λ e.
-        IfSome (told e) (λ refusal. plan_rule plan.now start.now (Some refusal))) }
-    ensures fine { IsAccepted plan.now start.now → IfErr result (λ e. told e ≡ None) }
+    ensures refused { IfErr result (λ e. IfSome (told e) (λ refusal.
+        plan_rule plan.now start.now (all_asked asks.now) (Some refusal))) }
+    ensures fine { IsAccepted plan.now start.now →
+        AreBound plan.now start.now (all_asked asks.now) → IfErr result (λ e. told e ≡ None) }
 {
     let _groups = plan.groups();
     accepted_plans_are_sound();
-    judge(alloc, start, plan)
+    judge(alloc, start, plan, asks)
 }

@@ -5,23 +5,25 @@
 //! other; what is removed stands on its line just before; what stands on the line of an addition
 //! goes in the same group; a group brings at most one package to a line; no version is there on two
 //! lines at one time; the packages are consistent to begin with. Then package by package: the flags
-//! of an addition go together; what it needs while it runs is there all through its life; what it
-//! blocks isn't there with it; what bars it isn't there when it may come; what it wants for its build
-//! is there whenever it may come; and what it wants later is there at the end.
+//! of an addition go together; its slot operators are bound to the greatest packages beside it;
+//! what it needs while it runs is there all through its life; what it blocks isn't there with it;
+//! what bars it isn't there when it may come; what it wants for its build is there whenever it may
+//! come; and what it wants later is there at the end.
 //!
-//! **A contract sees** a [`Plan`] as the list of its groups, each as `plan_law` has it, and a
-//! package as a record.
+//! **A contract sees** a [`Plan`] as the list of its groups, each as `plan_law` has it, a package as
+//! a record, and what an addition asks of the binds ([`Asked`]) as its leaves and binds.
 //!
 //! **Proved**: a plan is made of just those groups that wait for earlier ones alone, at most 4,096.
 //! [`Reach`] tells of each two groups whether one reaches the other. [`lives_of`] lists the lives of
 //! a plan over packages, each of them and no other, in the order of packages. [`check`] answers Ok
-//! exactly on accepted plans (`IsAccepted` of `plan_law`), but for want of memory, and these are
-//! sound over every order of their groups. Any other plan is refused by the first rule that it
-//! breaks (`plan_rule` of `specs/PackageRules.antt`), with the first package that breaks it, and
-//! with the leaf, the other package or the groups that the rule names: of several groups in disorder
-//! the first two by their line and then by their numbers. What a package may miss while it runs is
-//! told as unsatisfied where it is missing when the package comes or, if that stays, at the end; and
-//! as unsafe where it is missing in between alone.
+//! exactly on accepted plans (`IsAccepted` of `plan_law`) whose binds are right (`AreBound` of
+//! `specs/Binding.antt`), but for want of memory, and these are sound over every order of their
+//! groups. Any other plan is refused by the first rule that it breaks (`plan_rule` of
+//! `specs/PackageRules.antt`), with the first package that breaks it, and with the leaf, the bind,
+//! the other package or the groups that the rule names: of several groups in disorder the first two
+//! by their line and then by their numbers. What a package may miss while it runs is told as
+//! unsatisfied where it is missing when the package comes or, if that stays, at the end; and as
+//! unsafe where it is missing in between alone.
 //!
 //! **Only tested**: that with ample memory an accepted plan is accepted.
 //!
@@ -33,15 +35,18 @@
 //!
 //! ```
 //! let plan = Plan::new(groups).ok_or(Fault::Form)?;
-//! check(alloc, &installed, &plan)?;
+//! check(alloc, &installed, &plan, &asks)?;
 //! ```
 #![tactic(auto)]
 
+mod asked;
+mod binding;
 mod blocked;
 mod chain;
 mod chains;
 mod change;
 mod checking;
+mod coming;
 mod finished;
 mod firm;
 mod home;
@@ -67,6 +72,7 @@ mod unmet;
 mod vacancy;
 mod versions;
 
+pub use asked::Asked;
 pub use checking::check;
 pub use life::{Life, Moment};
 pub use lives::lives_of;

@@ -1,4 +1,4 @@
-use dep_atom::{Atom, PackageId};
+use dep_atom::{Atom, Bind, PackageId};
 use pkg_state::{Broken, Class, LineName};
 use std::alloc::{AllocError, AllocFailed};
 use thiserror::Error;
@@ -29,6 +29,14 @@ pub enum PlanRefused {
     #[error("the flags of a package that is added do not go together")]
     RequiredUse {
         package: PackageId,
+    },
+    /// The first place where the binds aren't right: its leaf, or none behind the last leaf that
+    /// asks, and the bind that stands there, or none behind the last bind.
+    #[error("a slot operator of a package that is added is not bound as it should be")]
+    Binding {
+        package: PackageId,
+        leaf: Option<Atom>,
+        found: Option<Bind>,
     },
     #[error("what a package needs while it runs is missing")]
     Unsatisfied {

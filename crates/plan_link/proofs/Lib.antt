@@ -4,3 +4,4 @@ pub mod Pairs
 pub mod Ruling
 pub mod Forming
 pub mod Named
+pub mod Taking

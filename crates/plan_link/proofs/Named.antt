@@ -1,6 +1,6 @@
 -- The first package that an addition names is the first of those of its name.
 use denote.Ref.{Bor}
-use Rattle.std.proofs.Common.{◌≡◌, ◌∙◌, Bool, List, [], ◌∷◌, Option, Vec, ◌+◌, ◌<◌, ◌≤◌, None, Some, ap, bytes_eq, cond, drop, get_or, inl, inr, length, map, refl, subst, sym, true, false, ℕ}
+use Rattle.std.proofs.Common.{◌≡◌, ◌∙◌, Bool, List, [], ◌∷◌, Option, Vec, ◌<◌, ◌≤◌, None, Some, ap, bytes_eq, cond, drop, get_or, inl, inr, length, map, refl, subst, sym, true, false, ℕ}
 use Rattle.std.proofs.lemmas.Bool.{cases_Bool}
 use Rattle.std.proofs.lemmas.List.{drop_all}
 use Rattle.basics.proofs.Lists.{at_drop}

@@ -1,6 +1,6 @@
 -- Dependencies as they are when their package enters: each leaf that asks for a bind takes the next
 -- one, in written order, and a slot operator that is bound to no subslot is dropped.
-use Rattle.std.specs.Prelude.{◌&&◌, ℕ, Bool, true, false, not, List, [], ◌∷◌, Option, None, Some, if◌then◌else◌}
+use Rattle.std.specs.Prelude.{◌&&◌, ℕ, Bool, true, false, not, List, [], ◌∷◌, ◌++◌, Option, None, Some, if◌then◌else◌}
 use Rattle.dep_atom.specs.Values.{AtomValue, with_slot}
 use Rattle.dep_atom.specs.declared.slot.Bind.{Bind}
 use Rattle.dep_atom.specs.declared.slot.SlotPart.{SlotPart}
@@ -63,6 +63,17 @@ abbrev mutual
   pub all_left : (List ℕ → Bool) → List Bind → Dependencies → List Bind
   all_left on binds no_trees = binds
   all_left on binds (tree t ts) = all_left on (left on binds t) ts
+
+-- the leaves that ask for a bind, as they are written, in the order in which they take binds
+abbrev mutual
+  pub asking_leaves : (List ℕ → Bool) → Tree (Opener (List ℕ)) AtomValue → List AtomValue
+  asking_leaves on (leaf a) = if asks a then a ∷ [] else []
+  asking_leaves on (group opener ts) =
+      if lets_in on opener then all_asking_leaves on ts else []
+
+  pub all_asking_leaves : (List ℕ → Bool) → Dependencies → List AtomValue
+  all_asking_leaves on no_trees = []
+  all_asking_leaves on (tree t ts) = asking_leaves on t ++ all_asking_leaves on ts
 
 -- trees as they enter with these binds, where `on` says which flags are on
 abbrev mutual

@@ -7,8 +7,11 @@ use Rattle.plan_text.specs.Faults.{IsFaulty, TellsLine}
 use Rattle.plan_text.specs.Plans.{GroupValue}
 use Rattle.plan_text.specs.Texts.{IsPlan, plan_text}
 use Rattle.plan_text.specs.declared.fault.PlanTextFault.TheVariants as texts
+use Rattle.plan_check.specs.Asks.{AskedValue}
+use Rattle.plan_check.specs.Binding.{AreBound}
 use Rattle.plan_check.specs.PackageRules.{plan_rule}
 use Rattle.plan_check.specs.Refusals.{told}
+use Rattle.plan_link.specs.Asking.{AreAsked}
 use Rattle.plan_link.specs.Faults.{link_rule}
 use Rattle.plan_link.specs.Linked.{IsLinked}
 use Rattle.plan_link.specs.declared.fault.LinkFault.TheVariants as links
@@ -20,19 +23,23 @@ pub record Spells (text : List ℕ) (groups : List GroupValue) : Type 0 where
   pub form : IsPlan groups
   pub spelled : text ≡ plan_text groups
 
--- the text stands for the plan, over the offered packages
-pub record StandsFor (text : List ℕ) (offered : List Package) (plan : List law.Group) : Type 0 where
+-- the text stands for the plan, over the offered packages, and its additions ask this
+pub record StandsFor (text : List ℕ) (offered : List Package) (plan : List law.Group)
+    (asks : List AskedValue) : Type 0 where
   pub groups : List GroupValue
   pub spells : Spells text groups
   pub linked : IsLinked offered groups plan
+  pub asked : AreAsked offered groups asks
 
--- nothing is wrong with the text of these groups: each addition is offered, and whatever plan it
--- stands for is accepted
+-- nothing is wrong with the text of these groups: each addition is offered, whatever plan it
+-- stands for is accepted, and the binds are right
 pub record IsRight (text : List ℕ) (offered start : List Package)
     (groups : List GroupValue) : Type 0 where
   pub spells : Spells text groups
   pub offers : link_rule offered groups None
   pub accepted : (plan : List law.Group) → IsLinked offered groups plan → IsAccepted plan start
+  pub bound : (plan : List law.Group) (asks : List AskedValue) →
+      IsLinked offered groups plan → AreAsked offered groups asks → AreBound plan start asks
 
 -- the fault is the first one: of the text, of its additions, or of the plan that it stands for
 abbrev pub Tells : List ℕ → List Package → List Package → PlanFault → Type 0
@@ -42,8 +49,8 @@ Tells text offered start (Link e) =
     e ≢ links.Memory →
     (groups : List GroupValue) × Spells text groups × link_rule offered groups (Some e)
 Tells text offered start (Refused e) =
-    IfSome (told e) (λ refusal. (plan : List law.Group) × StandsFor text offered plan
-    × plan_rule plan start (Some refusal))
+    IfSome (told e) (λ refusal. (plan : List law.Group) × (asks : List AskedValue)
+    × StandsFor text offered plan asks × plan_rule plan start asks (Some refusal))
 
 -- memory is wanting
 abbrev pub IsWant : PlanFault → Type 0

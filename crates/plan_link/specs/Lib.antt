@@ -2,4 +2,5 @@ pub mod Entering
 pub mod Offers
 pub mod Faults
 pub mod Linked
+pub mod Asking
 pub mod Judged

@@ -27,7 +27,7 @@ fn is_open(slot: &SlotPart) -> bool
     }
 }
 
-fn asks(atom: &Atom) -> bool
+pub(crate) fn asks(atom: &Atom) -> bool
     ensures { result ≡ asks (atom_value atom.now) }
 {
     !is_block(atom) && is_open(&atom.slot)

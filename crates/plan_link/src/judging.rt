@@ -2,9 +2,12 @@ ghost use Rattle.std.specs.Prelude.{List, IfErr, IfOk};
 ghost use Rattle.plan_law.specs.Accepted.{IsAccepted};
 ghost use Rattle.plan_law.specs.Sound.{IsSound};
 ghost use Rattle.plan_text.specs.Plans.{GroupValue};
+ghost use Rattle.plan_check.specs.Asks.{AskedValue};
+ghost use Rattle.plan_check.specs.Binding.{AreBound};
 ghost use Rattle.plan_link.specs.Judged.{IsRight, IsWant, StandsFor, Tells};
 
-use crate::fault::PlanFault;
+use crate::asking::asks_of;
+use crate::fault::{LinkFault, PlanFault};
 use crate::linking::link;
 use pkg_state::Pkg;
 use plan_check::{Plan, check};
@@ -18,7 +21,8 @@ pub fn judge_plan(
     offered: &[Pkg],
     start: &[Pkg],
 ) -> Result<Plan, PlanFault>
-    ensures plan { IfOk result (λ plan. StandsFor text.now offered.now plan) }
+    ensures plan { IfOk result (λ plan. (asks : List AskedValue)
+        × StandsFor text.now offered.now plan asks × AreBound plan start.now asks) }
     ensures accepted { IfOk result (λ plan. IsAccepted plan start.now) }
     ensures sound { IfOk result (λ plan. IsSound plan start.now) }
     ensures fault { IfErr result (Tells text.now offered.now start.now) }
@@ -33,7 +37,11 @@ pub fn judge_plan(
         Ok(plan) => plan,
         Err(fault) => return Err(PlanFault::Link(fault)),
     };
-    match check(alloc, start, &plan) {
+    let asks = match asks_of(alloc, &read, offered) {
+        Ok(asks) => asks,
+        Err(_) => return Err(PlanFault::Link(LinkFault::Memory)),
+    };
+    match check(alloc, start, &plan, &asks) {
         Ok(()) => Ok(plan),
         Err(refused) => Err(PlanFault::Refused(refused)),
     }

@@ -13,10 +13,11 @@
 //! addition by addition (`IsLinked` of `specs/Linked.antt`). But for want of memory it is refused
 //! exactly where an addition names no offered package, or where it has a flag that its package
 //! doesn't know, for the first such addition and flag (`link_rule` of `specs/Faults.antt`).
-//! [`judge_plan`] accepts a text exactly where it is that of a plan in form, each addition is
-//! offered, and the plan that it stands for is accepted over the packages that are there, hence
-//! sound over every order of its groups; any other text is refused for the first fault of these
-//! three (`specs/Judged.antt`).
+//! [`asks_of`] tells of each addition which leaves ask for a bind, as they are written, and which
+//! binds the text has (`specs/Asking.antt`). [`judge_plan`] accepts a text exactly where it is that
+//! of a plan in form, each addition is offered, the plan that it stands for is accepted over the
+//! packages that are there, hence sound over every order of its groups, and its binds are right; any
+//! other text is refused for the first fault of these (`specs/Judged.antt`).
 //!
 //! **Only tested**: that with ample memory a text is linked and judged.
 //!
@@ -28,6 +29,7 @@
 //! ```
 #![tactic(auto)]
 
+mod asking;
 mod entering;
 mod fault;
 mod finding;
@@ -38,6 +40,7 @@ mod linking;
 mod offers;
 mod package;
 
+pub use asking::asks_of;
 pub use fault::{LinkFault, PlanFault};
 pub use judging::judge_plan;
 pub use linking::link;

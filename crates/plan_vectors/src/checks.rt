@@ -5,8 +5,8 @@ use crate::reading::packages;
 use crate::refused::refused_text;
 use crate::texts::{cut, unescaped};
 use pkg_state::Pkg;
-use plan_check::{Plan, PlanRefused, check};
-use plan_link::link;
+use plan_check::{Asked, Plan, PlanRefused, check};
+use plan_link::{asks_of, link};
 use repair_check::check_repair;
 use std::alloc::Global;
 
@@ -20,7 +20,7 @@ fn told(alloc: Global, answer: Result<(), PlanRefused>) -> Option<String> {
 
 fn check_over(alloc: Global, start: &[Pkg], groups: &str) -> Option<String> {
     let plan = plan(alloc, groups)?;
-    told(alloc, check(alloc, start, &plan))
+    told(alloc, check(alloc, start, &plan, &[]))
 }
 
 /// Whether the plan of these groups is accepted over the packages that are installed.
@@ -30,28 +30,35 @@ pub(crate) fn check_groups(alloc: Global, parts: &str) -> Option<String> {
     check_over(alloc, &start, groups)
 }
 
-fn repair_over(alloc: Global, start: &[Pkg], plan: &Plan) -> Option<String> {
+fn repair_over(alloc: Global, start: &[Pkg], plan: &Plan, asks: &[Asked<'_>]) -> Option<String> {
     if plan.groups().len() > 1 {
         return None;
     }
-    told(alloc, check_repair(alloc, start, plan))
+    told(alloc, check_repair(alloc, start, plan, asks))
 }
 
-/// The plan of a text; none where the text has a fault or names what isn't offered.
-fn linked(alloc: Global, offered: &[Pkg], text: &str) -> Option<Plan> {
+/// What becomes of a linked text.
+fn repair_linked(
+    alloc: Global,
+    start: &[Pkg],
+    offered: &[Pkg],
+    text: &plan_text::Plan,
+) -> Option<String> {
+    let plan = link(alloc, text, offered).ok()?;
+    let asks = asks_of(alloc, text, offered).ok()?;
+    repair_over(alloc, start, &plan, &asks)
+}
+
+/// The same of a text; none where it has a fault or names what isn't offered.
+fn repair_text(alloc: Global, start: &[Pkg], offered: &[Pkg], text: &str) -> Option<String> {
     let text = plan_text::Plan::parse(alloc, text).ok()?;
-    link(alloc, &text, offered).ok()
-}
-
-fn plan_of(alloc: Global, offered: &str, text: &str) -> Option<Plan> {
-    let text = unescaped(alloc, text).ok()?;
-    let offered = packages(alloc, offered)?;
-    linked(alloc, &offered, text.as_str())
+    repair_linked(alloc, start, offered, &text)
 }
 
 fn repair_offered(alloc: Global, start: &[Pkg], offered: &str, text: &str) -> Option<String> {
-    let plan = plan_of(alloc, offered, text)?;
-    repair_over(alloc, start, &plan)
+    let text = unescaped(alloc, text).ok()?;
+    let offered = packages(alloc, offered)?;
+    repair_text(alloc, start, &offered, text.as_str())
 }
 
 /// Whether the plan of a text of at most one group repairs the packages that are installed.

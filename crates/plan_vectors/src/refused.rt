@@ -3,7 +3,7 @@
 use crate::answers::{
     class_name, push_broken, push_id, push_lack, push_leaf, push_number, push_one, push_two,
 };
-use dep_atom::{Atom, PackageId};
+use dep_atom::{Atom, Bind, PackageId};
 use pkg_state::{Class, LineName};
 use plan_check::PlanRefused;
 use std::alloc::{AllocError, Global};
@@ -58,6 +58,19 @@ fn push_need(
     out.push_str(" ")?;
     out.push_str(class_name(class))?;
     push_leaf(alloc, out, leaf)
+}
+
+/// Adds a space, and the bind as `SLOT/SUBSLOT`, or a hyphen where there is none.
+fn push_bind(out: &mut String, bind: &Option<Bind>) -> Result<(), AllocError> {
+    match bind {
+        Some(bind) => {
+            out.push_str(" ")?;
+            out.push_str(bind.slot.text())?;
+            out.push_str("/")?;
+            out.push_str(bind.subslot.text())
+        }
+        None => out.push_str(" -"),
+    }
 }
 
 /// Adds the groups that change what a package needs.
@@ -136,6 +149,14 @@ pub(crate) fn push_refused(
         PlanRefused::RequiredUse { package } => push_one(out, "flags", package),
         PlanRefused::Blocked { package, other } => push_two(out, "blocked", package, other),
         PlanRefused::Final { package, leaf } => push_lack(alloc, out, "final", package, leaf),
+        PlanRefused::Binding {
+            package,
+            leaf,
+            found,
+        } => {
+            push_lack(alloc, out, "binding", package, leaf)?;
+            push_bind(out, found)
+        }
         _ => push_missing(alloc, out, refused),
     }
 }

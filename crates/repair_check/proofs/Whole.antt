@@ -1,10 +1,11 @@
 -- A run of a whole plan with at most one group leaves what is behind that group.
-use Rattle.std.proofs.Common.{◌≡◌, ◌≤◌, ◌<◌, ℕ, List, [], ◌∷◌, length, inl, refl, ap, sym, subst, arith}
+use Rattle.std.proofs.Common.{◌≡◌, ◌≤◌, ◌<◌, ℕ, List, [], ◌∷◌, length, inl, ap, sym, subst, arith}
 use Rattle.std.specs.Prelude.{Result, Ok, Err, OnOk}
 use Rattle.pkg_state.specs.Consistent.{AreConsistent}
 use Rattle.pkg_state.specs.Package.{Package}
 use Rattle.plan_law.specs.Plans.{Group, GoesOn, after, changed, group_at}
 use Rattle.plan_law.specs.Sound.{IsWhole}
+use Rattle.plan_check.specs.Asks.{AskedValue}
 use Rattle.plan_check.specs.declared.refusal.PlanRefused.{PlanRefused}
 use Rattle.repair_check.specs.Repair.{IsRepair, behind}
 use Rattle.repair_check.proofs.Staying.{all_stay}
@@ -24,8 +25,8 @@ behind_whole (g ∷ []) start (h ∷ []) few w = ap (λ (n : ℕ). changed (grou
 behind_whole (g ∷ []) start (h ∷ k ∷ run) few w = absurd (none_twice g h k run w.run_is.0 w.run_is.3)
 behind_whole (g ∷ f ∷ plan) start run few w = absurd (omega (arith, few))
 
-module _ (plan : List Group) (start : List Package) (few : length plan ≤ 1) where
+module _ (plan : List Group) (start : List Package) (asks : List AskedValue) (few : length plan ≤ 1) where
   -- behind a run of the whole plan the packages go together
-  pub wholly : {T : Type 0} (r : Result T PlanRefused) → OnOk r (IsRepair plan start) → OnOk r ((run : List ℕ) → IsWhole plan run → AreConsistent (after plan start run))
+  pub wholly : {T : Type 0} (r : Result T PlanRefused) → OnOk r (IsRepair plan start asks) → OnOk r ((run : List ℕ) → IsWhole plan run → AreConsistent (after plan start run))
   wholly (Ok x) h = λ run w. subst AreConsistent (sym (behind_whole plan start run few w)) h.consistent
   wholly (Err e) h = tt

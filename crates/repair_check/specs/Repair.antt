@@ -8,6 +8,8 @@ use Rattle.pkg_state.specs.Package.{Package, line_of}
 use Rattle.pkg_state.specs.declared.class.Class.TheVariants.{Rdepend}
 use Rattle.plan_law.specs.Accepted.{IsAccepted}
 use Rattle.plan_law.specs.Plans.{Group, changed, group_at}
+use Rattle.plan_check.specs.Asks.{AskedValue}
+use Rattle.plan_check.specs.Binding.{AreBound}
 use Rattle.plan_check.specs.PackageRules.{plan_rule}
 use Rattle.plan_check.specs.Refusals.{Refusal, Refusal as refused}
 use Rattle.plan_check.specs.Verdicts.{both}
@@ -34,10 +36,13 @@ is_elsewhere lines p = not (list_any (λ line. bytes_eq line (line_of p.facts)) 
 abbrev pub behind : List Group → List Package → List Package
 behind plan start = changed (group_at plan 0) start
 
--- the plan repairs the packages
-pub record IsRepair (plan : List Group) (start : List Package) : Type 0 where
+-- the plan repairs the packages, where its additions ask this
+pub record IsRepair (plan : List Group) (start : List Package)
+    (asks : List AskedValue) : Type 0 where
   -- it is accepted over them as if they needed nothing, so what comes fits
   pub accepted : IsAccepted plan (map bare start)
+  -- its binds are right
+  pub bound : AreBound plan (map bare start) asks
   -- and what is there then goes together
   pub consistent : AreConsistent (behind plan start)
 
@@ -56,6 +61,7 @@ consistent_rule ps (Some e) =
     (fault : state.Fault) × state.IsFirstFault ps fault × (e ≡ refusal_of fault)
 
 -- the rules for what comes, and then that for what is there
-abbrev pub repair_rule : List Group → List Package → Option Refusal → Type 0
-repair_rule plan start =
-    both (plan_rule plan (map bare start)) (consistent_rule (behind plan start))
+abbrev pub repair_rule :
+    List Group → List Package → List AskedValue → Option Refusal → Type 0
+repair_rule plan start asks =
+    both (plan_rule plan (map bare start) asks) (consistent_rule (behind plan start))

@@ -4,13 +4,14 @@ ghost use Rattle.pkg_state.specs.Consistent.{AreConsistent};
 ghost use Rattle.pkg_state.specs.Fault as state;
 ghost use Rattle.plan_law.specs.Plans.{after};
 ghost use Rattle.plan_law.specs.Sound.{IsWhole};
+ghost use Rattle.plan_check.specs.Asks.{all_asked};
 ghost use Rattle.plan_check.specs.Refusals.{Says, told};
 ghost use Rattle.repair_check.specs.Repair.{IsRepair, consistent_rule, refusal_of, repair_rule};
 
 use crate::bare::all_bare;
 use crate::behind::packages_behind;
 use pkg_state::{Broken, Class, Pkg, consistent};
-use plan_check::{Plan, PlanRefused, check};
+use plan_check::{Asked, Plan, PlanRefused, check};
 use std::alloc::Global;
 
 /// What is wrong with the packages, as the rule that fits tells it.
@@ -48,11 +49,11 @@ fn judge_packages(alloc: Global, packages: &[Pkg]) -> Result<(), PlanRefused>
     }
 }
 
-fn judge(alloc: Global, start: &[Pkg], plan: &Plan) -> Result<(), PlanRefused>
-    ensures { Says (repair_rule plan.now start.now) result }
+fn judge(alloc: Global, start: &[Pkg], plan: &Plan, asks: &[Asked<'_>]) -> Result<(), PlanRefused>
+    ensures { Says (repair_rule plan.now start.now (all_asked asks.now)) result }
 {
     let bare = all_bare(alloc, start)?;
-    check(alloc, &bare, plan)?;
+    check(alloc, &bare, plan, asks)?;
     let packages = packages_behind(alloc, start, plan)?;
     judge_packages(alloc, &packages)
 }
@@ -60,14 +61,20 @@ fn judge(alloc: Global, start: &[Pkg], plan: &Plan) -> Result<(), PlanRefused>
 /// Accepts a plan of at most one group that repairs the packages, or tells the first rule that it
 /// breaks. The packages that are there may be broken; two of them on one line are told as a broken
 /// opening, and one version on two lines is told as in any plan.
-pub fn check_repair(alloc: Global, start: &[Pkg], plan: &Plan) -> Result<(), PlanRefused>
+pub fn check_repair(
+    alloc: Global,
+    start: &[Pkg],
+    plan: &Plan,
+    asks: &[Asked<'_>],
+) -> Result<(), PlanRefused>
     requires { length plan.now ≤ 1 }
-    ensures ok { OnOk result (IsRepair plan.now start.now) }
+    ensures ok { OnOk result (IsRepair plan.now start.now (all_asked asks.now)) }
     ensures whole { OnOk result ((run : List ℕ) → IsWhole plan.now run →
         AreConsistent (after plan.now start.now run)) }
-    ensures refused { IfErr result (λ e.
-        IfSome (told e) (λ refusal. repair_rule plan.now start.now (Some refusal))) }
-    ensures fine { IsRepair plan.now start.now → IfErr result (λ e. told e ≡ None) }
+    ensures refused { IfErr result (λ e. IfSome (told e) (λ refusal.
+        repair_rule plan.now start.now (all_asked asks.now) (Some refusal))) }
+    ensures fine { IsRepair plan.now start.now (all_asked asks.now) →
+        IfErr result (λ e. told e ≡ None) }
 {
-    judge(alloc, start, plan)
+    judge(alloc, start, plan, asks)
 }

@@ -8,15 +8,16 @@
 //! **A contract sees** a plan and packages as `plan_check` and `pkg_state` have them.
 //!
 //! **Proved**: [`check_repair`] answers Ok exactly on repairs (`IsRepair` of `specs/Repair.antt`),
-//! but for want of memory. Behind a run of the whole plan the packages are consistent then. Any
-//! other plan is refused by the first rule that it breaks (`repair_rule`).
+//! but for want of memory; the binds of what comes are right then, too. Behind a run of the whole
+//! plan the packages are consistent then. Any other plan is refused by the first rule that it breaks
+//! (`repair_rule`).
 //!
 //! **Only tested**: that with ample memory a repair is accepted.
 //!
 //! It takes the time of a check, and of a copy of all packages.
 //!
 //! ```
-//! check_repair(alloc, &installed, &plan)?;
+//! check_repair(alloc, &installed, &plan, &asks)?;
 //! ```
 #![tactic(auto)]
 

@@ -1,4 +1,3 @@
-use Rattle.std.proofs.Common.{drop}
 use Rattle.plan_check.specs.Lives.{lives_of}
 use Rattle.plan_check.specs.Meeting.{MayMeet}
 use Rattle.plan_check.specs.Stretches.{stretch_value}

@@ -1,0 +1,9 @@
+use Rattle.std.proofs.Common.{length}
+use Rattle.plan_check.specs.Index.{plan_of, start_of}
+use Rattle.plan_check.specs.Lives.{life_of}
+use Rattle.plan_check.proofs.Judged.{commit_within}
+use Rattle.plan_check.proofs.Within.{lives_within}
+use Rattle.plan_check.proofs.coming.judge_bound.Goals as goal
+
+pub judge_asked-requires-clause-there : goal.judge_asked-requires-clause-there
+judge_asked-requires-clause-there c = commit_within (length (plan_of c.args.index.now)) c.in-Commit.g c.args.x.now.birth c.in-Commit.is (lives_within (plan_of c.args.index.now) (start_of c.args.index.now) (life_of c.args.x.now) c.requires.x).0
