@@ -3,7 +3,7 @@
 use crate::groups::plan;
 use crate::reading::packages;
 use crate::refused::refused_text;
-use crate::texts::{cut, unescaped};
+use asked_lines::{cut, unescaped};
 use pkg_state::Pkg;
 use plan_check::{Asked, Plan, PlanRefused, check};
 use plan_link::{asks_of, link};
@@ -25,7 +25,7 @@ fn check_over(alloc: Global, start: &[Pkg], groups: &str) -> Option<String> {
 
 /// Whether the plan of these groups is accepted over the packages that are installed.
 pub(crate) fn check_groups(alloc: Global, parts: &str) -> Option<String> {
-    let (installed, groups) = cut(parts);
+    let (installed, groups) = cut(parts, '\t');
     let start = packages(alloc, installed)?;
     check_over(alloc, &start, groups)
 }
@@ -63,8 +63,8 @@ fn repair_offered(alloc: Global, start: &[Pkg], offered: &str, text: &str) -> Op
 
 /// Whether the plan of a text of at most one group repairs the packages that are installed.
 pub(crate) fn repair(alloc: Global, parts: &str) -> Option<String> {
-    let (installed, parts) = cut(parts);
-    let (offered, text) = cut(parts);
+    let (installed, parts) = cut(parts, '\t');
+    let (offered, text) = cut(parts, '\t');
     let start = packages(alloc, installed)?;
     repair_offered(alloc, &start, offered, text)
 }

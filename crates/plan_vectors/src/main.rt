@@ -24,45 +24,27 @@ mod plans;
 mod reading;
 mod refused;
 mod search;
-mod texts;
 mod universes;
 
-use std::alloc::{AllocError, Global};
+use asked_lines::{answer_each, cut, escaped, exit_of};
+use std::alloc::Global;
 use std::io;
-use std::io::Write;
 use std::process::ExitCode;
 
-/// The status where the input could not be read, or the lines not be printed.
-const FAILED: u8 = 1;
-
 fn main(rt: HostRuntime) -> ExitCode {
-    match run(&rt, rt.alloc()) {
-        Ok(()) => ExitCode::SUCCESS,
-        Err(_) => ExitCode::from(FAILED),
-    }
+    exit_of(answer_each(&rt, rt.alloc(), answer_line))
 }
 
-fn run<R: Input + Print>(rt: &R, alloc: Global) -> io::Result<()> {
-    let mut out = String::new(alloc);
-    for line in rt.lines(alloc) {
-        let line = line?;
-        push_answer(alloc, &mut out, line.as_str())?;
+/// The line that is printed for a case.
+fn answer_line(alloc: Global, line: &str) -> io::Result<String> {
+    match answer(alloc, line) {
+        Some(text) => Ok(escaped(alloc, text.as_str())?),
+        None => Ok(String::from_str(alloc, "not in form")?),
     }
-    io::writer(rt).write_all(out.as_bytes())
-}
-
-/// Adds the line that is printed for a case.
-fn push_answer(alloc: Global, out: &mut String, line: &str) -> Result<(), AllocError> {
-    let Some(text) = answer(alloc, line) else {
-        return out.push_str("not in form\n");
-    };
-    let text = texts::escaped(alloc, text.as_str())?;
-    out.push_str(text.as_str())?;
-    out.push_str("\n")
 }
 
 fn answer(alloc: Global, line: &str) -> Option<String> {
-    let (word, parts) = texts::cut(line);
+    let (word, parts) = cut(line, '\t');
     match word {
         "text" => plans::text(alloc, parts),
         "link" => plans::link_text(alloc, parts),

@@ -3,7 +3,7 @@
 use crate::linked::{fault_text, plan_text};
 use crate::reading::packages;
 use crate::refused::refused_text;
-use crate::texts::{cut, unescaped};
+use asked_lines::{cut, unescaped};
 use pkg_state::Pkg;
 use plan_check as check;
 use plan_link::{LinkFault, PlanFault, judge_plan, link};
@@ -46,7 +46,7 @@ fn link_over(alloc: Global, offered: &[Pkg], text: &str) -> Option<String> {
 
 /// The plan that a text stands for, over the packages that are offered.
 pub(crate) fn link_text(alloc: Global, parts: &str) -> Option<String> {
-    let (offered, text) = cut(parts);
+    let (offered, text) = cut(parts, '\t');
     let text = unescaped(alloc, text).ok()?;
     let offered = packages(alloc, offered)?;
     link_over(alloc, &offered, text.as_str())
@@ -75,8 +75,8 @@ fn judge_offered(alloc: Global, start: &[Pkg], offered: &str, text: &str) -> Opt
 
 /// The plan of a text, if it is accepted over the packages that are installed.
 pub(crate) fn judge(alloc: Global, parts: &str) -> Option<String> {
-    let (installed, parts) = cut(parts);
-    let (offered, text) = cut(parts);
+    let (installed, parts) = cut(parts, '\t');
+    let (offered, text) = cut(parts, '\t');
     let start = packages(alloc, installed)?;
     judge_offered(alloc, &start, offered, text)
 }

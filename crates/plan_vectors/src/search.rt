@@ -5,8 +5,8 @@
 //! in preorder, each choice with a colon and what is open of it, or `good`, and a semicolon.
 
 use crate::answers::{class_name, push_number};
-use crate::texts::cut;
 use crate::universes::universe;
+use asked_lines::cut;
 use choice_tree::{Choice, Decision, Obligation, Universe, Value, first_open, options};
 use resolver::{ResolveFault, resolve};
 use std::alloc::{AllocError, Global};
@@ -90,7 +90,7 @@ fn walk(alloc: Global, universe: &Universe) -> Result<String, AllocError> {
 
 /// The tree of choices of a universe.
 pub(crate) fn walk_lines(alloc: Global, parts: &str) -> Option<String> {
-    let (how, parts) = cut(parts);
+    let (how, parts) = cut(parts, '\t');
     let universe = universe(alloc, how == "update", parts)?;
     walk(alloc, &universe).ok()
 }
@@ -127,8 +127,8 @@ fn resolve_over(alloc: Global, universe: &Universe, limit: usize) -> Result<Stri
 
 /// The choice that is found in a universe, where so many may be tried in vain.
 pub(crate) fn resolve_lines(alloc: Global, parts: &str) -> Option<String> {
-    let (how, parts) = cut(parts);
-    let (limit, parts) = cut(parts);
+    let (how, parts) = cut(parts, '\t');
+    let (limit, parts) = cut(parts, '\t');
     let limit = limit.parse::<usize>().ok()?;
     let universe = universe(alloc, how == "update", parts)?;
     resolve_over(alloc, &universe, limit).ok()

@@ -4,7 +4,7 @@
 //! comma between two; where one is installed it stands before them, behind `+`.
 
 use crate::reading::{package, packages};
-use crate::texts::cut;
+use asked_lines::cut;
 use choice_tree::{Offer, Universe};
 use dep_atom::Atom;
 use pkg_state::Pkg;
@@ -54,7 +54,7 @@ fn atoms(alloc: Global, text: &str) -> Option<Vec<Atom>> {
 
 /// The universe of the wanted atoms and the lines.
 pub(crate) fn universe(alloc: Global, update: bool, parts: &str) -> Option<Universe> {
-    let (wanted, lines) = cut(parts);
+    let (wanted, lines) = cut(parts, '\t');
     let wanted = atoms(alloc, wanted)?;
     let offers = offers(alloc, lines)?;
     Some(Universe {
