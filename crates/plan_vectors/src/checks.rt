@@ -1,5 +1,8 @@
 //! Checks of plans, and of repairs.
 
+ghost use Rattle.plan_text.specs.Plans.{plan_value};
+ghost use Rattle.plan_text.specs.Texts.{IsPlan};
+
 use crate::groups::plan;
 use crate::reading::packages;
 use crate::refused::refused_text;
@@ -43,7 +46,9 @@ fn repair_linked(
     start: &[Pkg],
     offered: &[Pkg],
     text: &plan_text::Plan,
-) -> Option<String> {
+) -> Option<String>
+    requires form { IsPlan (plan_value text.now) }
+{
     let plan = link(alloc, text, offered).ok()?;
     let asks = asks_of(alloc, text, offered).ok()?;
     repair_over(alloc, start, &plan, &asks)
