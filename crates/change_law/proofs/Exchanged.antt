@@ -37,15 +37,17 @@ use Rattle.claim_law.specs.Granted.{GrantedClaimsAreGood, IsTaken}
 use Rattle.claim_law.specs.Owners.{OwnersAre, Tells, Wishes}
 use Rattle.claim_law.specs.Settled.{SettledOwnersAre}
 use Rattle.claim_law.proofs.Granted.{free_wish}
+use Rattle.claim_law.proofs.Settled.{owners_by}
 use Rattle.group_run.specs.Granted.{MayChange, changes_in, wishes_in, wishes_of}
 use Rattle.group_run.specs.Working.{all_in, all_of, changing}
 use Rattle.group_run.specs.declared.files.Files.{Files}
 use Rattle.package_law.specs.Packages.{AreFilesOf, held_by}
+use Rattle.package_law.proofs.LetIn.{let_in_outside}
 use Rattle.package_law.proofs.Places.{distinct_back, held_at, held_none, placed_paths, put_at, put_by}
 use Rattle.change_law.specs.Changes.{Exchange, GrantedExchangesAreTold, GrantedExchangesLeaveOwnedTrees, IsExchange, IsOwnedTree, LeavesOwnedTree, change_by, changes_by}
 use Rattle.change_law.specs.Packages.{IsRemovalOf}
 use Rattle.change_law.proofs.Pieces.{both_zip, distinct_piece, has-piece, has-piece_back, left, one_piece, pairs_of, right}
-use Rattle.change_law.proofs.Together.{all_wished, each_wish, held_has, image_wish, own_wish, paths_by_piece, paths_in, reserved_outside}
+use Rattle.change_law.proofs.Together.{all_wished, each_wish, held_has, image_wish, own_wish, paths_by_piece, paths_in}
 
 -- a package that comes with its files, under the key that they name
 pub record IsBrought (key : Installed → OwnerKey) (z : Files × Installed) : Type 0 where
@@ -115,7 +117,7 @@ module _ (comes : ComesApart) (spells : OneSpelling) (key : Installed → OwnerK
       let e = has-map_back images.path_of z.0.image.items q has in
       let wish = has_wish z (wish_for z.0.owner false e.0) there (image_wish z.0 e.0 e.1) in
       let free : is_reserved e.0.path ≡ false = (free_wish may.book (is_dying (dying_at groups n)) ws may.granted.taken.free (wish_for z.0.owner false e.0) wish).1.let_in in
-      cc (subst (λ (p : List ℕ). is_below database_path p ≡ false) e.2 (reserved_outside e.0.path free), below)
+      cc (subst (λ (p : List ℕ). is_below database_path p ≡ false) e.2 (let_in_outside e.0.path free), below)
 
   -- what is put into the database is in the folder of a package that comes
   put_inside : (q : List ℕ) → is_below database_path q ≡ true → IsSome (put g q) → (z : Files × Installed) × Has zs z × Has (map images.path_of z.0.folder.items) q × IsOf (id_of z.1) q
@@ -250,13 +252,6 @@ module _ (comes : ComesApart) (spells : OneSpelling) (key : Installed → OwnerK
   tells = record { wishes = wishes; removes = removes; puts = puts; dies = dies }
 
 -- ---- with the premises of the law
-
--- owners that say the same of each path are those of the same packages
-owners_by : (key : Installed → OwnerKey) (m : Map) (ps : List Installed) (own its : List ℕ → Option OwnerKey) → ((q : List ℕ) → its q ≡ own q) → OwnersAre key m ps own → OwnersAre key m ps its
-owners_by key m ps own its same are = record {
-  mine = λ p q has owns. same q ∙ are.mine p q has owns;
-  only = λ q k is. are.only q k (sym (same q) ∙ is);
-}
 
 module _ (comes : ComesApart) (spells : OneSpelling) (key : Installed → OwnerKey) (m : Map) (ps : List Installed) (book : Book) (groups : List SiteGroup) (n : ℕ) (x : Exchange)
     (is : IsExchange key m ps (is_dying (dying_at groups n)) x) (may : MayChange m book groups (changes_by x) n) where

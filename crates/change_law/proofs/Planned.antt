@@ -5,12 +5,9 @@ use Rattle.basics.specs.Members.{Has}
 use Rattle.file_tree.specs.Disk.{Disk, Map}
 use Rattle.file_tree.specs.Paths.{is_below}
 use Rattle.file_tree.specs.Thing.{Thing}
-use Rattle.file_tree.specs.declared.objects.Entry.{Entry}
-use Rattle.journal.specs.Group.{AreStaged, Group, applied, with_group, with_groups}
-use Rattle.journal.proofs.Changes.{again}
+use Rattle.journal.specs.Group.{AreStaged, Group, applied}
 use Rattle.merge_record.specs.Names.{jobs}
 use Rattle.merge_record.specs.declared.record.OwnerKey.{OwnerKey}
-use Rattle.merge_site.specs.Staging.{placement_of}
 use Rattle.merge_site.specs.declared.group.SiteGroup.{SiteGroup}
 use Rattle.owner_book.specs.Book.{Book}
 use Rattle.database_law.specs.Packages.{Installed}
@@ -21,23 +18,12 @@ use Rattle.commit_law.specs.Commits as commits
 use Rattle.commit_law.specs.Commits.{CommitsLeaveSoundTrees, IsOf, IsSoundTree}
 use Rattle.group_run.specs.Applied.{AreOf, HasHistory, Recovers, number}
 use Rattle.group_run.specs.Granted.{IsAdmitted}
-use Rattle.group_run.specs.Working.{all_of, object_of}
-use Rattle.package_law.proofs.Runs.{none_told}
+use Rattle.group_run.specs.Working.{all_of}
+use Rattle.package_law.proofs.Runs.{many_as_one, none_told, staged}
 use Rattle.change_law.specs.Changes.{Exchange, GrantedExchangesLeaveOwnedTrees, change_by, changes_by}
 use Rattle.change_law.specs.Planned.{HoldsExchanged, IsPlannedExchange, OneGroupPlansLeaveSoundTrees, OneGroupPlansReadSoundly, OneGroupPlansRecoverSoundly, RecoversSoundly}
 
 -- ---- a group that comes again
-
-staged : (es : List Entry) → AreStaged (map placement_of es) (map object_of es)
-staged [] = tt
-staged (e ∷ es) = (record { object = e.object; there = refl; kind = refl; size = refl; digest = refl }, staged es)
-
--- a group that comes again changes nothing
-many_as_one : (g : Group) (xs : List Group) (q : List ℕ) (y : Option Thing) → AreStaged g.content.placements g.objects → ((x : Group) → Has xs x → x ≡ g) → with_groups xs q (with_group g q y) ≡ with_group g q y
-many_as_one g [] q y staged all = refl
-many_as_one g (x ∷ xs) q y staged all =
-    ap (λ (h : Group). with_groups xs q (with_group h q (with_group g q y))) (all x (inl refl))
-    ∙ (ap (λ (z : Option Thing). with_groups xs q z) (again g q y staged) ∙ many_as_one g xs q y staged (λ z has. all z (inr has)))
 
 applied_once : (m : Map) (g x : Group) (xs : List Group) (q : List ℕ) → AreStaged g.content.placements g.objects → ((z : Group) → Has (x ∷ xs) z → z ≡ g) → applied m (x ∷ xs) q ≡ applied m (g ∷ []) q
 applied_once m g x xs q staged same =

@@ -1,21 +1,18 @@
 -- The files of several packages that one group brings.
 use Rattle.std.proofs.Common.{◌≡◌, ◌∙◌, ◌++◌, ℕ, false, true, List, [], ◌∷◌, inl, inr, refl, ap, map, subst, sym}
 use Rattle.std.specs.Prelude.{IsSome, flat_map}
-use Rattle.std.proofs.lemmas.Bool.{cases_Bool, or_parts}
+use Rattle.std.proofs.lemmas.Bool.{cases_Bool}
 use Rattle.std.proofs.lemmas.List.{map-append}
 use Rattle.basics.specs.Members.{Has}
 use Rattle.basics.proofs.Membership.{has-append_cases, has-append_left, has-append_right, has-map, has-map_back}
 use Rattle.basics.proofs.Tests.{none_is_not_some}
-use Rattle.file_tree.specs.Paths.{is_below}
 use Rattle.file_tree.specs.declared.objects.Entry.{Entry}
 use Rattle.image_fit.specs.Images as images
 use Rattle.merge_record.specs.Judging.{is_in}
 use Rattle.merge_record.proofs.Form.{has_if_in, in_if_has}
 use Rattle.merge_site.specs.Booking.{wish_for}
 use Rattle.owner_book.specs.Book as books
-use Rattle.owner_book.specs.Rules.{database, is_reserved, own_files, touches}
 use Rattle.owner_book.specs.declared.wish.Wish.{Wish}
-use Rattle.vdb_text.specs.Files.{database_path}
 use Rattle.database_law.specs.Database.{IsOf}
 use Rattle.database_law.specs.Packages.{Installed, id_of, paths}
 use Rattle.claim_law.specs.Owners.{IsWishOf}
@@ -25,14 +22,6 @@ use Rattle.group_run.specs.declared.files.Files.{Files}
 use Rattle.package_law.specs.Packages.{AreFilesOf, held_by}
 use Rattle.package_law.proofs.Places.{held_none, wished_paths}
 use Rattle.change_law.proofs.Pieces.{left}
-
--- a path that an image may have is not below the database
-pub reserved_outside : (p : List ℕ) → is_reserved p ≡ false → is_below database_path p ≡ false
-unfolding database_path
-reserved_outside p free =
-    let apart = (or_parts (touches database p) (touches own_files p) free).0 in
-    let near = or_parts _ _ apart in
-    (or_parts (is_below database_path p) _ near.1).0
 
 -- ---- what is wished
 

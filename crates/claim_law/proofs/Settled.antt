@@ -29,6 +29,13 @@ use Rattle.claim_law.specs.Settled.{SettledOwnersAre, owner_after}
 use Rattle.claim_law.proofs.Granted.{one_by, put_placed, put_wished}
 use Rattle.claim_law.proofs.Lists.{key_of_one, wish_if_wished, wished_if_has}
 
+-- owners that say the same of each path are those of the same packages
+pub owners_by : (key : Installed → OwnerKey) (m : Map) (ps : List Installed) (own its : List ℕ → Option OwnerKey) → ((q : List ℕ) → its q ≡ own q) → OwnersAre key m ps own → OwnersAre key m ps its
+owners_by key m ps own its same are = record {
+  mine = λ p q has owns. same q ∙ are.mine p q has owns;
+  only = λ q k is. are.only q k (sym (same q) ∙ is);
+}
+
 module _ (comes : ComesApart) (spells : OneSpelling) (key : Installed → OwnerKey) (m : Map) (ps qs : List Installed) (c : Change) (dying : OwnerKey → Bool) (ws : List Wish) (own : List ℕ → Option OwnerKey)
     (db : IsDatabase m ps) (kept : IsKept m ps) (owners : OwnersAre key m ps own) (tells : Tells key m ps c dying ws) (may : MayCome m ps c) (once : AreOnce ws) (after : IsAfter ps c.gone c.added qs) where
   abbrev new : Map

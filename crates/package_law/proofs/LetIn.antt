@@ -29,7 +29,7 @@ unfolding database_path
 let_in_apart p free = (or_parts (touches database p) (touches own_files p) free).0
 
 -- .. and so is not below it
-let_in_outside : (p : List ℕ) → is_reserved p ≡ false → is_below database_path p ≡ false
+pub let_in_outside : (p : List ℕ) → is_reserved p ≡ false → is_below database_path p ≡ false
 let_in_outside p free =
     let near = or_parts _ _ (let_in_apart p free) in
     (or_parts (is_below database_path p) _ near.1).0

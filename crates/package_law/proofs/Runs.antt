@@ -37,12 +37,13 @@ recovered_as c m n r same = record {
   others = λ q out none. sym (same q) ∙ r.others q out none;
 }
 
-staged : (es : List Entry) → AreStaged (map placement_of es) (map object_of es)
+-- files as they are staged, each with its object
+pub staged : (es : List Entry) → AreStaged (map placement_of es) (map object_of es)
 staged [] = tt
 staged (e ∷ es) = (record { object = e.object; there = refl; kind = refl; size = refl; digest = refl }, staged es)
 
 -- a group that comes again changes nothing
-many_as_one : (g : Group) (xs : List Group) (q : List ℕ) (y : Option Thing) → AreStaged g.content.placements g.objects → ((x : Group) → Has xs x → x ≡ g) → with_groups xs q (with_group g q y) ≡ with_group g q y
+pub many_as_one : (g : Group) (xs : List Group) (q : List ℕ) (y : Option Thing) → AreStaged g.content.placements g.objects → ((x : Group) → Has xs x → x ≡ g) → with_groups xs q (with_group g q y) ≡ with_group g q y
 many_as_one g [] q y staged all = refl
 many_as_one g (x ∷ xs) q y staged all =
     ap (λ (h : Group). with_groups xs q (with_group h q (with_group g q y))) (all x (inl refl))

@@ -1,8 +1,8 @@
 ghost use Rattle.std.specs.Prelude.{◌≡◌, ◌↔◌, ◌<◌, IfOk, IsTrue, None, length, map};
 ghost use Rattle.std.specs.Option.{option_map};
 ghost use Rattle.dep_atom.specs.Values.{atom_value};
-ghost use Rattle.plan_check.specs.Binding.{ComesBehind, IsBeside, IsGreatest, IsRightBind, IsSlotOf};
-ghost use Rattle.plan_check.specs.Binding.{greater, rank};
+ghost use Rattle.plan_check.specs.Binding.{ComesBehind, IsBeside, IsGreatest, IsRightBind};
+ghost use Rattle.plan_check.specs.Binding.{IsSlotOf, greater, rank};
 ghost use Rattle.plan_check.specs.Index.{IsIndex, plan_of, start_of};
 ghost use Rattle.plan_check.specs.IsReach.{IsReach};
 ghost use Rattle.plan_check.specs.Lives.{life_of, lives_of, moment_of};

@@ -1,5 +1,5 @@
 -- Groups that are let in one after another are steps one after another.
-use Rattle.std.proofs.Common.{◌≡◌, ◌∙◌, ◌++◌, ℕ, List, [], ◌∷◌, Option, ap, inl, inr, refl, subst, sym}
+use Rattle.std.proofs.Common.{◌≡◌, ◌∙◌, ◌++◌, ℕ, List, [], ◌∷◌, ap, inl, inr, refl, subst, sym}
 use Rattle.std.specs.Prelude.{map}
 use Rattle.basics.specs.Members.{Has}
 use Rattle.basics.proofs.Membership.{has-append_left}
@@ -24,14 +24,8 @@ use Rattle.commit_law.specs.Commits.{CommitsLeaveSoundTrees, IsSoundTree}
 use Rattle.claim_law.specs.Granted.{GrantedClaimsAreGood}
 use Rattle.claim_law.specs.Owners.{OwnersAre}
 use Rattle.claim_law.specs.Settled.{SettledOwnersAre, owner_after}
+use Rattle.claim_law.proofs.Settled.{owners_by}
 use Rattle.turn_law.specs.Turns.{AreTold, GroupsLeaveSoundTrees, TurnsReadSoundly, TurnsRecoverSoundly}
-
--- owners that say the same of each path are those of the same packages
-owners_by : (key : Installed → OwnerKey) (m : Map) (ps : List Installed) (own its : List ℕ → Option OwnerKey) → ((q : List ℕ) → its q ≡ own q) → OwnersAre key m ps own → OwnersAre key m ps its
-owners_by key m ps own its same are = record {
-  mine = λ p q has owns. same q ∙ are.mine p q has owns;
-  only = λ q k is. are.only q k (sym (same q) ∙ is);
-}
 
 -- ---- first ones
 

@@ -20,8 +20,8 @@ use Rattle.commit_law.specs.Commits.{IsSoundTree}
 use Rattle.commit_law.specs.Crashes.{IsPlanned}
 use Rattle.claim_law.specs.Owners.{OwnersAre, Tells}
 
--- each turn that is let in wishes and removes what its change says, over the map, the owners and the
--- packages that those before it left
+-- each turn that is let in wishes and removes what its change says, over the map, the owners and
+-- the packages that those before it left
 abbrev pub AreTold : (Installed → OwnerKey) → (ℕ → Change) → List SiteGroup → Map → Book →
     List Installed → List Turn → Type 0
 AreTold key change groups m b ps [] = ⊤
