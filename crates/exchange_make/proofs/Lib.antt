@@ -1,0 +1,6 @@
+pub mod PlaceLemmas
+pub mod Taking
+pub mod Zips
+pub mod Brought
+pub mod Exchanged
+pub mod Once

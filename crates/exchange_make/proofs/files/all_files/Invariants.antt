@@ -1,0 +1,14 @@
+use Rattle.std.proofs.Common.{◌≡◌, List, length, take}
+use Rattle.std.specs.List.{AllZip}
+use Rattle.database_law.specs.Packages.{Installed}
+use Rattle.pkg_state.specs.Package.{Package}
+use Rattle.exchange_make.specs.Keys.{folders_with}
+use Rattle.exchange_make.specs.Made.{AreFilesFor}
+use Rattle.exchange_make.specs.Places.{ArePlaces}
+use Rattle.exchange_make.proofs.files.all_files.Given as goal
+
+abbrev pub invariant-loop-newcomer : goal.invariant-loop-newcomer
+invariant-loop-newcomer l =
+    ((ps : List Installed) (coming : List Package) → ArePlaces (folders_with ps coming) l.places →
+    AllZip (AreFilesFor ps coming) l.yielded l.all.items)
+    × (l.yielded ≡ take (length l.yielded) l.fn.newcomers.items)

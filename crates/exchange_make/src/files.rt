@@ -1,0 +1,61 @@
+ghost use Rattle.std.specs.Prelude.{ℕ, List, IfOk, map};
+ghost use Rattle.std.specs.List.{AllZip};
+ghost use Rattle.image_fit.specs.Misfits.{AreGood};
+ghost use Rattle.package_law.specs.Records.{owned_of};
+ghost use Rattle.record_write.specs.Written.{AreFolderFiles, installed_with};
+ghost use Rattle.database_law.specs.Packages.{Installed as InstalledValue};
+ghost use Rattle.pkg_state.specs.Package.{Package};
+ghost use Rattle.exchange_make.specs.Keys.{folders_with};
+ghost use Rattle.exchange_make.specs.Made.{AreFilesFor};
+ghost use Rattle.exchange_make.specs.Places.{ArePlaces};
+
+use crate::newcomer::Newcomer;
+use crate::owned::all_owned;
+use crate::places::Places;
+use file_tree::Entry;
+use group_run::Files;
+use pkg_state::Pkg;
+use record_read::Installed;
+use record_write::folder_files;
+use std::alloc::{AllocError, Global};
+
+/// The files of a folder that record a package with this image.
+fn recorded_files(alloc: Global, pkg: Pkg, image: &[Entry]) -> Result<Vec<Entry>, AllocError>
+    ensures { AreGood image.now → IfOk result
+        (λ v. AreFolderFiles (installed_with pkg (map owned_of image.now)) v.items) }
+{
+    let owned = all_owned(alloc, image)?;
+    folder_files(alloc, &Installed { pkg, owned })
+}
+
+/// The files of a package that comes.
+fn files_of(alloc: Global, places: &Places, newcomer: Newcomer) -> Result<Files, AllocError>
+    ensures { (ps : List InstalledValue) (coming : List Package) →
+        ArePlaces (folders_with ps coming) places.now →
+        IfOk result (AreFilesFor ps coming newcomer) }
+{
+    let owner = places.key(alloc, &newcomer.pkg.facts.id)?;
+    let folder = recorded_files(alloc, newcomer.pkg, &newcomer.image)?;
+    Ok(Files {
+        owner,
+        image: newcomer.image,
+        folder,
+    })
+}
+
+/// The files of each package that comes.
+pub(crate) fn all_files(
+    alloc: Global,
+    places: &Places,
+    newcomers: Vec<Newcomer>,
+) -> Result<Vec<Files>, AllocError>
+    ensures { (ps : List InstalledValue) (coming : List Package) →
+        ArePlaces (folders_with ps coming) places.now →
+        IfOk result (λ v. AllZip (AreFilesFor ps coming) newcomers.items v.items) }
+{
+    let mut all = Vec::with_capacity(alloc, newcomers.len())?;
+    for newcomer in newcomers {
+        all.push(files_of(alloc, places, newcomer)?)?;
+    }
+    Ok(all)
+}
