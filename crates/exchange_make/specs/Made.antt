@@ -56,6 +56,7 @@ pub record IsMadeFor (ps : List Installed) (g : Group) (newcomers : List Newcome
   pub group : made.turn.group ≡ GROUP
   pub named : AllByRecursion IsNamed newcomers
   pub files : AllZip (AreFilesFor ps g.additions) newcomers made.turn.packages.items
-  pub dying : dying_at made.groups.items GROUP ≡ map (key_with ps g.additions) (filter (leaves g) ps)
+  pub dying : dying_at made.groups.items GROUP ≡
+      map (key_with ps g.additions) (filter (leaves g) ps)
   pub count : length made.groups.items ≡ 2
   pub lines : (i : ℕ) → line_in made.groups.items i ≡ only_line line i

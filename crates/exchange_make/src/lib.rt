@@ -5,20 +5,22 @@
 //! comes as what it is and the entries of its image, and a tree as its story.
 //!
 //! **Proved**: the image of each package that comes is placed as it is, and behind it, where its
-//! objects may be placed, the files of a folder that record the package with that image. A package's
-//! key is the first place of its folder among those that are installed and those that come behind
-//! them, so that the installed ones keep their keys. The dying keys are those of the packages on the
-//! lines that the group clears. A path is removed just where one of these owns it, by what it
-//! recorded or in its own folder, and none that comes places it. Once such a group is granted it is
-//! an exchange as the laws of `change_law` ask for it, and does what the group of the plan says: a
-//! law, beside that the one group of an accepted plan brings no two packages with one folder.
+//! objects may be placed, the files of a folder that record the package with that image. A
+//! package's key is the first place of its folder among those that are installed and those that
+//! come behind them, so that the installed ones keep their keys. The dying keys are those of the
+//! packages on the lines that the group clears. A path is removed just where one of these owns it,
+//! by what it recorded or in its own folder, and none that comes places it. Once such a group is
+//! granted it is an exchange as the laws of `change_law` ask for it, and does what the group of
+//! the plan says: a law, beside that the one group of an accepted plan brings no two packages with
+//! one folder. It asks that what a package needs can be recorded, as what a folder says can be: in
+//! form, with no slot operator that is bound to nothing.
 //!
 //! **Only tested**: nothing yet.
 //!
 //! It takes time in n log n of all packages and paths.
 //!
 //! ```
-//! let made = make_exchange(alloc, &mut tree, &opening.packages, &group.removals, newcomers, line)?;
+//! let made = make_exchange(alloc, &mut tree, &packages, &group.removals, newcomers, line)?;
 //! ```
 #![tactic(auto)]
 

@@ -1,7 +1,7 @@
 ghost use Rattle.exchange_run.specs.Sound.{PlansRunSoundly};
 
-/// A law: where a tree is sound and the plan of one group is accepted over its packages, the merge of
-/// that group leaves a sound tree, whatever a crash leaves of it.
+/// A law: where a tree is sound and the plan of one group is accepted over its packages, the merge
+/// of that group leaves a sound tree, and whatever a crash leaves of it recovers to one.
 pub fn plans_run_soundly()
     ensures { PlansRunSoundly }
 {

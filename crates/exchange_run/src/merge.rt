@@ -1,11 +1,11 @@
-ghost use Rattle.std.specs.Prelude.{◌≡◌, ◌⊎◌, ◌∷◌, ◌<◌, [], true, IfErr, IfOk, IsErrOf, IsTrue, length};
-ghost use Rattle.std.specs.Prelude.{MatchOption, OnOk, vec_capacity, vec_len};
+ghost use Rattle.std.specs.Prelude.{◌≡◌, ◌⊎◌, ◌∷◌, ◌<◌, [], true, IfErr, IfOk, IsErrOf, IsTrue};
+ghost use Rattle.std.specs.Prelude.{MatchOption, OnOk, length, vec_capacity, vec_len};
 ghost use Rattle.file_tree.specs.Disk.{CountsFault};
 ghost use Rattle.merge_core.specs.Trail.{IsAtRest};
 ghost use Rattle.group_run.specs.Causes.{IsOfGroup, StopsChanges};
 ghost use Rattle.group_run.specs.Lines.{AreLines, Wrote, line_in};
 ghost use Rattle.group_run.specs.Stops.{stop_of_tree};
-ghost use Rattle.group_run.specs.Turns.{HaveCause, changes_of};
+ghost use Rattle.group_run.specs.Turns.{changes_of};
 ghost use Rattle.group_run.specs.Went.{HasRun, Went};
 ghost use Rattle.package_run.specs.Packages.{GROUP, only_line};
 ghost use Rattle.exchange_make.specs.Made.{group_with};
@@ -14,10 +14,11 @@ ghost use Rattle.exchange_run.specs.Sound.{IsPlannedFor, RunsSoundly};
 
 use crate::additions::Additions;
 use crate::laws::plans_run_soundly;
-use exchange_make::{Made, Removal, make_exchange};
+use exchange_make::{Made, make_exchange};
 use file_tree::{Sink, Tree, TreeFault};
 use group_run::{Batch, Merged, Stop, merge_groups};
 use owner_book::OwnerBook;
+use plan_check::Removal;
 use record_read::Installed;
 use std::alloc::{AllocError, Global};
 
