@@ -5,36 +5,39 @@ use Rattle.profile_stack.specs.declared.fault.ProfileFault.TheVariants as stacks
 use Rattle.profile_stack.specs.declared.line_file.FileLine.{FileLine}
 use Rattle.profile_stack.proofs.Followed.{split_at}
 use Rattle.profile_read.specs.Faults.{ChangesNothing, FirstBad, IsBadBy, NamesNothing, fault_at}
-use Rattle.profile_read.specs.Items.{AreEntries, IsEntry, IsRule, Says}
+use Rattle.profile_read.specs.Items.{AreEntries, IsEntry, IsRule, NamesPackages, Says}
 use Rattle.profile_read.specs.declared.fault.LineFault.{LineFault}
 use Rattle.profile_read.specs.declared.fault.LineFault.TheVariants.{Memory, NoAtom, NoChange}
 use Rattle.profile_read.specs.declared.fault.ReadFault.{ReadFault}
 use Rattle.profile_read.specs.declared.fault.ReadFault.TheVariants.{Profile}
 use Rattle.profile_read.specs.declared.item.Entry.{Entry}
 use Rattle.profile_read.specs.declared.item.Form.{Form}
-use Rattle.profile_read.specs.declared.item.Form.TheVariants.{Flags, Masks, Rules}
+use Rattle.profile_read.specs.declared.item.Form.TheVariants.{Flags, Keywords, Masks, Rules}
 
-names_something : (ws : List (List ℕ)) (entry : Entry) → IsRule ws entry → NamesNothing ws → ⊥
-names_something ws entry rule nothing =
-    let none : NamesNothing (rule.word ∷ rule.rest) = subst NamesNothing rule.cut nothing in
-    none rule.atom rule.named
+names_something : (ws rest : List (List ℕ)) (entry : Entry) → NamesPackages ws rest entry → NamesNothing ws → ⊥
+names_something ws rest entry names nothing =
+    let none : NamesNothing (names.word ∷ rest) = subst NamesNothing names.cut nothing in
+    none names.atom names.named
 
 changes_something : (ws : List (List ℕ)) (entry : Entry) → IsRule ws entry → ChangesNothing ws → ⊥
 changes_something ws entry rule nothing =
-    let none : ChangesNothing (rule.word ∷ rule.rest) = subst ChangesNothing rule.cut nothing in
+    let none : ChangesNothing (rule.names.word ∷ rule.rest) = subst ChangesNothing rule.names.cut nothing in
     none.1 rule.changes.each
 
 says_or_not : (form : Form) (ws : List (List ℕ)) (entry : Entry) (why : LineFault) → Says form ws entry → IsBadBy form ws why → ⊥
-says_or_not Masks ws entry NoAtom says (inl nothing) = names_something ws entry says.0 nothing
+says_or_not Masks ws entry NoAtom says (inl nothing) = names_something ws says.0.rest entry says.0.names nothing
 says_or_not Masks ws entry NoAtom says (inr more) = absurd (omega (arith, says.1, more))
 says_or_not Masks ws entry NoChange says bad = bad
 says_or_not Masks ws entry Memory says bad = bad
-says_or_not Rules ws entry NoAtom says nothing = names_something ws entry says nothing
+says_or_not Rules ws entry NoAtom says nothing = names_something ws says.rest entry says.names nothing
 says_or_not Rules ws entry NoChange says nothing = changes_something ws entry says nothing
 says_or_not Rules ws entry Memory says bad = bad
 says_or_not Flags ws entry NoAtom says bad = bad
 says_or_not Flags ws entry NoChange says bad = bad says.changes.each
 says_or_not Flags ws entry Memory says bad = bad
+says_or_not Keywords ws entry NoAtom says nothing = names_something ws says.rest entry says.names nothing
+says_or_not Keywords ws entry NoChange says bad = bad
+says_or_not Keywords ws entry Memory says bad = bad
 
 has_entry : (form : Form) (front : List FileLine) (line : FileLine) (rest : List FileLine) (those : List Entry) → AreEntries form (front ++ (line ∷ rest)) those → (entry : Entry) × IsEntry form line entry
 has_entry form [] line rest [] none = absurd none

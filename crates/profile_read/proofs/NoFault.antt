@@ -1,9 +1,11 @@
 -- A profile that can be read has no fault.
+use Rattle.std.specs.Prelude.{codes}
 use Rattle.std.proofs.Common.{◌≡◌, ◌∙◌, ◌++◌, ℕ, List, [], ◌∷◌, Option, None, Some, inl, inr, subst, sym}
 use Rattle.config_text.proofs.OneText.{no_fault}
 use Rattle.config_text.specs.declared.assignment.Assignment.{Assignment}
 use Rattle.file_tree.specs.Disk.{Map}
-use Rattle.profile_stack.specs.Defaults.{AreDefaults, IsDefaultsFault}
+use Rattle.profile_stack.specs.Defaults.{AreSet, IsFaultOf, defaults_text}
+use Rattle.profile_stack.specs.Texts.{file_in}
 use Rattle.profile_stack.specs.declared.fault.ProfileFault.{ProfileFault}
 use Rattle.profile_stack.specs.declared.line_file.FileLine.{FileLine}
 use Rattle.profile_stack.proofs.Listed.{lines_or_not, one_lines}
@@ -29,6 +31,10 @@ module _ {A S F : Type 0} (Step : A → S → S → Type 0) (Fault : A → S →
       let one = has_step breaks.front breaks.bad breaks.rest was is (subst (λ (l : List A). Chain Step l was is) breaks.place chain) in
       not_both breaks.bad one.0 one.1 breaks.between f one.2 breaks.has
 
+-- where a text sets something it has no fault
+pub set_or_not : (file text : List ℕ) (known those : List Assignment) (fault : ProfileFault) → AreSet text known those → IsFaultOf file text fault → ⊥
+set_or_not file text known those fault are bad = bad.own (no_fault known text those bad.first are.utf8 are.says bad.has)
+
 module _ (m : Map) where
   one_lines_at : (path : Option (List ℕ)) (these those : List FileLine) → AreLinesAt m path these → AreLinesAt m path those → these ≡ those
   one_lines_at None these those a b = a ∙ sym b
@@ -38,7 +44,8 @@ module _ (m : Map) where
   lines_at_or_not None these fault a bad = bad
   lines_at_or_not (Some path) these fault a bad = lines_or_not m path these fault a bad
 
-  tells_or_not : (form : Form) (path : Option (List ℕ)) (entries : List Entry) (fault : ReadFault) → Tells m form path entries → MissTells m form path fault → ⊥
+  -- where the lines of a file say something the file has no fault
+  pub tells_or_not : (form : Form) (path : Option (List ℕ)) (entries : List Entry) (fault : ReadFault) → Tells m form path entries → MissTells m form path fault → ⊥
   tells_or_not form path entries fault tells (inl bad) = lines_at_or_not path tells.lines bad.0 tells.there bad.1
   tells_or_not form path entries fault tells (inr bad) =
       let same : tells.lines ≡ bad.0 = one_lines_at path tells.lines bad.0 tells.there bad.1 in
@@ -47,11 +54,8 @@ module _ (m : Map) where
   file_or_not : (folder : List ℕ) (file : File) (was is other : Content) (fault : ReadFault) → ReadsFile m folder file was is → MissFile m folder file other fault → ⊥
   file_or_not folder file was is other fault reads miss = tells_or_not (form_of file) (path_in folder file) reads.0 fault reads.1 miss
 
-  set_or_not : (folder : List ℕ) (known those : List Assignment) (fault : ProfileFault) → AreDefaults m folder known those → IsDefaultsFault m folder fault → ⊥
-  set_or_not folder known those fault are bad = bad.own (no_fault known _ those bad.first are.utf8 are.says bad.has)
-
   folder_or_not : (folder : List ℕ) (was is other : Content) (fault : ReadFault) → ReadsFolder m folder was is → MissFolder m folder other fault → ⊥
-  folder_or_not folder was is other fault reads (inl bad) = set_or_not folder was.assigned reads.0 bad.0 reads.1 bad.1
+  folder_or_not folder was is other fault reads (inl bad) = set_or_not (file_in folder (codes "make.defaults")) (defaults_text m folder) was.assigned reads.0 bad.0 reads.1 bad.1
   folder_or_not folder was is other fault reads (inr bad) = chain_or_not (ReadsFile m folder) (MissFile m folder) (file_or_not folder) line_files _ is _ fault reads.2 bad.2
 
   rest_or_not : (path : List ℕ) (is : Content) (fault : ReadFault) → IsProfile m path is → MissProfile m path fault → ⊥

@@ -35,6 +35,7 @@ IsBadBy forms.Masks ws NoAtom = NamesNothing ws ⊎ (1 < length ws)
 IsBadBy forms.Rules ws NoAtom = NamesNothing ws
 IsBadBy forms.Rules ws NoChange = ChangesNothing ws
 IsBadBy forms.Flags ws NoChange = ¬ AllByRecursion IsChange ws
+IsBadBy forms.Keywords ws NoAtom = NamesNothing ws
 IsBadBy form ws fault = ⊥
 
 -- what the fault of a line is called

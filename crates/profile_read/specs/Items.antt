@@ -1,5 +1,5 @@
--- What a line of a profile's line files says (PMS 5.2.4 to 5.2.11): an atom, an atom and changes of
--- flags, or changes of flags alone; a hyphen before the atom takes equal items back.
+-- What a line of a line file says (PMS 5.2.4 to 5.2.11): an atom, an atom and changes of flags or
+-- keywords, or changes of flags alone; a hyphen before the atom takes equal items back.
 use Rattle.std.specs.Prelude.{◌≡◌, ◌==◌, ℕ, Bool, false, List, [], ◌∷◌, None, Some, if◌then◌else◌, length, map}
 use Rattle.std.specs.List.{AllByRecursion, AllZip}
 use Rattle.dep_atom.specs.Atoms.{IsAtom}
@@ -36,22 +36,35 @@ pub record AreChanges (ws : List (List ℕ)) (changes : List Change) : Type 0 wh
   pub each : AllByRecursion IsChange ws
   pub these : changes ≡ map change_of ws
 
--- the words are an atom and changes of flags; the item's text has one space between its words
-pub record IsRule (ws : List (List ℕ)) (entry : Entry) : Type 0 where
+-- the words are an atom and others behind it; the item's text has one space between its words
+pub record NamesPackages (ws rest : List (List ℕ)) (entry : Entry) : Type 0 where
   pub word : List ℕ
-  pub rest : List (List ℕ)
   pub cut : ws ≡ word ∷ rest
   pub atom : Atom
   pub named : IsPlainAtom (unsigned word) atom
   pub has : entry.item.atom ≡ Some atom
-  pub changes : AreChanges rest entry.item.changes.items
   pub signed : entry.takes_back ≡ is_signed word
   pub text : entry.item.text ≡ spaced (unsigned word ∷ rest)
+
+-- the words are an atom and changes of flags
+pub record IsRule (ws : List (List ℕ)) (entry : Entry) : Type 0 where
+  pub rest : List (List ℕ)
+  pub names : NamesPackages ws rest entry
+  pub changes : AreChanges rest entry.item.changes.items
+  pub keywords : entry.item.keywords.items ≡ []
+
+-- the words are an atom and keywords, which may be any words
+pub record IsKeywordLine (ws : List (List ℕ)) (entry : Entry) : Type 0 where
+  pub rest : List (List ℕ)
+  pub names : NamesPackages ws rest entry
+  pub changes : entry.item.changes.items ≡ []
+  pub keywords : entry.item.keywords.items ≡ rest
 
 -- the words are changes of flags, for every package
 pub record IsFlagLine (ws : List (List ℕ)) (entry : Entry) : Type 0 where
   pub all : entry.item.atom ≡ None
   pub changes : AreChanges ws entry.item.changes.items
+  pub keywords : entry.item.keywords.items ≡ []
   pub adds : entry.takes_back ≡ false
   pub text : entry.item.text ≡ spaced ws
 
@@ -60,6 +73,7 @@ abbrev pub Says : Form → List (List ℕ) → Entry → Type 0
 Says forms.Masks ws entry = IsRule ws entry × (length ws ≡ 1)
 Says forms.Rules ws entry = IsRule ws entry
 Says forms.Flags ws entry = IsFlagLine ws entry
+Says forms.Keywords ws entry = IsKeywordLine ws entry
 
 -- the line says this
 abbrev pub IsEntry : Form → FileLine → Entry → Type 0

@@ -4,7 +4,7 @@ use Rattle.std.specs.Prelude.{◌&&◌, ◌++◌, Bool, false, true, not, List, 
 use Rattle.std.specs.List.{list_any}
 use Rattle.profile_read.specs.declared.item.Entry.{Entry}
 use Rattle.profile_read.specs.declared.item.Form.{Form}
-use Rattle.profile_read.specs.declared.item.Form.TheVariants.{Flags, Masks, Rules}
+use Rattle.profile_read.specs.declared.item.Form.TheVariants.{Flags, Keywords, Masks, Rules}
 use Rattle.profile_read.specs.declared.item.Item.{Item}
 
 -- a mask that is repeated stands once; items of other forms stand line by line
@@ -12,6 +12,7 @@ abbrev pub stands_once : Form → Bool
 stands_once Masks = true
 stands_once Rules = false
 stands_once Flags = false
+stands_once Keywords = false
 
 -- the item has this text
 abbrev pub has_text : List ℕ → Item → Bool

@@ -3,16 +3,16 @@ use profile_stack::ProfileFault;
 use std::alloc::{AllocError, AllocFailed};
 use thiserror::Error;
 
-/// Why a profile can't be read as a whole. Lines count from 1.
+/// Why a profile can't be read as a whole, or a line file can't be read. Lines count from 1.
 #[derive(Debug, Drop, Error)]
 pub enum ReadFault {
-    /// Its folders, lines or variables can't be read, or a word that should be a change of flags is
+    /// Folders, lines or variables can't be read, or a word that should be a change of flags is
     /// none.
     #[error("the profile is not there, or not in form")]
     Profile(ProfileFault),
     /// The line of the file where a word that should be an atom is none, or where a second word
     /// stands behind a mask.
-    #[error("line {line} of a file of the profile names no package")]
+    #[error("line {line} of a configuration file names no package")]
     Atom { path: Path, line: u32 },
 }
 

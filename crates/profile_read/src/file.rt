@@ -63,8 +63,8 @@ pub(crate) fn read_file<T: Tree>(
     }
 }
 
-/// What the line file at the path says, line by line.
-pub(crate) fn read_line_file<T: Tree>(
+/// What the line file at the path says, line by line. A missing file says nothing.
+pub fn read_line_file<T: Tree>(
     alloc: Global,
     tree: &mut T,
     path: &Path,

@@ -11,6 +11,8 @@ pub enum Form {
     Rules,
     /// Changes of flags, as in `use.mask`.
     Flags,
+    /// An atom and keywords, as in `package.accept_keywords`.
+    Keywords,
 }
 
 /// What a line says.
@@ -22,6 +24,8 @@ pub struct Item {
     pub atom: Option<Atom>,
     /// What it says of their flags, in the order of the words. A mask changes none.
     pub changes: Vec<Change>,
+    /// What it says of their keywords, word by word as they are written.
+    pub keywords: Vec<Text>,
 }
 
 /// An item that a line adds or takes back.

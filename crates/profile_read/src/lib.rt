@@ -1,5 +1,6 @@
 //! The profile of a tree, read as a whole: the masks of the repository, and of each folder of the
-//! profile its variables and the items of its line files.
+//! profile its variables and the items of its line files. The user's line files are read by the
+//! same readers (`read_line_file`, `count_entries`).
 //!
 //! **A contract sees** a line as its words, an item by its text, which has one space between its
 //! words, and a profile as lists of assignments and items (`Content` in `specs/Files.antt`). An
@@ -11,7 +12,7 @@
 //! before the profile that names it: where one is at fault the first fault is told, and where none
 //! is only the machine can fail. The tree is only read.
 //!
-//! **Only tested**: nothing yet.
+//! **Only tested**: that with ample memory a profile is read.
 //!
 //! ```
 //! let profile = read(alloc, &mut tree, &path)?;
@@ -31,6 +32,7 @@ mod words;
 
 pub use entries::read_entries;
 pub use fault::ReadFault;
+pub use file::read_line_file;
 pub use folder::read_folder;
 pub use item::{Entry, Form, Item};
 pub use profile::Profile;

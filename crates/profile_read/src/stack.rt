@@ -58,7 +58,7 @@ fn stands_once(form: Form) -> bool
 {
     match form {
         Form::Masks => true,
-        Form::Rules | Form::Flags => false,
+        Form::Rules | Form::Flags | Form::Keywords => false,
     }
 }
 

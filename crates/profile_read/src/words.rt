@@ -1,4 +1,5 @@
-ghost use Rattle.std.specs.Prelude.{◌≡◌, ◌↔◌, ◌⊎◌, IfErr, IfOk, IsTrue, List, MatchOption, map, ℕ};
+ghost use Rattle.std.specs.Prelude.{◌≡◌, ◌↔◌, ◌⊎◌, ◌∷◌, [], IfErr, IfOk, IsTrue, List, MatchOption};
+ghost use Rattle.std.specs.Prelude.{map, ℕ};
 ghost use Rattle.std.specs.List.{AllByRecursion};
 ghost use Rattle.dep_atom.specs.declared.atom.Atom.{Atom as AtomValue};
 ghost use Rattle.dep_atom.specs.declared.atom.Block.TheVariants.{No};
@@ -6,9 +7,9 @@ ghost use Rattle.dep_atom.specs.declared.fault.AtomFault.TheVariants as atoms;
 ghost use Rattle.dep_group.specs.Views.{spot};
 ghost use Rattle.dep_group.specs.Words.{spaced_after, texts};
 ghost use Rattle.use_flags.specs.Changes.{IsChange, change_of};
-ghost use Rattle.profile_read.specs.Faults.{IsBadBy};
-ghost use Rattle.profile_read.specs.Items.{AreChanges, IsFlagLine, IsPlainAtom, IsRule, Says};
-ghost use Rattle.profile_read.specs.Items.{is_signed, unsigned};
+ghost use Rattle.profile_read.specs.Faults.{IsBadBy, NamesNothing};
+ghost use Rattle.profile_read.specs.Items.{AreChanges, IsFlagLine, IsKeywordLine, IsPlainAtom};
+ghost use Rattle.profile_read.specs.Items.{IsRule, NamesPackages, Says, is_signed, unsigned};
 ghost use Rattle.profile_read.specs.declared.fault.LineFault.TheVariants.{Memory, NoAtom, NoChange};
 ghost use Rattle.profile_read.specs.declared.item.Form.TheVariants as forms;
 
@@ -31,6 +32,7 @@ pub(crate) fn read_words(alloc: Global, form: Form, words: &[Word]) -> Result<En
         Form::Rules => rule(alloc, words),
         Form::Masks if words.len() > 1 => Err(LineFault::NoAtom),
         Form::Masks => rule(alloc, words),
+        Form::Keywords => keyword_line(alloc, words),
     }
 }
 
@@ -48,6 +50,7 @@ fn flag_line(alloc: Global, words: &[Word]) -> Result<Entry, LineFault>
             text,
             atom: None,
             changes,
+            keywords: Vec::new(alloc),
         },
     })
 }
@@ -61,16 +64,44 @@ fn rule(alloc: Global, words: &[Word]) -> Result<Entry, LineFault>
     let Some((first, rest)) = words.split_first() else {
         return Err(LineFault::NoAtom);
     };
+    let mut entry = named(alloc, first, rest)?;
+    entry.item.changes = changes_of(alloc, rest)?;
+    Ok(entry)
+}
+
+/// An atom and keywords.
+fn keyword_line(alloc: Global, words: &[Word]) -> Result<Entry, LineFault>
+    ensures found { IfOk result (IsKeywordLine (texts (map spot words.now))) }
+    ensures fault { IfErr result (λ e. (e ≡ Memory)
+        ⊎ IsBadBy forms.Keywords (texts (map spot words.now)) e) }
+{
+    let Some((first, rest)) = words.split_first() else {
+        return Err(LineFault::NoAtom);
+    };
+    let mut entry = named(alloc, first, rest)?;
+    entry.item.keywords = keywords_of(alloc, rest)?;
+    Ok(entry)
+}
+
+/// The atom that the first word is. Nothing is said yet of what stands behind it.
+fn named(alloc: Global, first: &Word, rest: &[Word]) -> Result<Entry, LineFault>
+    ensures found { IfOk result (NamesPackages (texts (map spot (first.now ∷ rest.now)))
+        (texts (map spot rest.now))) }
+    ensures changes { IfOk result (λ entry. entry.item.changes.items ≡ []) }
+    ensures keywords { IfOk result (λ entry. entry.item.keywords.items ≡ []) }
+    ensures fault { IfErr result (λ e. (e ≡ Memory)
+        ⊎ ((e ≡ NoAtom) × NamesNothing (texts (map spot (first.now ∷ rest.now))))) }
+{
     let word = unsigned(first.text);
     let atom = plain_atom(alloc, word)?;
-    let changes = changes_of(alloc, rest)?;
     let text = spaced(alloc, word, rest)?;
     Ok(Entry {
         takes_back: is_signed(first.text.as_bytes()),
         item: Item {
             text,
             atom: Some(atom),
-            changes,
+            changes: Vec::new(alloc),
+            keywords: Vec::new(alloc),
         },
     })
 }
@@ -148,6 +179,17 @@ fn changes_of(alloc: Global, words: &[Word]) -> Result<Vec<Change>, LineFault>
         changes.push(change)?;
     }
     Ok(changes)
+}
+
+/// The words as they are.
+fn keywords_of(alloc: Global, words: &[Word]) -> Result<Vec<Text>, AllocError>
+    ensures { IfOk result (λ v. v.items ≡ texts (map spot words.now)) }
+{
+    let mut keywords = Vec::new(alloc);
+    for word in words {
+        keywords.push(Text::new(alloc, word.text)?)?;
+    }
+    Ok(keywords)
 }
 
 /// The change that the word is, if it is one.
