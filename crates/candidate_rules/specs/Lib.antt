@@ -1,0 +1,4 @@
+pub mod Heard
+pub mod Index
+pub mod Items
+pub mod Keywords
