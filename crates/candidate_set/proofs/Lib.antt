@@ -1,0 +1,7 @@
+pub mod Alike
+pub mod Found
+pub mod Judged
+pub mod Named
+pub mod Ranked
+pub mod Reasons
+pub mod OneVerdict
