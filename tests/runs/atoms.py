@@ -76,8 +76,8 @@ def a_package_that_is_installed():
     below = "13 emerge: Collision: Ancestor usr/bin/p/x usr/bin/p\n"
     above = "13 emerge: Collision: Ancestor usr/bin usr/bin/p\n"
     rows += [
-        # `c/p-1.0` would stand on its line, and any other package has a line of its own
-        ("c/p:0/0", "- usr/bin/q", "20 emerge: NotBuilt: Result\n"),
+        # `c/p-1.0` takes its place, and any other package has a line of its own
+        ("c/p:0/0", "- usr/bin/q", "0 done 1 -c/p-1.00 +c/p-1.0\nemerge: ok 1\n"),
         ("c/p:3", "- usr/bin/q", done("c/p-3_alpha")),
         ("c/p:3", "- usr/bin/p", owned),
         ("c/pp", "- a\n- usr/bin/p/x", below),

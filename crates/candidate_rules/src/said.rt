@@ -1,4 +1,5 @@
-ghost use Rattle.std.specs.Prelude.{◌≡◌, ◌++◌, ℕ, List, [], MatchOption, None, OnOk, Some, bytes_eq, codes, false, if◌then◌else◌};
+ghost use Rattle.std.specs.Prelude.{◌≡◌, ◌++◌, ℕ, List, [], MatchOption, None, OnOk};
+ghost use Rattle.std.specs.Prelude.{Some, bytes_eq, codes, false, if◌then◌else◌};
 ghost use Rattle.std.specs.Option.{option_or};
 ghost use Rattle.profile_stack.specs.Stacks.{taken_back};
 ghost use Rattle.candidate_rules.specs.Heard.{Remembers, said_by, told};

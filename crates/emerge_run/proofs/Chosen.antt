@@ -1,5 +1,5 @@
 -- How a run chooses a package, or ends without one.
-use Rattle.std.proofs.Common.{◌≡◌, ℕ, Bool, true, List, [], Result, Ok, Err, refl, sym, subst}
+use Rattle.std.proofs.Common.{◌≡◌, ℕ, Bool, true, List, [], ◌∷◌, Result, Ok, Err, map, refl, sym, subst}
 use Rattle.std.specs.Prelude.{Contains, IfErr, IfOk, IsErrOf, IsTrue}
 use Rattle.file_tree.specs.Disk.{IsUntouched, Map, Story}
 use Rattle.file_tree.specs.Moments.{Since}
@@ -10,14 +10,19 @@ use Rattle.dep_atom.specs.Values.{AtomValue}
 use Rattle.dep_atom.specs.declared.package.Facts.{Facts}
 use Rattle.dep_atom.specs.declared.package.PackageId.{PackageId}
 use Rattle.database_law.specs.Packages.{Installed}
+use Rattle.pkg_state.specs.Package.{Package}
+use Rattle.package_law.specs.Records.{needing_nothing}
+use Rattle.exchange_make.specs.Made.{package_of}
+use Rattle.exchange_make.specs.declared.newcomer.Newcomer.{Newcomer}
+use Rattle.exchange_law.specs.Ends.{image_of}
 use Rattle.merge_core.specs.Trail.{IsAtRest}
 use Rattle.merge_record.specs.Recovered.{IsRecovered}
 use Rattle.emerge_words.specs.declared.request.WordFault.{WordFault}
 use Rattle.emerge_run.specs.Answers.{AsksFor, IsReady}
-use Rattle.emerge_run.specs.Images.{IsTold}
+use Rattle.emerge_run.specs.Images.{AreTold}
 use Rattle.run_law.specs.Ends.{IsKept}
 use Rattle.emerge_run.specs.Outcomes.{BuildEnds, HasChosen, IsEarly, IsNamed, OfSomeBuilder, Outcome}
-use Rattle.emerge_run.specs.Package.{order_of}
+use Rattle.emerge_run.specs.Package.{IsTask, order_of}
 use Rattle.emerge_run.specs.Refusals.{status_of, status_of_recovery}
 use Rattle.emerge_run.specs.Words.{EndsAtWords, IsOfWords, IsRequest}
 use Rattle.recovery.specs.declared.fault.RecoverFault.{RecoverFault}
@@ -29,7 +34,13 @@ use Rattle.emerge_run.specs.declared.status.Part.TheVariants as part
 use Rattle.emerge_run.specs.declared.status.Status.{Status}
 use Rattle.emerge_run.specs.declared.status.Status.TheVariants as status
 use Rattle.emerge_run.proofs.Asked.{many_seen}
-use Rattle.emerge_run.proofs.Endings.{build_asks, named_of, outcome_over, seen_image}
+use Rattle.emerge_run.proofs.Endings.{build_asks, named_of, outcome_over, seen_only}
+
+-- just one package comes, with some image
+only_image : (ns : List Newcomer) (p : Package) → map package_of ns ≡ p ∷ [] → (image : List Entry) × (map image_of ns ≡ image ∷ [])
+only_image [] p is = absurd (cc is)
+only_image (n ∷ []) p is = (image_of n, refl)
+only_image (n ∷ (k ∷ ks)) p is = absurd (cc is)
 
 -- what building an image answers comes early, and is no refusal of the words
 pub early_build : (tells : Bool) (told : List Entry) (id : PackageId) (s : Status) → BuildEnds tells told id s → IsEarly s
@@ -134,24 +145,26 @@ module _ {B : Type 0} (tells : Bool) (told : B → Order → List Entry) (restin
   usage_built f (Err s) w (b, has, ends) e = usage_build tells (told b (order_of f)) f.id s w ends (cc e)
 
   pub image_same : (f : Facts) (r : Result Chosen Status) → IfOk r (λ c. c.facts ≡ f)
-      → IfOk r (λ c. (b : B) × Contains resting b × IsTold tells (told b (order_of f)) c.addition.image.items)
-      → IfOk r (λ c. (b : B) × Contains resting b × IsTold tells (told b (order_of c.facts)) c.addition.image.items)
-  image_same f (Ok c) is (b, has, its) = (b, has, subst (λ (x : Facts). IsTold tells (told b (order_of x)) c.addition.image.items) (sym is) its)
+      → IfOk r (λ c. (b : B) × Contains resting b × AreTold tells (told b (order_of f)) (map image_of c.additions.newcomers.items))
+      → IfOk r (λ c. (b : B) × Contains resting b × AreTold tells (told b (order_of c.facts)) (map image_of c.additions.newcomers.items))
+  image_same f (Ok c) is (b, has, its) = (b, has, subst (λ (x : Facts). AreTold tells (told b (order_of x)) (map image_of c.additions.newcomers.items)) (sym is) its)
   image_same f (Err s) is h = tt
 
   module _ (words : List (List ℕ)) (a : AtomValue) (old mid new : Story) (asked : IsRequest words a) (since : Since (IsKept old.now) old mid)
       (recovered : IsRecovered old.now.holds mid.now.holds) (rest : IsAtRest mid.now.holds mid.now) (same : new ≡ mid) where
-    has_chosen : (image : Order → List Entry) (ps : List Installed) (f : Facts) (entries : List Entry) → IsReady mid.now.holds a ps f → image (order_of f) ≡ entries → HasChosen words image old new ps f entries
-    has_chosen image ps f entries ready seen = subst (λ (x : Story). HasChosen words image old x ps f entries) (sym same)
+    has_chosen : (image : Order → List Entry) (ps : List Installed) (f : Facts) (images : List (List Entry)) → IsReady mid.now.holds a ps f → images ≡ image (order_of f) ∷ [] → HasChosen words image old new ps f images
+    has_chosen image ps f images ready seen = subst (λ (x : Story). HasChosen words image old x ps f images) (sym same)
         (record { atom = a; asked = asked; moments = since; recovered = recovered; rest = rest; ready = ready; told = seen })
 
-    pub chosen_after : (ps : List Installed) (r : Result Chosen Status) → IfOk r (λ c. IsReady mid.now.holds a ps c.facts)
-        → IfOk r (λ c. (b : B) × Contains resting b × IsTold tells (told b (order_of c.facts)) c.addition.image.items)
-        → IfOk r (λ c. OfSomeBuilder tells told resting (λ image. HasChosen words image old new ps c.facts c.addition.image.items))
-    chosen_after ps (Ok c) ready (b, has, its) =
-        let k = seen_image tells (told b) (order_of c.facts) c.addition.image.items its in
-        (b, has, (k.0, k.1, has_chosen k.0 ps c.facts c.addition.image.items ready k.2))
-    chosen_after ps (Err s) ready its = tt
+    pub chosen_after : (reads : Bool) (ps : List Installed) (r : Result Chosen Status) → IfOk r (λ c. IsReady mid.now.holds a ps c.facts) → IfOk r (IsTask reads mid.now.holds ps)
+        → IfOk r (λ c. (b : B) × Contains resting b × AreTold tells (told b (order_of c.facts)) (map image_of c.additions.newcomers.items))
+        → IfOk r (λ c. OfSomeBuilder tells told resting (λ image. HasChosen words image old new ps c.facts (map image_of c.additions.newcomers.items)))
+    chosen_after reads ps (Ok c) ready task (b, has, its) =
+        let images = map image_of c.additions.newcomers.items in
+        let one = only_image c.additions.newcomers.items (needing_nothing c.facts) task.comes in
+        let k = seen_only tells (told b) (order_of c.facts) images one.0 one.1 its in
+        (b, has, (k.0, k.1, has_chosen k.0 ps c.facts images ready k.2))
+    chosen_after reads ps (Err s) ready task its = tt
 
     pub ended_after : {X : Type 0} (r : Result X Status) → IfErr r (λ s. OfSomeBuilder tells told resting (λ image. AsksFor a mid.now.holds image s))
         → IfErr r (λ s. OfSomeBuilder tells told resting (λ image. Outcome words image old new [] s))
@@ -162,10 +175,10 @@ module _ {B : Type 0} (tells : Bool) (told : B → Order → List Entry) (restin
     unchanged_after P (Ok x) h = tt
     unchanged_after P (Err s) (b, has, (image, its, asks)) = λ of. absurd (not_of_words a mid.now.holds image s asks of)
 
-pub named_after : (words : List (List ℕ)) (a : AtomValue) (tells : Bool) (opening m : Map) (ps : List Installed) (r : Result Chosen Status) → IsRequest words a → (IsTrue tells → IsRecovered opening m)
-    → IfOk r (λ c. value_matches a c.facts [] ≡ true) → (IsTrue tells → IfOk r (λ c. IsReady m a ps c.facts)) → IfOk r (λ c. IsNamed words tells opening c.facts.id)
-named_after words a tells opening m ps (Ok c) asked is matched ready = named_of words a tells opening m c.facts asked is matched (λ t. (ps, ready t))
-named_after words a tells opening m ps (Err s) asked is matched ready = tt
+pub named_after : (words : List (List ℕ)) (a : AtomValue) (tells : Bool) (opening m n : Map) (ps : List Installed) (r : Result Chosen Status) → IsRequest words a → (IsTrue tells → IsRecovered opening m)
+    → IfOk r (λ c. value_matches a c.facts [] ≡ true) → (IsTrue tells → IfOk r (λ c. IsReady m a ps c.facts)) → IfOk r (IsTask tells n ps) → IfOk r (λ c. IsNamed words tells opening c.removals.items c.facts.id)
+named_after words a tells opening m n ps (Ok c) asked is matched ready task = named_of words a tells opening m c.removals.items c.facts asked is matched (λ t. (ps, ready t, task.goes))
+named_after words a tells opening m n ps (Err s) asked is matched ready task = tt
 
 pub at_rest : (opening : Map) (s : Story) → IsRecovered opening s.now.holds × IsUntouched s.now → IsAtRest s.now.holds s.now
 at_rest opening s h = record { untouched = h.1; reads = λ q. refl; empty = h.0.cleared }

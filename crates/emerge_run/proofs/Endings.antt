@@ -1,8 +1,6 @@
 -- How a run's outcome comes of its stages.
-use Rattle.std.proofs.Common.{◌≡◌, ◌∙◌, ◌⊎◌, ◌<◌, ℕ, Bool, true, false, List, [], length, None, Some, inl, inr, refl, ap, sym, subst}
+use Rattle.std.proofs.Common.{◌≡◌, ◌∙◌, ◌⊎◌, ◌<◌, ℕ, Bool, true, false, List, [], ◌∷◌, length, Option, None, Some, inl, inr, refl, ap, sym, subst}
 use Rattle.std.specs.Prelude.{Contains, IsTrue, if◌then◌else◌}
-use Rattle.std.specs.List.{AllByRecursion}
-use Rattle.merge_record.specs.Spelling.{IsPathText}
 use Rattle.file_tree.specs.Disk.{Map, Story}
 use Rattle.file_tree.specs.Moments.{Since}
 use Rattle.file_tree.specs.Paths.{is_below}
@@ -15,7 +13,8 @@ use Rattle.dep_atom.specs.Values.{AtomValue}
 use Rattle.dep_atom.specs.declared.package.Facts.{Facts}
 use Rattle.dep_atom.specs.declared.package.PackageId.{PackageId}
 use Rattle.database_law.specs.Packages.{Installed}
-use Rattle.journal.specs.Group.{Group, applied}
+use Rattle.journal.specs.Group as journal
+use Rattle.journal.specs.Group.{applied}
 use Rattle.merge_core.specs.Trail.{IsAtRest}
 use Rattle.merge_record.specs.Names.{jobs}
 use Rattle.merge_record.specs.Recovered.{IsRecovered}
@@ -26,10 +25,12 @@ use Rattle.group_run.specs.Applied.{Recovers}
 use Rattle.emerge_run.specs.Answers.{Asks, AsksFor, AsksMerge, IsReady}
 use Rattle.emerge_run.specs.Images as images
 use Rattle.image_fit.specs.declared.limits.TheConstants.{MOST_ENTRIES}
-use Rattle.run_law.specs.Ends.{IsGroupOf, IsKept, IsReached, Merge}
-use Rattle.emerge_run.specs.Outcomes.{BuildEnds, HasChosen, IsChoice, IsNamed, IsOfTree, IsWanted, MergedTo, OfSomeBuilder, Outcome}
-use Rattle.run_law.specs.Runs.{MayCome}
-use Rattle.emerge_run.specs.Package.{order_of}
+use Rattle.run_law.specs.Ends.{IsKept}
+use Rattle.plan_law.specs.Plans.{Group, Removal}
+use Rattle.exchange_law.specs.Ends.{IsGroupOf, IsReached, Merge}
+use Rattle.atom_plan.specs.Plans.{group_for, removals_for}
+use Rattle.emerge_run.specs.Outcomes.{BuildEnds, HasChosen, IsChoice, IsNamed, IsOfTree, MergedTo, OfSomeBuilder, Outcome}
+use Rattle.emerge_run.specs.Package.{IsGroupMade, Making, order_of}
 use Rattle.emerge_run.specs.Refusals.{TreeRefuses, status_of, status_of_recovery}
 use Rattle.emerge_words.specs.declared.request.WordFault.{WordFault}
 use Rattle.emerge_run.specs.Words.{AskForPackage, EndsAtWords, IsOfWords, IsRequest}
@@ -38,12 +39,19 @@ use Rattle.emerge_run.specs.declared.refusal.Refusal.TheVariants as refusals
 use Rattle.emerge_run.specs.declared.status.Part.TheVariants.{Command, Repository, Result}
 use Rattle.emerge_run.specs.declared.status.Status.{Status}
 use Rattle.emerge_run.specs.declared.status.Status.TheVariants as status
+use Rattle.emerge_run.proofs.Merged.{has_weaker, leaves_weaker, recovers_weaker}
 
 -- the whole image function that agrees with what was seen at one order
 pub seen_image : (tells : Bool) (told : Order → List Entry) (o : Order) (seen : List Entry) → (IsTrue tells → told o ≡ seen)
     → (image : Order → List Entry) × (IsTrue tells → image ≡ told) × (image o ≡ seen)
 seen_image true told o seen h = (told, (λ t. refl), h refl)
 seen_image false told o seen h = ((λ _. seen), (λ t. absurd (cc t)), refl)
+
+-- the same for the list of just that image
+pub seen_only : (tells : Bool) (told : Order → List Entry) (o : Order) (seen : List (List Entry)) (one : List Entry) → seen ≡ one ∷ [] → (IsTrue tells → seen ≡ told o ∷ [])
+    → (image : Order → List Entry) × (IsTrue tells → image ≡ told) × (seen ≡ image o ∷ [])
+seen_only true told o seen one is h = (told, (λ t. refl), h refl)
+seen_only false told o seen one is h = ((λ _. one), (λ t. absurd (cc t)), is)
 
 -- an image that was seen to have too many entries
 many_asks : (tells : Bool) (told : Order → List Entry) (m : Map) (a : AtomValue) (ps : List Installed) (f : Facts) → IsReady m a ps f → (seen : List Entry) × (MOST_ENTRIES < length seen) × (IsTrue tells → told (order_of f) ≡ seen)
@@ -187,7 +195,7 @@ outcome_over words a image old mid new s asked since is rest same asks = subst (
 })
 
 -- the answer of a merge is one of the run
-merge_asks : (a : AtomValue) (ps : List Installed) (f : Facts) (m : Map) (image : Order → List Entry) (s : Status) → IsReady m a ps f → AsksMerge ps f (image (order_of f)) m s → AsksFor a m image s
+merge_asks : (a : AtomValue) (ps : List Installed) (f : Facts) (m : Map) (image : Order → List Entry) (s : Status) → IsReady m a ps f → AsksMerge ps (group_for f ps) (image (order_of f) ∷ []) m s → AsksFor a m image s
 merge_asks a ps f m image (status.Ok groups) ready asks = inl (ps, f, ready, asks)
 merge_asks a ps f m image (status.Limit Paths) ready asks = inr (ps, f, ready, asks)
 merge_asks a ps f m image (status.Limit Groups) ready asks = absurd asks
@@ -208,36 +216,51 @@ merge_asks a ps f m image (status.NoCandidate atom reasons) ready asks = absurd 
 merge_asks a ps f m image (status.BuildFailed id) ready asks = absurd asks
 
 -- a run whose package was merged
-module _ (words : List (List ℕ)) (image : Order → List Entry) (old mid new : Story) (ps : List Installed) (f : Facts) (entries : List Entry) (history : List ℕ) (s : Status)
-    (chosen : HasChosen words image old mid ps f entries) (paths : AllByRecursion (λ e. IsPathText e.path) entries) (merged : MergedTo ps f entries mid new history s) where
+module _ (words : List (List ℕ)) (image : Order → List Entry) (old mid new : Story) (ps : List Installed) (f : Facts) (images : List (List Entry)) (history : List ℕ) (s : Status)
+    (chosen : HasChosen words image old mid ps f images) (merged : MergedTo ps (group_for f ps) images mid new history s) where
   abbrev m : Map
   m = mid.now.holds
 
-  choice : IsChoice words image m ps f entries
-  choice = record { wanted = record { atom = chosen.atom; asked = chosen.asked; ready = chosen.ready }; told = chosen.told; paths = paths }
+  abbrev g : Group
+  g = group_for f ps
 
-  abbrev merge : Merge (IsChoice words image) m
-  merge = record { packages = ps; facts = f; image = entries; chosen = choice }
+  choice : IsChoice words image m ps g images
+  choice = record { facts = f; wanted = record { atom = chosen.atom; asked = chosen.asked; ready = chosen.ready }; group = refl; told = chosen.told }
 
-  reached : (among : List ℕ) (c : Map) → Recovers (MayCome ps f entries m) m among c → IsReached (IsChoice words image) among old.now c
-  reached among c h = inr (m, chosen.recovered, (Some merge, h))
+  -- what was made is what the run merges
+  abbrev merge : Option (Making ps g images m) → Option (Merge (IsChoice words image) m)
+  merge None = None
+  merge (Some k) = Some (record { packages = ps; group = g; images = images; book = k.book; made = k.made; chosen = choice; is = k.is })
+
+  same_groups : (k : Option (Making ps g images m)) (x : journal.Group) → IsGroupMade k x → IsGroupOf (merge k) x
+  same_groups None x none = none
+  same_groups (Some k) x is = is
+
+  abbrev Of : journal.Group → Type 0
+  Of = IsGroupMade merged.made
+
+  abbrev Its : journal.Group → Type 0
+  Its = IsGroupOf (merge merged.made)
+
+  reached : (among : List ℕ) (c : Map) → Recovers Of m among c → IsReached (IsChoice words image) among old.now c
+  reached among c h = inr (m, chosen.recovered, (merge merged.made, recovers_weaker Of Its (same_groups merged.made) m among c h))
 
   outcome_merged : Outcome words image old new history s
   outcome_merged = record {
     answer = asks_after words chosen.atom old.now.holds m image s chosen.asked chosen.recovered
-        (merge_asks chosen.atom ps f m image s chosen.ready (subst (λ (es : List Entry). AsksMerge ps f es m s) (sym chosen.told) merged.answer));
+        (merge_asks chosen.atom ps f m image s chosen.ready (subst (λ (es : List (List Entry)). AsksMerge ps g es m s) chosen.told merged.answer));
     moments = since_then (IsReached (IsChoice words image) [] old.now) old mid new (since_weaker (IsKept old.now) (IsReached (IsChoice words image) [] old.now) (λ c h. inl (refl, h)) old mid chosen.moments)
-        (since_weaker (Recovers (MayCome ps f entries m) m []) (IsReached (IsChoice words image) [] old.now) (λ c h. reached [] c h) mid new merged.moments);
+        (since_weaker (Recovers Of m []) (IsReached (IsChoice words image) [] old.now) (λ c h. reached [] c h) mid new merged.moments);
     crash = λ c k. reached history c (merged.crash c k);
-    left = λ healthy. inr (m, chosen.recovered, (Some merge, merged.left healthy));
-    tree = λ of. (m, chosen.recovered, (Some merge, merged.tree (λ e. subst IsOfTree e of) (λ e. subst IsOfTree e of)));
+    left = λ healthy. inr (m, chosen.recovered, (merge merged.made, leaves_weaker Of Its (same_groups merged.made) m history new.now (merged.left healthy)));
+    tree = λ of. (m, chosen.recovered, (merge merged.made, has_weaker Of Its (same_groups merged.made) m history new.now (merged.tree (λ e. subst IsOfTree e of) (λ e. subst IsOfTree e of))));
   }
 
-pub outcome_chosen : {B : Type 0} (tells : Bool) (told : B → Order → List Entry) (resting : List B) (words : List (List ℕ)) (old mid new : Story) (ps : List Installed) (f : Facts) (entries : List Entry) (history : List ℕ) (s : Status)
-    → OfSomeBuilder tells told resting (λ image. HasChosen words image old mid ps f entries) → AllByRecursion (λ e. IsPathText e.path) entries → MergedTo ps f entries mid new history s
+pub outcome_chosen : {B : Type 0} (tells : Bool) (told : B → Order → List Entry) (resting : List B) (words : List (List ℕ)) (old mid new : Story) (ps : List Installed) (f : Facts) (images : List (List Entry)) (history : List ℕ) (s : Status)
+    → OfSomeBuilder tells told resting (λ image. HasChosen words image old mid ps f images) → MergedTo ps (group_for f ps) images mid new history s
     → OfSomeBuilder tells told resting (λ image. Outcome words image old new history s)
-outcome_chosen tells told resting words old mid new ps f entries history s (b, has, (image, its, chosen)) paths merged =
-    (b, has, (image, its, outcome_merged words image old mid new ps f entries history s chosen paths merged))
+outcome_chosen tells told resting words old mid new ps f images history s (b, has, (image, its, chosen)) merged =
+    (b, has, (image, its, outcome_merged words image old mid new ps f images history s chosen merged))
 
 -- a run that came to one status ends with another one, which asks for nothing
 outcome_as : (words : List (List ℕ)) (image : Order → List Entry) (old new : Story) (history : List ℕ) (s s' : Status) → (s ≡ status.DeviceFault → s' ≡ status.DeviceFault)
@@ -268,8 +291,9 @@ built_before s s' id rose (inr (inl memory)) is = absurd (cc (memory, is))
 built_before s s' id rose (inr (inr (output, r))) is = absurd (cc (output, is))
 
 -- the package of the atom is that of the words
-pub named_of : (words : List (List ℕ)) (a : AtomValue) (tells : Bool) (opening m : Map) (f : Facts) → IsRequest words a → (IsTrue tells → IsRecovered opening m) → value_matches a f [] ≡ true → (IsTrue tells → (ps : List Installed) × IsReady m a ps f) → IsNamed words tells opening f.id
-named_of words a tells opening m f asked is matched ready = (a, asked, (m, is, (f, refl, (matched, ready))))
+pub named_of : (words : List (List ℕ)) (a : AtomValue) (tells : Bool) (opening m : Map) (gone : List Removal) (f : Facts) → IsRequest words a → (IsTrue tells → IsRecovered opening m) → value_matches a f [] ≡ true
+    → (IsTrue tells → (ps : List Installed) × IsReady m a ps f × (gone ≡ removals_for f ps)) → IsNamed words tells opening gone f.id
+named_of words a tells opening m gone f asked is matched ready = (a, asked, (m, is, (f, refl, (matched, ready))))
 
 -- the answer that a run came to is one that it is asked for, and so is want of memory
 pub came_asked : {B : Type 0} (tells : Bool) (told : B → Order → List Entry) (resting : List B) (words : List (List ℕ)) (old new : Story) (history : List ℕ) (s : Status)

@@ -1,6 +1,6 @@
 -- What a run gives back of the packages that were installed.
 use Rattle.std.proofs.Common.{◌≡◌, ◌⊎◌, ℕ, Bool, List, [], Result, Ok, Err, inl, inr, refl, subst, sym}
-use Rattle.std.specs.Prelude.{Contains, IfErr, IfOk, IsErrOf}
+use Rattle.std.specs.Prelude.{Contains, IfErr, IsErrOf}
 use Rattle.build_pool.specs.declared.orders.Order.{Order}
 use Rattle.file_tree.specs.Disk.{Map, Story}
 use Rattle.database_law.specs.Packages.{Installed}
@@ -18,12 +18,11 @@ use Rattle.visible_set.specs.Candidates.{HasOddEntry}
 use Rattle.emerge_run.specs.Answers.{IsRead}
 use Rattle.emerge_run.specs.Openings.{AreInstalled, AreInstalledAfter, GivesBack, HasRead, IsUnread}
 use Rattle.emerge_run.specs.Outcomes.{BuildEnds, HasChosen, IsEarly, IsOfMerge, IsUnmerged, OfSomeBuilder}
-use Rattle.emerge_run.specs.Package.{IsAddition, order_of}
+use Rattle.emerge_run.specs.Package.{order_of}
 use Rattle.emerge_run.specs.Refusals.{TreeRefuses, packages_with, refusal_of_opening, status_of, status_of_recovery}
 use Rattle.emerge_run.specs.Words.{EndsAtWords}
 use Rattle.recovery.specs.declared.fault.RecoverFault.{RecoverFault}
 use Rattle.recovery.specs.declared.fault.RecoverFault.TheVariants as recovery
-use Rattle.emerge_run.specs.declared.choosing.Chosen.{Chosen}
 use Rattle.emerge_run.specs.declared.refusal.Refusal.{Refusal}
 use Rattle.emerge_run.specs.declared.refusal.Refusal.TheVariants as refusals
 use Rattle.emerge_run.specs.declared.status.Part.TheVariants as part
@@ -222,12 +221,7 @@ refused_opening m a faults.Failed entries refuses = tt
 refused_opening m a faults.Memory entries refuses = tt
 
 -- what was installed beside the package that a run merges
-pub beside_chosen : {B : Type 0} (tells : Bool) (told : B → Order → List Entry) (resting : List B) (words : List (List ℕ)) (old new : Story) (ps qs : List Installed) (f : Facts) (entries : List Entry)
-    → OfSomeBuilder tells told resting (λ image. HasChosen words image old new ps f entries) → qs ≡ ps → AreInstalledAfter old.now.holds qs
-beside_chosen tells told resting words old new ps qs f entries (b, has, (image, its, chosen)) same =
+pub beside_chosen : {B : Type 0} (tells : Bool) (told : B → Order → List Entry) (resting : List B) (words : List (List ℕ)) (old new : Story) (ps qs : List Installed) (f : Facts) (images : List (List Entry))
+    → OfSomeBuilder tells told resting (λ image. HasChosen words image old new ps f images) → qs ≡ ps → AreInstalledAfter old.now.holds qs
+beside_chosen tells told resting words old new ps qs f images (b, has, (image, its, chosen)) same =
     subst (AreInstalledAfter old.now.holds) (sym same) (new.now.holds, chosen.recovered, installed new.now.holds chosen.atom ps chosen.ready.open_to.read)
-
--- what is made for the facts of the chosen package
-pub added_same : (tells : Bool) (m : Map) (ps : List Installed) (f : Facts) (r : Result Chosen Status) → IfOk r (λ c. c.facts ≡ f) → IfOk r (λ c. IsAddition tells m ps f c.addition) → IfOk r (λ c. IsAddition tells m ps c.facts c.addition)
-added_same tells m ps f (Ok c) same is = subst (λ (x : Facts). IsAddition tells m ps x c.addition) (sym same) is
-added_same tells m ps f (Err s) same is = tt

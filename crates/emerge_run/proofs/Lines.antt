@@ -4,6 +4,7 @@ use Rattle.std.specs.List.{AllByRecursion, flat_map}
 use Rattle.dep_atom.specs.declared.package.PackageId.{PackageId}
 use Rattle.group_run.specs.Lines.{AreLines, IsBeginning, Wrote}
 use Rattle.package_run.specs.Packages.{GROUP, only_line}
+use Rattle.plan_law.specs.Plans.{Removal}
 use Rattle.emerge_run.specs.Output.{IsEnd, IsLast, IsLineOf, IsLines, IsOutput, unwritten}
 use Rattle.emerge_run.specs.Texts.{done_line, last_line}
 use Rattle.emerge_run.specs.declared.status.Status.{Status}
@@ -38,37 +39,27 @@ lines_same f g history acknowledged text same are =
       whole = are.whole ∙ ap (λ (l : List ℕ). l ++ are.cut) (same_lines f g acknowledged parts.0);
     }
 
--- the line that was made for the one group is that of its package
-pub wrote_lines : (id : PackageId) (line history acknowledged old new : List ℕ) → line ≡ done_line id GROUP → (history ≡ []) ⊎ (history ≡ GROUP ∷ [])
-    → Wrote (AreLines (only_line line) history acknowledged) old new → Wrote (AreLines (done_line id) history acknowledged) old new
-wrote_lines id line history acknowledged old new is (inl none) (text, are, e) =
-    (text, lines_same (only_line line) (done_line id) history acknowledged text (subst (λ (h : List ℕ). AllByRecursion (λ g. only_line line g ≡ done_line id g) h) (sym none) tt) are, e)
-wrote_lines id line history acknowledged old new is (inr one) (text, are, e) =
-    (text, lines_same (only_line line) (done_line id) history acknowledged text (subst (λ (h : List ℕ). AllByRecursion (λ g. only_line line g ≡ done_line id g) h) (sym one) (is, tt)) are, e)
+-- the line that was made for the one group is that of its package, and of what goes
+pub wrote_lines : (gone : List Removal) (id : PackageId) (line history acknowledged old new : List ℕ) → line ≡ done_line gone id GROUP → (history ≡ []) ⊎ (history ≡ GROUP ∷ [])
+    → Wrote (AreLines (only_line line) history acknowledged) old new → Wrote (AreLines (done_line gone id) history acknowledged) old new
+wrote_lines gone id line history acknowledged old new is (inl none) (text, are, e) =
+    (text, lines_same (only_line line) (done_line gone id) history acknowledged text (subst (λ (h : List ℕ). AllByRecursion (λ g. only_line line g ≡ done_line gone id g) h) (sym none) tt) are, e)
+wrote_lines gone id line history acknowledged old new is (inr one) (text, are, e) =
+    (text, lines_same (only_line line) (done_line gone id) history acknowledged text (subst (λ (h : List ℕ). AllByRecursion (λ g. only_line line g ≡ done_line gone id g) h) (sym one) (is, tt)) are, e)
 
-all_named : (P : PackageId → Type 0) (id : PackageId) → P id → (history : List ℕ) → AllByRecursion (λ g. IsLineOf P (done_line id g) g) history
-all_named P id is [] = tt
-all_named P id is (g ∷ gs) = ((id, is, refl), all_named P id is gs)
+all_named : (P : List Removal → PackageId → Type 0) (gone : List Removal) (id : PackageId) → P gone id → (history : List ℕ) → AllByRecursion (λ g. IsLineOf P (done_line gone id g) g) history
+all_named P gone id is [] = tt
+all_named P gone id is (g ∷ gs) = ((gone, id, is, refl), all_named P gone id is gs)
 
--- the lines name a package that has P
-pub wrote_named : (P : PackageId → Type 0) (id : PackageId) (history acknowledged old new : List ℕ) → P id → Wrote (AreLines (done_line id) history acknowledged) old new → Wrote (IsLines P history acknowledged) old new
-wrote_named P id history acknowledged old new is (text, are, e) = (text, record { line = done_line id; named = all_named P id is history; lines = are }, e)
+-- the lines name a package and what goes, of which P holds
+pub wrote_named : (P : List Removal → PackageId → Type 0) (gone : List Removal) (id : PackageId) (history acknowledged old new : List ℕ) → P gone id → Wrote (AreLines (done_line gone id) history acknowledged) old new → Wrote (IsLines P history acknowledged) old new
+wrote_named P gone id history acknowledged old new is (text, are, e) = (text, record { line = done_line gone id; named = all_named P gone id is history; lines = are }, e)
 
 -- the same of a run that ended without a group
-pub wrote_nothing : (P : PackageId → Type 0) (history acknowledged old new : List ℕ) → history ≡ [] → acknowledged ≡ [] → new ≡ old → Wrote (IsLines P history acknowledged) old new
+pub wrote_nothing : (P : List Removal → PackageId → Type 0) (history acknowledged old new : List ℕ) → history ≡ [] → acknowledged ≡ [] → new ≡ old → Wrote (IsLines P history acknowledged) old new
 wrote_nothing P history acknowledged old new none none' same =
     let empty = wrote_none (λ _. []) history acknowledged old new none none' same in
     (empty.0, record { line = λ _. []; named = subst (λ (h : List ℕ). AllByRecursion (λ g. IsLineOf P [] g) h) (sym none) tt; lines = empty.1 }, empty.2)
-
-named_weaker : (P Q : PackageId → Type 0) (line : ℕ → List ℕ) (history : List ℕ) → ((id : PackageId) → P id → Q id)
-    → AllByRecursion (λ g. IsLineOf P (line g) g) history → AllByRecursion (λ g. IsLineOf Q (line g) g) history
-named_weaker P Q line [] so named = tt
-named_weaker P Q line (g ∷ gs) so ((id, is, e), rest) = ((id, so id is, e), named_weaker P Q line gs so rest)
-
-pub wrote_weaker : (P Q : PackageId → Type 0) (history acknowledged old new : List ℕ) → ((id : PackageId) → P id → Q id)
-    → Wrote (IsLines P history acknowledged) old new → Wrote (IsLines Q history acknowledged) old new
-wrote_weaker P Q history acknowledged old new so (text, named, e) =
-    (text, record { line = named.line; named = named_weaker P Q named.line history so named.named; lines = named.lines }, e)
 
 -- only a device's fault stays where its last line can't be written
 pub unwritten_other : (s : Status) → (s ≡ status.DeviceFault → ⊥) → unwritten s ≡ status.OutputFault
@@ -90,7 +81,7 @@ pub end_memory : (came s : Status) (old new : List ℕ) → Wrote (IsLast status
 end_memory came s old new (text, last, e) = (text, inr last, e)
 
 -- the lines and then the last line
-pub wrote_all : (P : PackageId → Type 0) (IsAnswer : Status → Type 0) (history acknowledged : List ℕ) (came s : Status) (old mid new : List ℕ) → IsAnswer came → IsAnswer status.Memory
+pub wrote_all : (P : List Removal → PackageId → Type 0) (IsAnswer : Status → Type 0) (history acknowledged : List ℕ) (came s : Status) (old mid new : List ℕ) → IsAnswer came → IsAnswer status.Memory
     → Wrote (IsLines P history acknowledged) old mid → Wrote (IsEnd came s) mid new → Wrote (IsOutput P IsAnswer history acknowledged s) old new
 wrote_all P IsAnswer history acknowledged came s old mid new answer memory (lines, named, first) (last, inl ends, second) =
     (lines ++ last, record { lines = lines; named = named; came = came; answer = answer; last = last; ends = ends; whole = refl }, second ∙ (ap (λ (x : List ℕ). x ++ last) first ∙ append_assoc old lines last))

@@ -1,5 +1,5 @@
 -- The answer that the words, the tree and the image ask for.
-use Rattle.std.specs.Prelude.{◌≡◌, ◌⊎◌, ◌<◌, ℕ, true, false, List, [], length, map, ⊤}
+use Rattle.std.specs.Prelude.{◌≡◌, ◌⊎◌, ◌<◌, ℕ, true, false, List, [], ◌∷◌, length, map, ⊤}
 use Rattle.std.specs.List.{AllByRecursion}
 use Rattle.file_tree.specs.Disk.{Map}
 use Rattle.file_tree.specs.declared.limits.Quantity.{Quantity}
@@ -11,7 +11,7 @@ use Rattle.dep_atom.specs.declared.package.Facts.{Facts}
 use Rattle.dep_atom.specs.declared.package.PackageId.{PackageId}
 use Rattle.build_pool.specs.declared.orders.Order.{Order}
 use Rattle.image_fit.specs.declared.limits.TheConstants.{MOST_ENTRIES}
-use Rattle.journal.specs.Group.{Group}
+use Rattle.journal.specs.Group as journal
 use Rattle.merge_site.specs.declared.fault.ClaimStop.TheVariants as claims
 use Rattle.group_run.specs.declared.stop.Stop.TheVariants as stops
 use Rattle.merge_record.specs.Recovered.{IsRecovered}
@@ -22,12 +22,15 @@ use Rattle.recovery.specs.declared.fault.RecoverFault.TheVariants as recovery
 use Rattle.database_law.specs.Packages.{Installed}
 use Rattle.database_read.specs.declared.fault.DatabaseFault.{DatabaseFault}
 use Rattle.pkg_state.specs.declared.broken.Broken.{Broken}
-use Rattle.run_law.specs.Openings.{HasOpening, MayJoin}
+use Rattle.plan_law.specs.Plans.{Group}
+use Rattle.run_law.specs.Openings.{HasOpening}
 use Rattle.opening.specs.Faults.{IsBadDatabase, IsInconsistent}
 use Rattle.opening.specs.Matched.{is_matched}
 use Rattle.visible_set.specs.Candidates.{AreOffers, HasOddEntry, IsChosen}
-use Rattle.run_law.specs.Runs.{MayCome}
-use Rattle.emerge_run.specs.Package.{StopsAt, order_of}
+use Rattle.exchange_run.specs.Runs.{IsOfMade}
+use Rattle.exchange_law.specs.Ends.{IsPlan}
+use Rattle.atom_plan.specs.Plans.{group_for}
+use Rattle.emerge_run.specs.Package.{Making, StopsAt, order_of}
 use Rattle.emerge_run.specs.Words.{AskForOther, AskForPackage, IsRequest, IsUsage}
 use Rattle.emerge_run.specs.declared.judge.Standing.{Standing}
 use Rattle.emerge_run.specs.declared.judge.Standing.TheVariants.{Barred, Chosen, Met, Unmatched}
@@ -54,11 +57,12 @@ pub record IsOpen (m : Map) (a : AtomValue) (ps : List Installed) : Type 0 where
   pub read : IsRead m a ps
   pub unmet : is_matched a ps ≡ false
 
--- the same, and the atom chooses this candidate, which may join them
+-- the same, and the atom chooses this candidate; the plan is accepted by which it comes, and what
+-- stands on its line goes
 pub record IsReady (m : Map) (a : AtomValue) (ps : List Installed) (f : Facts) : Type 0 where
   pub open_to : IsOpen m a ps
   pub chosen : IsChosen m a f
-  pub joins : MayJoin f ps
+  pub plan : IsPlan ps (group_for f ps)
 
 -- why the atom doesn't choose a candidate that could be read
 abbrev pub not_matched : Facts → PackageId × Reason
@@ -74,13 +78,13 @@ pub record HasNone (m : Map) (a : AtomValue) (reasons : List (PackageId × Reaso
   pub none : AllByRecursion (λ f. value_matches a f [] ≡ false) offers
   pub told : reasons ≡ map not_matched offers
 
--- the atom chooses a candidate that may not join the installed packages
+-- the atom chooses a candidate whose plan isn't accepted over the installed packages
 pub record IsBarred (m : Map) (a : AtomValue) : Type 0 where
   pub packages : List Installed
   pub open_to : IsOpen m a packages
   pub facts : Facts
   pub chosen : IsChosen m a facts
-  pub barred : ¬ MayJoin facts packages
+  pub barred : ¬ IsPlan packages (group_for facts packages)
 
 -- how a recovered tree with these packages stands to an atom
 abbrev pub Stands : Map → AtomValue → List Installed → Standing → Type 0
@@ -113,25 +117,30 @@ Refuses m a Command = ⊥
 Refuses m a Repository = HasOddEntry m a.name
 Refuses m a Result = IsBarred m a
 
--- the answer of the merge of a package with this image over a tree: each refusal comes exactly
+-- a group was made so, and its claim is granted
+abbrev pub MayCome : List Installed → Group → List (List Entry) → Map → Type 0
+MayCome ps g images m =
+    (k : Making ps g images m) × ((x : journal.Group) × IsOfMade m k.book k.made x)
+
+-- the answer of the merge of a group with these images over a tree: each refusal comes exactly
 -- where it is the first, of the objects, of the record, and then of the claim
-abbrev pub AsksMerge : List Installed → Facts → List Entry → Map → Status → Type 0
-AsksMerge ps f image m (status.Ok groups) = ((x : Group) × MayCome ps f image m x) × (groups ≡ 1)
-AsksMerge ps f image m (status.Collision c) =
-    StopsAt ps f image m (stops.Claim (claims.Collision c))
-AsksMerge ps f image m (status.BadImage b) =
-    StopsAt ps f image m (stops.Image b) ⊎ StopsAt ps f image m (stops.Claim (claims.Image b))
-AsksMerge ps f image m (status.Limit Paths) = StopsAt ps f image m (stops.Claim claims.Limit)
-AsksMerge ps f image m (status.Limit RecordBytes) = StopsAt ps f image m stops.Limit
-AsksMerge ps f image m status.DeviceFault = ⊤
-AsksMerge ps f image m status.OutputFault = ⊤
-AsksMerge ps f image m status.Memory = ⊤
-AsksMerge ps f image m s = ⊥
+abbrev pub AsksMerge : List Installed → Group → List (List Entry) → Map → Status → Type 0
+AsksMerge ps g images m (status.Ok groups) = MayCome ps g images m × (groups ≡ 1)
+AsksMerge ps g images m (status.Collision c) =
+    StopsAt ps g images m (stops.Claim (claims.Collision c))
+AsksMerge ps g images m (status.BadImage b) =
+    StopsAt ps g images m (stops.Image b) ⊎ StopsAt ps g images m (stops.Claim (claims.Image b))
+AsksMerge ps g images m (status.Limit Paths) = StopsAt ps g images m (stops.Claim claims.Limit)
+AsksMerge ps g images m (status.Limit RecordBytes) = StopsAt ps g images m stops.Limit
+AsksMerge ps g images m status.DeviceFault = ⊤
+AsksMerge ps g images m status.OutputFault = ⊤
+AsksMerge ps g images m status.Memory = ⊤
+AsksMerge ps g images m s = ⊥
 
 -- the same, for the package that the atom chooses
 abbrev pub AsksPackage : AtomValue → Map → (Order → List Entry) → Status → Type 0
-AsksPackage a m image s =
-    (ps : List Installed) × (f : Facts) × IsReady m a ps f × AsksMerge ps f (image (order_of f)) m s
+AsksPackage a m image s = (ps : List Installed) × (f : Facts) × IsReady m a ps f ×
+    AsksMerge ps (group_for f ps) (image (order_of f) ∷ []) m s
 
 -- the image for the package that the atom chooses has too many entries
 abbrev pub HasMany : AtomValue → Map → (Order → List Entry) → Type 0

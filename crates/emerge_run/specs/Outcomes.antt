@@ -1,6 +1,6 @@
 -- What a run leaves: its tree, its groups, and what it wrote.
-use Rattle.std.specs.Prelude.{◌≡◌, ◌≢◌, ◌⊎◌, true, ℕ, Bool, List, [], Contains, IsTrue, ⊤}
-use Rattle.std.specs.List.{AllByRecursion}
+use Rattle.std.specs.Prelude.{◌≡◌, ◌≢◌, true, ℕ, Bool, List, [], ◌∷◌, Contains, IsTrue, ⊤}
+use Rattle.std.specs.Prelude.{Option}
 use Rattle.file_tree.specs.Disk.{Map, Story}
 use Rattle.file_tree.specs.Moments.{Leaves, Since}
 use Rattle.file_tree.specs.declared.limits.Quantity.TheVariants.{Groups, Paths, RecordBytes}
@@ -13,45 +13,52 @@ use Rattle.dep_atom.specs.declared.package.PackageId.{PackageId}
 use Rattle.database_law.specs.Packages.{Installed}
 use Rattle.merge_core.specs.Trail.{IsAtRest}
 use Rattle.merge_record.specs.Recovered.{IsRecovered}
-use Rattle.merge_record.specs.Spelling.{IsPathText}
 use Rattle.group_run.specs.Applied.{HasHistory, LeavesHistory, Recovers}
 use Rattle.emerge_run.specs.Answers.{Asks, AsksMerge, IsReady}
 use Rattle.emerge_run.specs.Images.{HasMany}
-use Rattle.run_law.specs.Ends.{HasGroups, IsKept, IsReached, LeavesGroups}
-use Rattle.run_law.specs.Runs.{MayCome}
-use Rattle.emerge_run.specs.Package.{order_of}
+use Rattle.run_law.specs.Ends.{IsKept}
+use Rattle.plan_law.specs.Plans.{Group, Removal}
+use Rattle.exchange_law.specs.Ends.{HasGroups, IsReached, LeavesGroups}
+use Rattle.atom_plan.specs.Plans.{group_for, removals_for}
+use Rattle.emerge_run.specs.Package.{IsGroupMade, Making, order_of}
 use Rattle.emerge_run.specs.Words.{IsRequest}
 use Rattle.emerge_run.specs.declared.status.Part.TheVariants.{Command, Result}
 use Rattle.emerge_run.specs.declared.status.Status.{Status}
 use Rattle.emerge_run.specs.declared.status.Status.TheVariants as status
 
--- How the merge of a package over a tree at rest ended: with the answer that it asks for; each
--- crash image of each moment recovers to the tree from before, without or with the group, at the
--- end with what the history has; and the tree has just that, unless the device failed or memory ran
--- out.
-pub record MergedTo (ps : List Installed) (f : Facts) (image : List Entry) (old new : Story)
-    (history : List ℕ) (s : Status) : Type 0 where
-  pub answer : AsksMerge ps f image old.now.holds s
-  pub moments : Since (Recovers (MayCome ps f image old.now.holds) old.now.holds []) old new
-  pub crash : Leaves (Recovers (MayCome ps f image old.now.holds) old.now.holds history) new.now
+-- How the merge of a group of a plan over a tree at rest ended: with the answer that it asks for,
+-- and with what was made for it, if memory and the device let it; each crash image of each moment
+-- recovers to the tree from before, without or with the group, at the end with what the history
+-- has; and the tree has just that, unless the device failed or memory ran out.
+pub record MergedTo (ps : List Installed) (g : Group) (images : List (List Entry))
+    (old new : Story) (history : List ℕ) (s : Status) : Type 0 where
+  pub answer : AsksMerge ps g images old.now.holds s
+  pub made : Option (Making ps g images old.now.holds)
+  pub moments : Since (Recovers (IsGroupMade made) old.now.holds []) old new
+  pub crash : Leaves (Recovers (IsGroupMade made) old.now.holds history) new.now
   pub left : s ≢ status.DeviceFault →
-      LeavesHistory (MayCome ps f image old.now.holds) old.now.holds history new.now
+      LeavesHistory (IsGroupMade made) old.now.holds history new.now
   pub tree : s ≢ status.DeviceFault → s ≢ status.Memory →
-      HasHistory (MayCome ps f image old.now.holds) old.now.holds history new.now
+      HasHistory (IsGroupMade made) old.now.holds history new.now
 
--- the words choose this package in a map, beside these, which are installed there
+-- the words choose this package in a map, over these, which are installed there
 pub record IsWanted (words : List (List ℕ)) (m : Map) (ps : List Installed) (f : Facts) :
     Type 0 where
   pub atom : AtomValue
   pub asked : IsRequest words atom
   pub ready : IsReady m atom ps f
 
--- the same, and this is the image that is told for it, whose paths are texts of paths
+-- the group of its plan
+abbrev pub IsWantedGroup : List (List ℕ) → Map → List Installed → Group → Type 0
+IsWantedGroup words m ps g = (f : Facts) × IsWanted words m ps f × (g ≡ group_for f ps)
+
+-- this is the group of such a package, with just the image that is told for it
 pub record IsChoice (words : List (List ℕ)) (image : Order → List Entry) (m : Map)
-    (ps : List Installed) (f : Facts) (entries : List Entry) : Type 0 where
-  pub wanted : IsWanted words m ps f
-  pub told : image (order_of f) ≡ entries
-  pub paths : AllByRecursion (λ e. IsPathText e.path) entries
+    (ps : List Installed) (g : Group) (images : List (List Entry)) : Type 0 where
+  pub facts : Facts
+  pub wanted : IsWanted words m ps facts
+  pub group : g ≡ group_for facts ps
+  pub told : images ≡ image (order_of facts) ∷ []
 
 -- an answer that a run gives once its tree is recovered, and that says how it went there
 abbrev pub IsOfTree : Status → Type 0
@@ -85,17 +92,17 @@ pub record Outcome (words : List (List ℕ)) (image : Order → List Entry) (old
       LeavesGroups (IsChoice words image) history old.now new.now
   pub tree : IsOfTree s → HasGroups (IsChoice words image) history old.now new.now
 
--- a run has chosen a package with this image, to come beside these: its tree is at rest, as
--- recovery made it
+-- a run has chosen a package with just this image, over these: its tree is at rest, as recovery
+-- made it
 pub record HasChosen (words : List (List ℕ)) (image : Order → List Entry) (old new : Story)
-    (ps : List Installed) (f : Facts) (entries : List Entry) : Type 0 where
+    (ps : List Installed) (f : Facts) (images : List (List Entry)) : Type 0 where
   pub atom : AtomValue
   pub asked : IsRequest words atom
   pub moments : Since (IsKept old.now) old new
   pub recovered : IsRecovered old.now.holds new.now.holds
   pub rest : IsAtRest new.now.holds new.now
   pub ready : IsReady new.now.holds atom ps f
-  pub told : image (order_of f) ≡ entries
+  pub told : images ≡ image (order_of f) ∷ []
 
 -- some builder of those at rest tells this image, where builders tell
 abbrev pub OfSomeBuilder : {B : Type 0} → Bool → (B → Order → List Entry) → List B →
@@ -116,16 +123,16 @@ BuildEnds tells told id (status.BuildFailed failed) = failed ≡ id
 BuildEnds tells told id status.Memory = ⊤
 BuildEnds tells told id s = ⊥
 
--- the package that the atom chooses, beside those that are installed; of a tree that tells nothing
--- only that the atom matches it
-abbrev pub IsPackageOf : AtomValue → Bool → Map → PackageId → Type 0
-IsPackageOf a tells m id = (f : Facts) × (f.id ≡ id) × ((value_matches a f [] ≡ true)
-    × (IsTrue tells → (ps : List Installed) × IsReady m a ps f))
+-- the package that the atom chooses over those that are installed, and what goes where it comes; of
+-- a tree that tells nothing only that the atom matches it
+abbrev pub IsPackageOf : AtomValue → Bool → Map → List Removal → PackageId → Type 0
+IsPackageOf a tells m gone id = (f : Facts) × (f.id ≡ id) × ((value_matches a f [] ≡ true)
+    × (IsTrue tells → (ps : List Installed) × IsReady m a ps f × (gone ≡ removals_for f ps)))
 
--- the package that the words choose in what recovery makes of a tree
-abbrev pub IsNamed : List (List ℕ) → Bool → Map → PackageId → Type 0
-IsNamed words tells opening id = (a : AtomValue) × IsRequest words a ×
-    ((m : Map) × (IsTrue tells → IsRecovered opening m) × IsPackageOf a tells m id)
+-- the package that the words choose in what recovery makes of a tree, and what goes where it comes
+abbrev pub IsNamed : List (List ℕ) → Bool → Map → List Removal → PackageId → Type 0
+IsNamed words tells opening gone id = (a : AtomValue) × IsRequest words a ×
+    ((m : Map) × (IsTrue tells → IsRecovered opening m) × IsPackageOf a tells m gone id)
 
 -- an answer of a run that merged nothing
 abbrev pub IsRefusal : Status → Type 0

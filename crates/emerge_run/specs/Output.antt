@@ -3,16 +3,19 @@ use Rattle.std.specs.Prelude.{◌≡◌, ◌⊎◌, ℕ, List, ◌++◌}
 use Rattle.std.specs.List.{AllByRecursion}
 use Rattle.dep_atom.specs.declared.package.PackageId.{PackageId}
 use Rattle.group_run.specs.Lines.{AreLines, IsBeginning}
+use Rattle.plan_law.specs.Plans.{Removal}
 use Rattle.emerge_run.specs.Texts.{done_line, last_line}
 use Rattle.emerge_run.specs.declared.status.Status.{Status}
 use Rattle.emerge_run.specs.declared.status.Status.TheVariants as status
 
--- the line of a group that adds a package which has P
-abbrev pub IsLineOf : (PackageId → Type 0) → List ℕ → ℕ → Type 0
-IsLineOf P line group = (id : PackageId) × P id × (line ≡ done_line id group)
+-- the line of a group that takes packages away and adds one, of which P holds
+abbrev pub IsLineOf : (List Removal → PackageId → Type 0) → List ℕ → ℕ → Type 0
+IsLineOf P line group =
+    (gone : List Removal) × (id : PackageId) × P gone id × (line ≡ done_line gone id group)
 
--- the same lines, where each group of the history adds a package that has P
-pub record IsLines (P : PackageId → Type 0) (history acknowledged text : List ℕ) : Type 0 where
+-- the same lines, where P holds of what each group of the history takes away and adds
+pub record IsLines (P : List Removal → PackageId → Type 0) (history acknowledged text : List ℕ) :
+    Type 0 where
   pub line : ℕ → List ℕ
   pub named : AllByRecursion (λ g. IsLineOf P (line g) g) history
   pub lines : AreLines line history acknowledged text
@@ -33,7 +36,7 @@ abbrev pub IsEnd : Status → Status → List ℕ → Type 0
 IsEnd came s text = IsLast came s text ⊎ IsLast status.Memory s text
 
 -- what a run with these answers wrote: its lines, and then the last line of one of the answers
-pub record IsOutput (P : PackageId → Type 0) (IsAnswer : Status → Type 0)
+pub record IsOutput (P : List Removal → PackageId → Type 0) (IsAnswer : Status → Type 0)
     (history acknowledged : List ℕ) (s : Status) (text : List ℕ) : Type 0 where
   pub lines : List ℕ
   pub named : IsLines P history acknowledged lines

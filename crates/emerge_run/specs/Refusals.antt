@@ -57,7 +57,8 @@ status_of_recovery recovery.Limit = status.Limit Groups
 status_of_recovery recovery.Failed = status.DeviceFault
 status_of_recovery recovery.Memory = status.Memory
 
--- what the merge of a package is stopped for; its paths never overlap, and it removes none
+-- what the merge of a group is stopped for; that its paths overlap, or that it removes what nobody
+-- owns, says nothing: a tree that tells stops none so
 abbrev pub status_of_claim : ClaimStop → Status
 status_of_claim claims.Device = status.DeviceFault
 status_of_claim (claims.Collision c) = status.Collision c

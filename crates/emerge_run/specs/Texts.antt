@@ -9,6 +9,7 @@ use Rattle.dep_atom.specs.declared.package.PackageId.{PackageId}
 use Rattle.database_read.specs.declared.fault.DatabaseFault.{DatabaseFault}
 use Rattle.database_read.specs.declared.fault.DatabaseFault.TheVariants as databases
 use Rattle.pkg_state.specs.declared.broken.Broken.{Broken}
+use Rattle.plan_law.specs.Plans.{Removal}
 use Rattle.pkg_state.specs.declared.broken.Broken.TheVariants as broken
 use Rattle.emerge_words.specs.declared.request.WordFault.{WordFault}
 use Rattle.emerge_words.specs.declared.request.WordFault.TheVariants as words
@@ -27,9 +28,15 @@ use Rattle.emerge_run.specs.declared.status.Reason.TheVariants.{NotMatched}
 use Rattle.emerge_run.specs.declared.status.Status.{Status}
 use Rattle.emerge_run.specs.declared.status.Status.TheVariants as status
 
--- the line of a group that adds one package
-abbrev pub done_line : PackageId → ℕ → List ℕ
-done_line id group = codes "done " ++ (decimal group ++ (codes " +" ++ (id_text id ++ (10 ∷ []))))
+-- a package that goes, behind a hyphen
+abbrev pub gone_text : Removal → List ℕ
+gone_text r = codes " -" ++ id_text r.id
+
+-- the line of a group that takes these packages away, and adds one
+abbrev pub done_line : List Removal → PackageId → ℕ → List ℕ
+done_line gone id group =
+    codes "done " ++ (decimal group ++ (flat_map gone_text gone ++
+    (codes " +" ++ (id_text id ++ (10 ∷ [])))))
 
 abbrev pub part_word : Part → List ℕ
 part_word Command = codes "Command"

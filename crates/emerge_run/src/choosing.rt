@@ -7,26 +7,28 @@ ghost use Rattle.dep_atom.specs.Values.{atom_value};
 ghost use Rattle.dep_atom.specs.declared.package.PackageId.{PackageId};
 ghost use Rattle.run_law.specs.Openings.{AreOwners};
 ghost use Rattle.visible_set.specs.Candidates.{AreOffers};
+ghost use Rattle.exchange_law.specs.Ends.{image_of};
 ghost use Rattle.emerge_run.specs.Answers.{AsksFor, IsRead, IsReady};
-ghost use Rattle.emerge_run.specs.Images.{IsTold};
+ghost use Rattle.emerge_run.specs.Images.{AreTold};
 ghost use Rattle.emerge_run.specs.Openings.{AreInstalled, AreInstalledAfter, GivesBack, IsUnread};
 ghost use Rattle.emerge_run.specs.Outcomes.{BuildEnds, HasChosen, IsEarly, IsNamed, IsUnmerged};
 ghost use Rattle.emerge_run.specs.Outcomes.{OfSomeBuilder, Outcome};
-ghost use Rattle.emerge_run.specs.Package.{IsAddition, order_of};
+ghost use Rattle.emerge_run.specs.Package.{IsTask, order_of};
 ghost use Rattle.emerge_run.specs.Refusals.{packages_with, status_of};
 ghost use Rattle.emerge_run.specs.Words.{AskForPackage, IsOfWords, IsUsage};
 ghost use Rattle.emerge_words.specs.declared.request.WordFault.{WordFault};
 
 use crate::judge::{Read, Standing, read_tree, standing_of};
-use crate::prepare::{addition_of, find_image};
+use crate::prepare::{chosen_with, find_image};
 use crate::refusal::Refusal;
 use crate::status::{Part, Status};
 use crate::words::read_request;
 use build_pool::{BuildPool, Builder};
 use dep_atom::{Atom, Facts};
+use exchange_run::Additions;
 use file_tree::Tree;
 use owner_book::OwnerBook;
-use package_run::Addition;
+use plan_check::Removal;
 use record_read::Installed;
 use recovery::recover;
 use std::alloc::Global;
@@ -40,11 +42,13 @@ pub struct Found {
     pub answer: Result<Chosen, Status>,
 }
 
-/// A package that a run merges.
+/// A package that a run merges, and what its merge takes.
 #[derive(Drop)]
 pub struct Chosen {
     pub facts: Facts,
-    pub addition: Addition,
+    /// What goes where it comes.
+    pub removals: Vec<Removal>,
+    pub additions: Additions,
 }
 
 /// Recovers the tree, and finds the package that the words choose in it, with its image; or answers
@@ -59,11 +63,11 @@ pub fn choose<T: Tree, B: Builder>(
     ensures chosen { IsTrue T.tells → IfOk result.answer (λ c.
         OfSomeBuilder B.tells B.told pool.old.resting (λ image.
         HasChosen (map string_bytes words.now) image (T.story tree.old) (T.story tree.new)
-        result.opening.items c.facts c.addition.image.items)) }
-    ensures added { IfOk result.answer (λ c. IsAddition T.tells (T.story tree.new).now.holds
-        result.opening.items c.facts c.addition) }
+        result.opening.items c.facts (map image_of c.additions.newcomers.items))) }
+    ensures task { IfOk result.answer
+        (IsTask T.tells (T.story tree.new).now.holds result.opening.items) }
     ensures named { IfOk result.answer (λ c. IsNamed (map string_bytes words.now) T.tells
-        (T.story tree.old).now.holds c.facts.id) }
+        (T.story tree.old).now.holds c.removals.items c.facts.id) }
     ensures ended { IsTrue T.tells → IfErr result.answer (λ s.
         OfSomeBuilder B.tells B.told pool.old.resting (λ image.
         Outcome (map string_bytes words.now) image (T.story tree.old) (T.story tree.new) [] s)) }
@@ -116,9 +120,9 @@ fn find_package<T: Tree, B: Builder>(
         IsReady (T.story tree.old).now.holds (atom_value atom) result.opening.items c.facts) }
     ensures matched { IfOk result.answer (λ c. value_matches (atom_value atom) c.facts [] ≡ true) }
     ensures image { IfOk result.answer (λ c. (b : B) × Contains pool.old.resting b ×
-        IsTold B.tells (B.told b (order_of c.facts)) c.addition.image.items) }
-    ensures added { IfOk result.answer (λ c. IsAddition T.tells (T.story tree.old).now.holds
-        result.opening.items c.facts c.addition) }
+        AreTold B.tells (B.told b (order_of c.facts)) (map image_of c.additions.newcomers.items)) }
+    ensures task { IfOk result.answer
+        (IsTask T.tells (T.story tree.old).now.holds result.opening.items) }
     ensures ended { IsTrue T.tells → IfErr result.answer (λ s.
         OfSomeBuilder B.tells B.told pool.old.resting
         (λ image. AsksFor (atom_value atom) (T.story tree.old).now.holds image s)) }
@@ -174,7 +178,7 @@ fn refused(alloc: Global, refusal: Refusal) -> Found
     }
 }
 
-/// The package that the atom chooses, with its image, to come beside the installed ones.
+/// The package that the atom chooses, with its image, to come over the installed ones.
 fn answer_of<B: Builder>(
     alloc: Global,
     atom: Atom,
@@ -189,10 +193,10 @@ fn answer_of<B: Builder>(
         (λ c. IsReady m (atom_value atom) packages.now c.facts) }
     ensures matched { IfOk result (λ c. value_matches (atom_value atom) c.facts [] ≡ true) }
     ensures image { IfOk result (λ c. (b : B) × Contains pool.old.resting b ×
-        IsTold B.tells (B.told b (order_of c.facts)) c.addition.image.items) }
-    ensures added { (tells : Bool) (m : Map) → book.claims ≡ [] →
-        (IsTrue tells → AreOwners m packages.now book) → IfOk result
-        (λ c. IsAddition tells m packages.now c.facts c.addition) }
+        AreTold B.tells (B.told b (order_of c.facts)) (map image_of c.additions.newcomers.items)) }
+    ensures task { (tells : Bool) (m : Map) → book.claims ≡ [] →
+        (IsTrue tells → AreOwners m packages.now book) →
+        IfOk result (IsTask tells m packages.now) }
     ensures ended { (m : Map) → AreOffers m atom.name offers.items →
         IsRead m (atom_value atom) packages.now → IfErr result (λ s.
         OfSomeBuilder B.tells B.told pool.old.resting
@@ -223,10 +227,10 @@ fn with_image<B: Builder>(
     requires resting { 0 < length pool.old.resting }
     ensures facts { IfOk result (λ c. c.facts ≡ facts) }
     ensures image { IfOk result (λ c. (b : B) × Contains pool.old.resting b ×
-        IsTold B.tells (B.told b (order_of facts)) c.addition.image.items) }
-    ensures added { (tells : Bool) (m : Map) → book.claims ≡ [] →
-        (IsTrue tells → AreOwners m packages.now book) → IfOk result
-        (λ c. IsAddition tells m packages.now facts c.addition) }
+        AreTold B.tells (B.told b (order_of facts)) (map image_of c.additions.newcomers.items)) }
+    ensures task { (tells : Bool) (m : Map) → book.claims ≡ [] →
+        (IsTrue tells → AreOwners m packages.now book) →
+        IfOk result (IsTask tells m packages.now) }
     ensures ends { IfErr result (λ s. (b : B) × Contains pool.old.resting b ×
         BuildEnds B.tells (B.told b (order_of facts)) facts.id s) }
     ensures build { (id : PackageId) → IsErrOf result (Status.BuildFailed id) →
@@ -235,6 +239,6 @@ fn with_image<B: Builder>(
     ensures lent { pool.new.lent ≡ pool.old.lent }
 {
     let image = find_image(alloc, pool, &facts)?;
-    let addition = addition_of(alloc, &facts, image, packages.len(), book)?;
-    Ok(Chosen { facts, addition })
+    let chosen = chosen_with(alloc, facts, packages, image, book)?;
+    Ok(chosen)
 }

@@ -1,13 +1,11 @@
 ghost use Rattle.std.specs.Prelude.{◌≡◌, ◌≤◌, ◌<◌, ℕ, Contains, IfOk, IsErrOf, IsTrue, MatchOption};
 ghost use Rattle.std.specs.Prelude.{length, take};
-ghost use Rattle.std.specs.List.{AllByRecursion};
 ghost use Rattle.file_tree.specs.Disk.{Rose};
-ghost use Rattle.merge_record.specs.Spelling.{IsPathText};
 ghost use Rattle.build_pool.specs.Pool.{PoolRose, SameIds, faults_of};
 ghost use Rattle.emerge_run.specs.Images.{HasMany, IsTold};
 
 use build_pool::{BuildPool, BuildStop, Builder, Order};
-use file_tree::{Entry, Path};
+use file_tree::Entry;
 use image_fit::MOST_ENTRIES;
 use std::alloc::Global;
 
@@ -81,19 +79,4 @@ fn entries_of<B: Builder>(
         }
     }
     Ok(entries)
-}
-
-/// The paths of the entries are texts of paths, as their type promises; nothing is done.
-pub(crate) fn promise_paths(image: &[Entry])
-    ensures { AllByRecursion (λ e. IsPathText e.path) image.now }
-{
-    for entry in image {
-        promise_path(&entry.path);
-    }
-}
-
-fn promise_path(path: &Path)
-    ensures { IsPathText path.now }
-{
-    let _text = path.text();
 }

@@ -3,16 +3,17 @@ ghost use Rattle.std.specs.Prelude.{MatchResult, map};
 ghost use Rattle.file_tree.specs.Disk.{CountsFault, Map};
 ghost use Rattle.dep_atom.specs.Match.{value_matches};
 ghost use Rattle.dep_atom.specs.Values.{atom_value};
-ghost use Rattle.run_law.specs.Openings.{AreOwners, MayJoin};
+ghost use Rattle.run_law.specs.Openings.{AreOwners};
 ghost use Rattle.emerge_run.specs.Answers.{HasMatched, IsOpen, IsRead, Stands, not_matched};
 ghost use Rattle.emerge_run.specs.Refusals.{TreeRefuses};
 ghost use Rattle.visible_set.specs.Candidates.{AreOffers};
 
 use crate::refusal::Refusal;
 use crate::status::Reason;
+use atom_plan::is_accepted;
 use dep_atom::{Atom, Facts, PackageId};
 use file_tree::Tree;
-use opening::{Opening, is_matched, may_join, read_opening};
+use opening::{Opening, is_matched, read_opening};
 use owner_book::OwnerBook;
 use record_read::Installed;
 use std::alloc::{AllocError, Global};
@@ -33,9 +34,9 @@ pub struct Read {
 pub enum Standing {
     /// The atom matches a package that is installed.
     Met,
-    /// It matches none, and chooses this candidate, to come beside those that are installed.
+    /// It matches none, and chooses this candidate, whose plan is accepted.
     Chosen(Facts),
-    /// It matches none, and chooses a candidate that may not come beside them.
+    /// It matches none, and chooses a candidate whose plan isn't accepted.
     Barred,
     /// It matches neither an installed package nor one of these candidates.
     Unmatched(Vec<(PackageId, Reason)>),
@@ -68,7 +69,7 @@ pub fn read_tree<T: Tree>(alloc: Global, tree: &mut T, atom: &Atom) -> Result<Re
 }
 
 /// Whether the atom matches one of the packages, or else which of the candidates it chooses, and
-/// whether that one may join them.
+/// whether the plan is accepted by which that one comes, and what stands on its line goes.
 pub fn standing_of(
     alloc: Global,
     atom: &Atom,
@@ -100,7 +101,7 @@ fn chosen_of(
 {
     match choose(alloc, atom, offers) {
         Ok(chosen) => {
-            if may_join(alloc, &chosen, packages)? {
+            if is_accepted(alloc, &chosen, packages)? {
                 Ok(Standing::Chosen(chosen))
             } else {
                 Ok(Standing::Barred)

@@ -1,21 +1,22 @@
-ghost use Rattle.std.specs.Prelude.{◌≡◌, ◌⊎◌, [], ℕ, IfErr, IsTrue, MatchOption, length, map};
+ghost use Rattle.std.specs.Prelude.{◌≡◌, ◌⊎◌, [], ℕ, IsTrue, MatchOption, length, map};
 ghost use Rattle.file_tree.specs.Disk.{CountsFault};
 ghost use Rattle.group_run.specs.Applied.{number};
 ghost use Rattle.group_run.specs.Lines.{AreLines, Wrote};
 ghost use Rattle.merge_core.specs.Trail.{IsAtRest};
-ghost use Rattle.package_run.specs.Packages.{MayStop};
+ghost use Rattle.exchange_law.specs.Ends.{image_of};
+ghost use Rattle.atom_plan.specs.Plans.{group_for};
 ghost use Rattle.emerge_run.specs.Outcomes.{IsOfMerge, IsRefusal, MergedTo};
-ghost use Rattle.emerge_run.specs.Package.{IsAddition};
+ghost use Rattle.emerge_run.specs.Package.{IsTask};
 ghost use Rattle.emerge_run.specs.Refusals.{status_of_claim, status_of_end, status_of_stop};
 ghost use Rattle.emerge_run.specs.Texts.{done_line};
 
 use crate::choosing::Chosen;
 use crate::run::Reached;
 use crate::status::Status;
+use exchange_run::merge_exchange;
 use file_tree::{Quantity, Sink, Tree};
 use group_run::{Merged, Stop};
 use merge_site::ClaimStop;
-use package_run::merge_package;
 use record_read::Installed;
 use std::alloc::Global;
 
@@ -28,11 +29,10 @@ pub fn merge_chosen<T: Tree, S: Sink>(
     chosen: Chosen,
 ) -> Reached<T, S>
     requires rest { IsTrue T.tells → IsAtRest (T.story tree).now.holds (T.story tree).now }
-    requires added { IsAddition T.tells (T.story tree).now.holds opening.items chosen.facts
-        chosen.addition }
-    ensures merged { IsTrue T.tells → MergedTo opening.items chosen.facts
-        chosen.addition.image.items (T.story tree) (T.story result.tree) result.history.items
-        result.status }
+    requires task { IsTask T.tells (T.story tree).now.holds opening.items chosen }
+    ensures merged { IsTrue T.tells → MergedTo opening.items
+        (group_for chosen.facts opening.items) (map image_of chosen.additions.newcomers.items)
+        (T.story tree) (T.story result.tree) result.history.items result.status }
     ensures opening { result.opening.items ≡ opening.items }
     ensures machine { MatchOption result.machine (result.history.items ≡ [])
         (λ k. result.history.items ≡ map number k.order) }
@@ -43,15 +43,19 @@ pub fn merge_chosen<T: Tree, S: Sink>(
     ensures refused { IsRefusal result.status → result.history.items ≡ [] }
     ensures kept { (result.acknowledged.items ≡ []) ⊎
         (result.acknowledged.items ≡ result.history.items) }
-    ensures written { IsTrue S.tells → Wrote (AreLines (done_line chosen.facts.id)
-        result.history.items result.acknowledged.items)
-        (S.written out) (S.written result.out) }
+    ensures written { IsTrue S.tells → Wrote (AreLines
+        (done_line chosen.removals.items chosen.facts.id) result.history.items
+        result.acknowledged.items) (S.written out) (S.written result.out) }
     ensures device { CountsFault (result.status ≡ Status.DeviceFault) (T.faults tree)
         (T.faults result.tree) }
     ensures output { CountsFault (result.status ≡ Status.OutputFault) (S.faults out)
         (S.faults result.out) }
 {
-    let Chosen { facts, addition } = chosen;
+    let Chosen {
+        removals,
+        additions,
+        ..
+    } = chosen;
     let Merged {
         tree,
         sink,
@@ -59,7 +63,7 @@ pub fn merge_chosen<T: Tree, S: Sink>(
         end,
         history,
         acknowledged,
-    } = merge_package(alloc, tree, out, &facts, addition);
+    } = merge_exchange(alloc, tree, out, &opening, &removals, additions);
     let status = status_of_end(end, history.len() as u32);
     Reached {
         status,
@@ -74,7 +78,6 @@ pub fn merge_chosen<T: Tree, S: Sink>(
 
 /// The status of a merge that ended so, with so many groups.
 fn status_of_end(end: Result<(), Stop>, groups: u32) -> Status
-    requires { IfErr end MayStop }
     ensures { result ≡ status_of_end groups end }
 {
     match end {
@@ -84,7 +87,6 @@ fn status_of_end(end: Result<(), Stop>, groups: u32) -> Status
 }
 
 fn status_of_stop(stop: Stop) -> Status
-    requires { MayStop stop }
     ensures { result ≡ status_of_stop stop }
 {
     match stop {
@@ -99,18 +101,18 @@ fn status_of_stop(stop: Stop) -> Status
     }
 }
 
-/// The status of a claim that was stopped so: the paths of a package never overlap, and none is
-/// removed.
+/// The status of a claim that was stopped so. What is removed is owned, and each path comes once, as
+/// far as the tree tells: one that tells otherwise from look to look is told as want of memory.
 fn status_of_claim(claim: ClaimStop) -> Status
-    requires { MayStop (Stop.Claim claim) }
     ensures { result ≡ status_of_claim claim }
 {
     match claim {
+        ClaimStop::Device => Status::DeviceFault,
         ClaimStop::Collision(collision) => Status::Collision(collision),
         ClaimStop::Image(bad) => Status::BadImage(bad),
         ClaimStop::Limit => Status::Limit {
             quantity: Quantity::Paths,
         },
-        _ => unreachable!(),
+        ClaimStop::Removal { .. } | ClaimStop::Overlap | ClaimStop::Memory => Status::Memory,
     }
 }

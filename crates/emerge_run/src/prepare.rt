@@ -1,23 +1,26 @@
-ghost use Rattle.std.specs.Prelude.{◌≡◌, ◌≤◌, ◌<◌, Bool, List, [], Contains, IfErr, IfOk, IsErrOf};
-ghost use Rattle.std.specs.Prelude.{IsTrue, length};
+ghost use Rattle.std.specs.Prelude.{◌≡◌, ◌≤◌, ◌<◌, ◌∷◌, Bool, [], Contains, IfErr, IfOk, IsErrOf};
+ghost use Rattle.std.specs.Prelude.{IsTrue, length, map};
 ghost use Rattle.build_pool.specs.Pool.{PoolRose, SameIds, faults_of};
-ghost use Rattle.database_law.specs.Packages.{Installed};
 ghost use Rattle.dep_atom.specs.declared.package.PackageId.{PackageId};
 ghost use Rattle.file_tree.specs.Disk.{Map};
 ghost use Rattle.run_law.specs.Openings.{AreOwners};
+ghost use Rattle.exchange_law.specs.Ends.{image_of};
 ghost use Rattle.emerge_run.specs.Images.{IsTold};
 ghost use Rattle.emerge_run.specs.Outcomes.{BuildEnds};
-ghost use Rattle.emerge_run.specs.Package.{IsAddition, order_of};
+ghost use Rattle.emerge_run.specs.Package.{IsTask, order_of};
 
-use crate::images::{built_image, promise_paths};
+use crate::choosing::Chosen;
+use crate::images::built_image;
 use crate::status::Status;
 use crate::texts::line_of_group;
+use atom_plan::{needing_nothing, removals_for};
 use build_pool::{BuildPool, BuildStop, Builder, Order};
 use dep_atom::Facts;
+use exchange_make::Newcomer;
+use exchange_run::Additions;
 use file_tree::{Entry, Quantity};
-use merge_record::OwnerKey;
 use owner_book::OwnerBook;
-use package_run::Addition;
+use record_read::Installed;
 use std::alloc::{AllocError, Global};
 
 /// Has the image of a package built.
@@ -50,27 +53,34 @@ pub fn find_image<B: Builder>(
     }
 }
 
-/// What is made for the merge of a package beside so many, with its image.
-pub fn addition_of(
+/// What the merge of a package takes that comes with this image, in place of what stands on its line.
+pub fn chosen_with(
     alloc: Global,
-    facts: &Facts,
+    facts: Facts,
+    packages: &[Installed],
     image: Vec<Entry>,
-    count: usize,
     book: OwnerBook,
-) -> Result<Addition, AllocError>
-    ensures image { IfOk result (λ a. a.image.items ≡ image.items) }
-    ensures added { (tells : Bool) (m : Map) (ps : List Installed) → length ps ≡ count →
-        book.claims ≡ [] → (IsTrue tells → AreOwners m ps book) →
-        IfOk result (IsAddition tells m ps facts.now) }
+) -> Result<Chosen, AllocError>
+    ensures facts { IfOk result (λ c. c.facts ≡ facts) }
+    ensures image { IfOk result (λ c. map image_of c.additions.newcomers.items ≡
+        image.items ∷ []) }
+    ensures task { (tells : Bool) (m : Map) → book.claims ≡ [] →
+        (IsTrue tells → AreOwners m packages.now book) →
+        IfOk result (IsTask tells m packages.now) }
 {
-    promise_paths(&image);
-    let number = u32::try_from(count).map_err(|_| AllocError)?;
-    let text = line_of_group(alloc, &facts.id, 1)?;
+    let removals = removals_for(alloc, &facts, packages)?;
+    let text = line_of_group(alloc, &removals, &facts.id, 1)?;
     let line = text.as_bytes().to_vec(alloc)?;
-    Ok(Addition {
-        owner: OwnerKey { number },
-        image,
-        line,
-        book,
+    let pkg = needing_nothing(alloc, &facts)?;
+    let mut newcomers = Vec::with_capacity(alloc, 1)?;
+    newcomers.push(Newcomer { pkg, image })?;
+    Ok(Chosen {
+        facts,
+        removals,
+        additions: Additions {
+            newcomers,
+            line,
+            book,
+        },
     })
 }

@@ -58,10 +58,11 @@ pub struct Reached<T, S> {
 ///
 /// The words are those of the whole product; what is done today is the merge of one atom. First an
 /// interrupted merge is completed or dropped. Of the candidates of the atom's name the greatest
-/// version that it matches is merged, unless a package that it matches is installed. A package that
-/// is merged has its files at their paths and its record below `var/db/pkg`; its line comes after
-/// they are synced, and last the journal is cleared. Want of memory may be answered in place of
-/// anything.
+/// version that it matches is merged, unless a package that it matches is installed. It comes in
+/// place of what stands in its slot: as one, its files come to their paths and its record below
+/// `var/db/pkg`, and what goes leaves with its record, and with its paths that don't come anew. The
+/// line comes after all that is synced, and last the journal is cleared. Want of memory may be
+/// answered in place of anything.
 pub fn emerge<T: Tree + Send, S: Sink + Send, B: Builder + Send>(
     alloc: Global,
     words: &[String],
@@ -88,7 +89,8 @@ pub fn emerge<T: Tree + Send, S: Sink + Send, B: Builder + Send>(
     ensures unread { IsUnread result.status → result.opening.items ≡ [] }
 
     // From a disk whose packages go together, and which keeps what they recorded, a crash at any
-    // moment recovers to such a tree: with the same packages, or with these and the chosen one.
+    // moment recovers to such a tree: with the same packages, or with those after the group by which
+    // the chosen one comes, and what stands on its line goes.
     ensures headline { IsTrue T.tells → (m : Map) (ps : List Installed) →
         BeginsWith (T.story tree).now m ps → Headline (map string_bytes words.now) m ps
         (T.story tree) (T.story result.tree) result.history.items result.status }
@@ -128,7 +130,7 @@ pub fn emerge<T: Tree + Send, S: Sink + Send, B: Builder + Send>(
     ensures ids { SameIds B.number pool result.pool }
     ensures lent { result.pool.lent ≡ pool.lent }
 {
-    run_law::runs_leave_sound_trees();
+    exchange_law::made_groups_leave_sound_trees();
     let Reached {
         status,
         tree,

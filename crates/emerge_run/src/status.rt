@@ -13,7 +13,7 @@ pub enum Part {
     Command,
     /// A cache entry of another form.
     Repository,
-    /// A package that may not come beside those that are installed.
+    /// A package that can't come by a plan that takes away just what stands on its line.
     Result,
 }
 

@@ -4,7 +4,8 @@ ghost use Rattle.std.specs.List.{flat_map};
 ghost use Rattle.dep_atom.specs.Ids.{id_text};
 ghost use Rattle.dep_atom.specs.Text.{atom_text};
 ghost use Rattle.emerge_run.specs.Texts.{bad_text, broken_text, collision_text, done_line};
-ghost use Rattle.emerge_run.specs.Texts.{inconsistent_text, last_line, leaf_text, pair_text};
+ghost use Rattle.emerge_run.specs.Texts.{gone_text, inconsistent_text, last_line, leaf_text};
+ghost use Rattle.emerge_run.specs.Texts.{pair_text};
 ghost use Rattle.emerge_run.specs.Texts.{place_of_fault, reason_text, reason_word};
 
 use crate::status::{Part, Reason, Status};
@@ -14,15 +15,43 @@ use emerge_words::WordFault;
 use file_tree::Quantity;
 use owner_book::{Collision, ImageBad};
 use pkg_state::Broken;
+use plan_check::Removal;
 use recovery::RecoverFault;
 use std::alloc::{AllocError, Global};
 
-/// The line of a group that adds the package.
-pub fn line_of_group(alloc: Global, package: &PackageId, group: u32) -> Result<String, AllocError>
-    ensures { IfOk result (λ t. string_bytes t ≡ done_line «package».now group) }
+/// The line of a group that takes these packages away, and adds one.
+pub fn line_of_group(
+    alloc: Global,
+    removals: &[Removal],
+    package: &PackageId,
+    group: u32,
+) -> Result<String, AllocError>
+    ensures { IfOk result (λ t. string_bytes t ≡
+        done_line removals.now «package».now group) }
 {
+    let gone = listed_removals(alloc, removals)?;
     let text = package.print(alloc)?;
-    format!(in alloc; "done {group} +{text}\n")
+    format!(in alloc; "done {group}{gone} +{text}\n")
+}
+
+/// Each package that goes, behind a hyphen.
+fn listed_removals(alloc: Global, removals: &[Removal]) -> Result<String, AllocError>
+    ensures { IfOk result (λ t. string_bytes t ≡ flat_map gone_text removals.now) }
+{
+    let mut listed = String::new(alloc);
+    for removal in removals {
+        write_removal(alloc, removal, &mut listed)?;
+    }
+    Ok(listed)
+}
+
+fn write_removal(alloc: Global, removal: &Removal, text: &mut String) -> Result<(), AllocError>
+    ensures { OnOk result (string_bytes text.new ≡
+        string_bytes text.old ++ gone_text removal.now) }
+{
+    let id = removal.id.print(alloc)?;
+    text.push_str(" -")?;
+    text.push_str(id.as_str())
 }
 
 /// The last line of a status that names nothing: it takes no memory.

@@ -6,7 +6,6 @@ use Rattle.emerge_run.specs.Answers.{IsReady, Stands}
 use Rattle.emerge_run.specs.declared.judge.Standing.{Standing}
 use Rattle.emerge_run.proofs.Asked.{some_builder}
 use Rattle.emerge_run.proofs.Chosen.{ended_build, image_same}
-use Rattle.emerge_run.proofs.Givens.{added_same}
 use Rattle.emerge_run.proofs.choosing.answer_of.Goals as goal
 
 pub returns-in_err-standing-clause-ended : goal.returns-in_err-standing-clause-ended
@@ -25,10 +24,6 @@ returns-in-Chosen-clause-ready g c m are read =
 pub returns-in-Chosen-clause-image : goal.returns-in-Chosen-clause-image
 returns-in-Chosen-clause-image g c =
     image_same g.B.Builder.tells g.B.Builder.told c.args.pool.now.resting c.in-Chosen.facts c.with_image.result c.with_image.ensures.facts c.with_image.ensures.image
-
-pub returns-in-Chosen-clause-added : goal.returns-in-Chosen-clause-added
-returns-in-Chosen-clause-added g c tells m unclaimed owners =
-    added_same tells m c.args.packages.now c.in-Chosen.facts c.with_image.result c.with_image.ensures.facts (c.with_image.ensures.added tells m unclaimed owners)
 
 pub returns-in-Chosen-clause-ended : goal.returns-in-Chosen-clause-ended
 returns-in-Chosen-clause-ended g c m are read =

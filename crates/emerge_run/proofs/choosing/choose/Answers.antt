@@ -21,14 +21,14 @@ returns-in-Ok-recover-clause-chosen g c t =
     let recovered = c.in-Ok-recover.ensures.recovered t in
     chosen_after g.B.Builder.tells g.B.Builder.told c.args.pool.now.resting (map string_bytes c.args.words.now) (atom_value c.in-Ok.atom) old mid new
     c.in-Ok.ensures.found (c.recover.ensures.moments t) recovered.0 (at_rest old.now.holds mid recovered) (c.find_package.ensures.same t)
-    c.find_package.result.opening.items c.find_package.result.answer (c.find_package.ensures.ready t) c.find_package.ensures.image
+    g.T.Tree.tells c.find_package.result.opening.items c.find_package.result.answer (c.find_package.ensures.ready t) c.find_package.ensures.task c.find_package.ensures.image
 
 pub returns-in-Ok-recover-clause-named : goal.returns-in-Ok-recover-clause-named
 returns-in-Ok-recover-clause-named g c =
     let old = (g.T.Tree.story c.args.tree.now).now.holds in
     let mid = (g.T.Tree.story c.recover.new.tree).now.holds in
-    named_after (map string_bytes c.args.words.now) (atom_value c.in-Ok.atom) g.T.Tree.tells old mid c.find_package.result.opening.items c.find_package.result.answer
-    c.in-Ok.ensures.found (λ u. (c.in-Ok-recover.ensures.recovered u).0) c.find_package.ensures.matched c.find_package.ensures.ready
+    named_after (map string_bytes c.args.words.now) (atom_value c.in-Ok.atom) g.T.Tree.tells old mid mid c.find_package.result.opening.items c.find_package.result.answer
+    c.in-Ok.ensures.found (λ u. (c.in-Ok-recover.ensures.recovered u).0) c.find_package.ensures.matched c.find_package.ensures.ready c.find_package.ensures.task
 
 pub returns-in-Ok-recover-clause-ended : goal.returns-in-Ok-recover-clause-ended
 returns-in-Ok-recover-clause-ended g c t =

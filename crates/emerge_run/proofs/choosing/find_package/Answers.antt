@@ -20,12 +20,12 @@ returns-in-Ok-clause-ready g c t =
     let read : IsRead m a c.deref.result.now = subst (IsRead m a) (sym c.deref.ensures.value) (c.in-Ok.ensures.read t) in
     rw c.deref.ensures.value at (c.answer_of-answer.ensures.ready m (c.in-Ok.ensures.offers t) read)
 
-pub returns-in-Ok-clause-added : goal.returns-in-Ok-clause-added
-returns-in-Ok-clause-added g c =
+pub returns-in-Ok-clause-task : goal.returns-in-Ok-clause-task
+returns-in-Ok-clause-task g c =
     let m : Map = (g.T.Tree.story c.args.tree.now).now.holds in
     let book = c.in-Ok.read.book in
     let owners : IsTrue g.T.Tree.tells → AreOwners m c.deref.result.now book = λ t. subst (λ (ps : List Installed). AreOwners m ps book) (sym c.deref.ensures.value) (c.in-Ok.ensures.owners t) in
-    rw c.deref.ensures.value at (c.answer_of-answer.ensures.added g.T.Tree.tells m c.in-Ok.ensures.unclaimed owners)
+    rw c.deref.ensures.value at (c.answer_of-answer.ensures.task g.T.Tree.tells m c.in-Ok.ensures.unclaimed owners)
 
 pub returns-in-Ok-clause-ended : goal.returns-in-Ok-clause-ended
 returns-in-Ok-clause-ended g c t =

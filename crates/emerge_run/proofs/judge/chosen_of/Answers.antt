@@ -10,7 +10,7 @@ pub returns-then-branch-clause-stands : goal.returns-then-branch-clause-stands
 returns-then-branch-clause-stands c m are is_open = record {
   open_to = is_open;
   chosen = c.in-Ok.ensures.chosen m are;
-  joins = c.in_ok-may_join-in-Ok.ensures.0 c.if-branch.true;
+  plan = c.in_ok-is_accepted-in-Ok.ensures.0 c.if-branch.true;
 }
 
 pub returns-in_ok-reasons_of-in-Err-clause-stands : goal.returns-in_ok-reasons_of-in-Err-clause-stands

@@ -1,40 +1,60 @@
-use Rattle.std.proofs.Common.{◌∙◌, Bool, subst, sym}
-use Rattle.std.specs.Prelude.{IfErr, length}
-use Rattle.merge_record.specs.declared.record.OwnerKey.{OwnerKey}
-use Rattle.run_law.specs.Openings.{key_at}
-use Rattle.package_run.specs.Packages.{StopsMerge, WentFor}
-use Rattle.emerge_run.specs.Outcomes.{IsOfMerge, IsRefusal}
+use Rattle.std.proofs.Common.{◌≡◌, ◌∙◌, Bool, List, ap, refl, subst, sym}
+use Rattle.std.specs.Prelude.{IfErr, map}
+use Rattle.database_law.specs.Packages.{Installed}
+use Rattle.plan_law.specs.Plans.{Group, Removal}
+use Rattle.run_law.specs.Openings.{AreOwners}
+use Rattle.exchange_make.specs.Made.{group_with}
+use Rattle.exchange_run.specs.Runs.{StopsMerge}
+use Rattle.exchange_law.specs.Ends.{image_of}
+use Rattle.atom_plan.specs.Plans.{group_for}
+use Rattle.emerge_run.specs.Outcomes.{IsOfMerge, IsRefusal, MergedTo}
 use Rattle.emerge_run.proofs.Lines.{wrote_lines}
-use Rattle.emerge_run.proofs.Merged.{end_of_merge, merged_to, ok_first, refused_ended}
+use Rattle.emerge_run.proofs.Merged.{device_ended, end_of_merge, group_chosen, merged_to, ok_first, refused_ended}
 use Rattle.emerge_run.proofs.merging.merge_chosen.Goals as goal
 
 pub returns-clause-merged : goal.returns-clause-merged
 returns-clause-merged g c t =
-    let f = c.args.chosen.facts in
-    let a = c.args.chosen.addition in
-    let added = c.requires.added in
-    let r = c.merge_package-tree.result in
-    let e = c.merge_package-tree.ensures in
-    let image = a.image.items in
+    let chosen = c.args.chosen in
+    let task = c.requires.task in
+    let r = c.merge_exchange-tree.result in
+    let e = c.merge_exchange-tree.ensures in
     let old = g.T.Tree.story c.args.tree in
     let new = g.T.Tree.story r.tree in
-    let m = old.now.holds in
-    let ps = c.args.opening.items in
-    let key = key_at (length ps) in
-    let went = subst (λ (k : OwnerKey). WentFor a.book f k image old new r.history.items r.end) added.owner_is (e.went t) in
-    let cause = subst (λ (k : OwnerKey). IfErr r.end (StopsMerge g.T.Tree.tells m a.book f k image)) added.owner_is e.cause in
-    merged_to ps f image a.book old new (added.owners t) r.history.items r.end c.len.result c.status_of_end-status.result c.status_of_end-status.ensures (c.len.ensures ∙ r.history.ok.0)
-    went (ok_first _ _ r.end e.told) e.stops (subst (λ (b : Bool). IfErr r.end (StopsMerge b m a.book f key image)) t cause)
+    let ps : List Installed = c.args.opening.items in
+    let seen : List Installed = c.deref.result.now in
+    let gone : List Removal = c.deref-2.result.now in
+    let newcomers = chosen.additions.newcomers.items in
+    let images = map image_of newcomers in
+    let line = chosen.additions.line.items in
+    let book = chosen.additions.book in
+    let h : Group = group_with gone newcomers in
+    let s = c.status_of_end-status.result in
+    let owners = subst (λ (qs : List Installed). AreOwners old.now.holds qs book) (sym c.deref.ensures.value) (task.owners t) in
+    let cause = subst (λ (b : Bool). IfErr r.end (StopsMerge b old.now.holds book seen h newcomers line)) t e.cause in
+    let merged = merged_to seen h newcomers line book old new owners refl r.history.items r.end c.len.result s c.status_of_end-status.ensures (c.len.ensures ∙ r.history.ok.0) (e.went t) (ok_first _ _ r.end e.told) cause in
+    let over = subst (λ (qs : List Installed). MergedTo qs h images old new r.history.items s) c.deref.ensures.value merged in
+    let same : h ≡ group_for chosen.facts ps = ap (λ (l : List Removal). group_with l newcomers) c.deref-2.ensures.value ∙ group_chosen g.T.Tree.tells old.now.holds ps chosen task in
+    subst (λ (x : Group). MergedTo ps x images old new r.history.items s) same over
 
 pub returns-clause-of : goal.returns-clause-of
-returns-clause-of g c = subst IsOfMerge (sym c.status_of_end-status.ensures) (end_of_merge c.len.result c.merge_package-tree.result.end)
+returns-clause-of g c = subst IsOfMerge (sym c.status_of_end-status.ensures) (end_of_merge c.len.result c.merge_exchange-tree.result.end)
 
 pub returns-clause-refused : goal.returns-clause-refused
-returns-clause-refused g c of = refused_ended c.len.result c.merge_package-tree.result.end c.merge_package-tree.ensures.early (subst IsRefusal c.status_of_end-status.ensures of)
+returns-clause-refused g c of = refused_ended c.len.result c.merge_exchange-tree.result.end c.merge_exchange-tree.ensures.early (subst IsRefusal c.status_of_end-status.ensures of)
 
 pub returns-clause-written : goal.returns-clause-written
 returns-clause-written g c t =
-    let r = c.merge_package-tree.result in
-    let e = c.merge_package-tree.ensures in
-    wrote_lines c.args.chosen.facts.id c.args.chosen.addition.line.items r.history.items r.acknowledged.items (g.S.Sink.written c.args.out) (g.S.Sink.written r.sink)
-    c.requires.added.line_is e.one (e.written t)
+    let r = c.merge_exchange-tree.result in
+    let e = c.merge_exchange-tree.ensures in
+    wrote_lines c.args.chosen.removals.items c.args.chosen.facts.id c.args.chosen.additions.line.items r.history.items r.acknowledged.items (g.S.Sink.written c.args.out) (g.S.Sink.written r.sink)
+    c.requires.task.line_is e.one (e.written t)
+
+pub returns-clause-device : goal.returns-clause-device
+returns-clause-device g c =
+    let r = c.merge_exchange-tree.result in
+    let e = c.merge_exchange-tree.ensures in
+    let a = c.args.chosen.additions in
+    record {
+      later = e.device.later;
+      rose = λ is. e.device.rose (device_ended g.T.Tree.tells (g.T.Tree.story c.args.tree).now.holds a.book c.deref.result.now (group_with c.deref-2.result.now a.newcomers.items) a.newcomers.items a.line.items c.len.result r.end e.cause (sym c.status_of_end-status.ensures ∙ is));
+    }

@@ -1,5 +1,6 @@
 use Rattle.std.proofs.Common.{◌∙◌, ap, inr, refl}
 use Rattle.std.specs.Prelude.{Err, map, string_bytes}
+use Rattle.exchange_law.specs.Ends.{image_of}
 use Rattle.emerge_run.specs.Openings.{AreInstalledAfter}
 use Rattle.emerge_run.specs.Outcomes.{IsNamed}
 use Rattle.emerge_run.proofs.Endings.{outcome_chosen}
@@ -13,7 +14,7 @@ returns-in-Ok-clause-outcome g c t =
     let found = c.choose-found.result in
     let r = c.merge_chosen.result in
     outcome_chosen g.B.Builder.tells g.B.Builder.told c.args.pool.now.resting (map string_bytes c.args.words.now) (g.T.Tree.story c.args.tree) (g.T.Tree.story c.choose-found.new.tree) (g.T.Tree.story r.tree)
-    found.opening.items chosen.facts chosen.addition.image.items r.history.items r.status (rw c.in-Ok.is at (c.choose-found.ensures.chosen t)) (rw c.in-Ok.is at c.choose-found.ensures.added).paths (c.merge_chosen.ensures.merged t)
+    found.opening.items chosen.facts (map image_of chosen.additions.newcomers.items) r.history.items r.status (rw c.in-Ok.is at (c.choose-found.ensures.chosen t)) (c.merge_chosen.ensures.merged t)
 
 pub returns-in-Ok-clause-begun : goal.returns-in-Ok-clause-begun
 returns-in-Ok-clause-begun g c t =
@@ -21,7 +22,7 @@ returns-in-Ok-clause-begun g c t =
     let found = c.choose-found.result in
     let r = c.merge_chosen.result in
     inr (beside_chosen g.B.Builder.tells g.B.Builder.told c.args.pool.now.resting (map string_bytes c.args.words.now) (g.T.Tree.story c.args.tree) (g.T.Tree.story c.choose-found.new.tree)
-    found.opening.items r.opening.items chosen.facts chosen.addition.image.items (rw c.in-Ok.is at (c.choose-found.ensures.chosen t)) c.merge_chosen.ensures.opening)
+    found.opening.items r.opening.items chosen.facts (map image_of chosen.additions.newcomers.items) (rw c.in-Ok.is at (c.choose-found.ensures.chosen t)) c.merge_chosen.ensures.opening)
 
 pub returns-in-Ok-clause-opening : goal.returns-in-Ok-clause-opening
 returns-in-Ok-clause-opening g c t =
@@ -29,7 +30,7 @@ returns-in-Ok-clause-opening g c t =
     let found = c.choose-found.result in
     let r = c.merge_chosen.result in
     gives_all (AreInstalledAfter (g.T.Tree.story c.args.tree).now.holds) r.status r.opening.items (beside_chosen g.B.Builder.tells g.B.Builder.told c.args.pool.now.resting (map string_bytes c.args.words.now) (g.T.Tree.story c.args.tree) (g.T.Tree.story c.choose-found.new.tree)
-    found.opening.items r.opening.items chosen.facts chosen.addition.image.items (rw c.in-Ok.is at (c.choose-found.ensures.chosen t)) c.merge_chosen.ensures.opening)
+    found.opening.items r.opening.items chosen.facts (map image_of chosen.additions.newcomers.items) (rw c.in-Ok.is at (c.choose-found.ensures.chosen t)) c.merge_chosen.ensures.opening)
 
 pub returns-in-Ok-clause-unread : goal.returns-in-Ok-clause-unread
 returns-in-Ok-clause-unread g c of = absurd (merge_read c.merge_chosen.result.status c.merge_chosen.ensures.of of)
@@ -37,7 +38,7 @@ returns-in-Ok-clause-unread g c of = absurd (merge_read c.merge_chosen.result.st
 pub returns-in-Ok-clause-written : goal.returns-in-Ok-clause-written
 returns-in-Ok-clause-written g c t =
     let r = c.merge_chosen.result in
-    wrote_named (IsNamed (map string_bytes c.args.words.now) g.T.Tree.tells (g.T.Tree.story c.args.tree).now.holds) c.in-Ok.chosen.facts.id r.history.items r.acknowledged.items
+    wrote_named (IsNamed (map string_bytes c.args.words.now) g.T.Tree.tells (g.T.Tree.story c.args.tree).now.holds) c.in-Ok.chosen.removals.items c.in-Ok.chosen.facts.id r.history.items r.acknowledged.items
     (g.S.Sink.written c.args.out) (g.S.Sink.written r.out) (rw c.in-Ok.is at c.choose-found.ensures.named) (c.merge_chosen.ensures.written t)
 
 pub returns-in-Err-clause-written : goal.returns-in-Err-clause-written

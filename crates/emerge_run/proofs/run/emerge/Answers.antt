@@ -41,5 +41,5 @@ returns-clause-unread g c of = unread_finished c.attempt-status.result.status c.
 
 pub returns-clause-headline : goal.returns-clause-headline
 returns-clause-headline g c t =
-    headline_of c.runs_leave_sound_trees.ensures.groups c.runs_leave_sound_trees.ensures.crashes g.B.Builder.tells g.B.Builder.told c.args.pool.resting (map string_bytes c.args.words.now)
+    headline_of c.made_groups_leave_sound_trees.ensures g.B.Builder.tells g.B.Builder.told c.args.pool.resting (map string_bytes c.args.words.now)
     (g.T.Tree.story c.args.tree) (g.T.Tree.story c.attempt-status.result.tree) c.attempt-status.result.history.items c.finish-status.result (returns-clause-outcome g c t)

@@ -1,7 +1,0 @@
-use Rattle.std.proofs.Common.{take}
-use Rattle.std.specs.List.{AllByRecursion}
-use Rattle.merge_record.specs.Spelling.{IsPathText}
-use Rattle.emerge_run.proofs.images.promise_paths.Given as goal
-
-abbrev pub invariant-loop-entry : goal.invariant-loop-entry
-invariant-loop-entry l = AllByRecursion (λ e. IsPathText e.path) (take l.entry-index l.image)
