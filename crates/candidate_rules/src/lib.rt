@@ -10,7 +10,7 @@
 //! stands for all; the changes of flags are those of the items that count, in their order, and the
 //! flags that are forced or masked are those that such changes make of none.
 //!
-//! **Only tested**: nothing yet.
+//! **Only tested**: that with ample memory this is answered.
 //!
 //! Masks and lines are put under the names of their atoms once, in time n log n. A package is then
 //! judged in the time that those of its own name take, and keywords by their number times the

@@ -11,7 +11,7 @@
 //! each judged by the texts at the paths of its entry and its ebuild, in the order of their names,
 //! greater versions first. The tree is only read.
 //!
-//! **Only tested**: nothing yet.
+//! **Only tested**: that with ample memory a repository is read.
 //!
 //! n entries are read in a time that grows as n times its logarithm, and as the masks and the lines
 //! of keywords on their names.
