@@ -1,12 +1,13 @@
 -- The offers of all lines, in the order of these.
-use Rattle.std.proofs.Common.{◌≡◌, ◌∙◌, ◌||◌, ℕ, Bool, true, false, cond, List, [], ◌∷◌, Option, Some, refl, ap, sym, map}
+use Rattle.std.proofs.Common.{◌≡◌, ◌∙◌, ◌||◌, ℕ, Bool, true, false, cond, List, [], ◌∷◌, Some, refl, ap, sym, map}
 use Rattle.std.specs.Prelude.{bytes_eq, is_some}
 use Rattle.std.specs.BTreeMap.{is_at}
-use Rattle.std.specs.List.{AllByRecursion}
+use Rattle.std.specs.List.{AllByRecursion, list_any}
 use Rattle.std.specs.Map.{keys_of, values_of}
 use Rattle.std.specs.Ordering.{is_eq}
 use Rattle.std.specs.declared.cmp.Ordering.TheVariants.{Less}
 use Rattle.std.proofs.lemmas.Map.Keys.{sorted_head, sorted_tail}
+use Rattle.std.proofs.lemmas.Map.Made.{is_some-lookup}
 use Rattle.std.proofs.lemmas.Map.Text.{is_eq-slice_cmp}
 use Rattle.basics.proofs.Texts.{bytes_eq-same, bytes_eq-swap}
 use Rattle.pms_names.specs.Flags.{IsRising, byte_order, has}
@@ -17,15 +18,14 @@ use Rattle.choice_tree.specs.declared.universe.Offer.{Offer as TheOffer}
 use Rattle.universe_make.specs.Filled.{Entries, IsFilled, found, offer_found}
 use Rattle.universe_make.specs.Offers.{AreOffers, offer_on}
 
-has_key : (b c : Bool) (o : TheOffer) (rest : Option TheOffer) → b ≡ c → (c || is_some rest) ≡ is_some (cond b (Some o) rest)
-has_key true c o rest e = ap (λ (x : Bool). x || is_some rest) (sym e)
-has_key false c o rest e = ap (λ (x : Bool). x || is_some rest) (sym e)
+same_key : (ks : List (List ℕ)) (q : List ℕ) → list_any (is_at (byte_order q)) ks ≡ has ks q
+same_key [] q = refl
+same_key (k ∷ ks) q =
+    ap (λ (b : Bool). b || list_any (is_at (byte_order q)) ks) (is_eq-slice_cmp q k)
+    ∙ ap (λ (b : Bool). bytes_eq q k || b) (same_key ks q)
 
 keys_found : (es : Entries) (q : List ℕ) → has (keys_of es) q ≡ is_some (found es q)
-keys_found [] q = refl
-keys_found (e ∷ es) q =
-    ap (λ (b : Bool). bytes_eq q e.0 || b) (keys_found es q)
-    ∙ has_key (is_at (byte_order q) e.0) (bytes_eq q e.0) e.1 (found es q) (is_eq-slice_cmp q e.0)
+keys_found es q = sym (is_some-lookup (is_at (byte_order q)) es ∙ same_key (keys_of es) q)
 
 -- later lines aren't the first one
 skip : (e : List ℕ × TheOffer) (es : Entries) (ks : List (List ℕ)) → AllByRecursion (λ k. byte_order e.0 k ≡ Less) ks → map (λ k. offer_found (found (e ∷ es) k)) ks ≡ map (λ k. offer_found (found es k)) ks

@@ -1,7 +1,5 @@
-ghost use Rattle.std.specs.Prelude.{◌≡◌, ◌++◌, ◌∷◌, [], List, ℕ, None, OnOk, bytes_eq, take};
+ghost use Rattle.std.specs.Prelude.{◌≡◌, ◌++◌, ◌∷◌, [], List, ℕ, None, OnOk, bytes_eq};
 ghost use Rattle.std.specs.Prelude.{if◌then◌else◌};
-ghost use Rattle.std.specs.Map.{keys_of};
-ghost use Rattle.pms_names.specs.Flags.{IsRising};
 ghost use Rattle.pkg_state.specs.Consistent.{AreApart};
 ghost use Rattle.pkg_state.specs.Package.{Package, line_of};
 ghost use Rattle.pkg_state.specs.State.{on_line};
