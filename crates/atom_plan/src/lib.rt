@@ -6,7 +6,7 @@
 //! **Proved**: what goes is told exactly, and whether the plan of this one group is accepted over
 //! the installed packages, but for want of memory.
 //!
-//! **Only tested**: that with ample memory this is answered.
+//! **Only tested**, within whole runs: that with ample memory this is answered.
 //!
 //! The candidate is one without flags and needs, so that nothing of it asks for a bind. It takes
 //! time in n log n of the installed packages, as the check of plans does.

@@ -15,7 +15,7 @@
 //! one folder. It asks that what a package needs can be recorded, as what a folder says can be: in
 //! form, with no slot operator that is bound to nothing.
 //!
-//! **Only tested**: nothing yet.
+//! **Only tested**, within whole runs: that with ample memory a group is made.
 //!
 //! It takes time in n log n of all packages and paths.
 //!

@@ -12,7 +12,7 @@
 //! after the group. What was written is the group's line, or some beginning of it. A run that is
 //! stopped has its cause; only want of memory and a failed device come without one.
 //!
-//! **Only tested**: nothing yet.
+//! **Only tested**, within whole runs: that with ample memory a group is merged.
 //!
 //! ```
 //! let merged = merge_exchange(alloc, tree, sink, &opening.packages, &group.removals, additions);
