@@ -1,0 +1,9 @@
+use Rattle.std.proofs.Common.{map, take}
+use Rattle.std.specs.List.{AllByRecursion}
+use Rattle.dep_group.specs.Views.{spot}
+use Rattle.dep_group.specs.Words.{texts}
+use Rattle.config_vars.specs.Judged.{IsWordOf}
+use Rattle.config_vars.proofs.grammar.are_each_of.Given as goal
+
+abbrev pub invariant-loop-word : goal.invariant-loop-word
+invariant-loop-word l = AllByRecursion (IsWordOf l.grammar) (texts (map spot (take l.word-index l.words)))
