@@ -3,7 +3,7 @@ use denote.Ref.{Bor}
 use Rattle.std.specs.Prelude.{◌≡◌, ◌↔◌, ◌⊎◌, MatchBool, bytes_eq, not}
 use Rattle.std.specs.List.{AllByRecursion, list_any}
 use Rattle.std.specs.Option.{unwrap_or}
-use Rattle.std.proofs.Common.{◌∙◌, ◌+◌, ◌<◌, ◌==◌, ◌||◌, ◌&&◌, ℕ, zero, suc, Bool, true, false, cond, List, [], ◌∷◌, ◌++◌, Option, Some, None, ap, append_assoc, arith, drop, get_or, inl, inr, length, map, refl, subst, sym, take}
+use Rattle.std.proofs.Common.{◌∙◌, ◌<◌, ◌==◌, ◌||◌, ℕ, zero, suc, Bool, true, false, cond, List, [], ◌∷◌, ◌++◌, Some, None, ap, append_assoc, arith, drop, get_or, inl, inr, length, map, refl, subst, sym, take}
 use Rattle.std.proofs.lemmas.Bool.{cases_Bool}
 use Rattle.basics.proofs.Each.{all-push}
 use Rattle.config_text.specs.declared.assignment.Assignment.{Assignment}

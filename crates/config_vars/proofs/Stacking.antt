@@ -1,8 +1,8 @@
 -- One assignment, one file and one word more.
 use denote.Ref.{Bor}
-use Rattle.std.specs.Prelude.{◌≡◌, bytes_eq, fold}
-use Rattle.std.proofs.Common.{◌∙◌, ◌+◌, ◌<◌, ℕ, Bool, true, false, cond, List, [], ◌∷◌, ◌++◌, Option, Some, None, append-nil, ap, filter, get_or, length, map, refl, sym, take}
-use Rattle.std.specs.List.{find, flat_map}
+use Rattle.std.specs.Prelude.{◌≡◌, codes, fold}
+use Rattle.std.proofs.Common.{◌∙◌, ◌+◌, ◌<◌, ℕ, Bool, false, cond, List, [], ◌∷◌, ◌++◌, Option, Some, None, append-nil, append_assoc, ap, filter, get_or, length, map, refl, sym, take}
+use Rattle.std.specs.List.{AllByRecursion, find, flat_map}
 use Rattle.std.specs.Option.{option_map, option_or}
 use Rattle.std.proofs.lemmas.List.{map-append, reverse-append, take_more}
 use Rattle.std.proofs.lemmas.List.Concat.{flat_map-append}
@@ -10,11 +10,12 @@ use Rattle.std.proofs.lemmas.List.Elements.{filter-append}
 use Rattle.std.proofs.lemmas.List.Folds.{find-append}
 use Rattle.std.proofs.lemmas.List.Sums.{fold-append}
 use mathlib.Core.List.{reverse}
+use Rattle.basics.proofs.Texts.{bytes_eq-same}
 use Rattle.config_text.specs.declared.assignment.Assignment.{Assignment}
 use Rattle.dep_group.specs.Views.{spot}
 use Rattle.dep_group.specs.Words.{Spot, texts}
 use Rattle.dep_group.specs.declared.word.Word.{Word}
-use Rattle.config_vars.specs.Values.{is_expanded, is_of, last_value, since_clear, value_in, with_word, words_in, words_said}
+use Rattle.config_vars.specs.Values.{is_clear, is_expanded, is_of, last_value, since_clear, value_in, with_word, words_in, words_said}
 use Rattle.config_vars.specs.declared.vars.FileVars.{FileVars}
 
 -- what the texts hold
@@ -96,3 +97,18 @@ next_kept named i d old new lt step before =
     ∙ ap (filter is_expanded) (sym (
     ap told (take_more named i d lt)
     ∙ map-append (λ (x : Bor (List ℕ)). x.now) (take i named) (v ∷ [])))))
+
+-- words without `-*` all stand behind those before them
+pub uncleared : (since words : List (List ℕ)) → AllByRecursion (λ (w : List ℕ). is_clear w ≡ false) words → fold with_word since words ≡ since ++ words
+uncleared since [] none = sym (append-nil since)
+uncleared since (w ∷ words) none =
+    ap (λ (b : Bool). fold with_word (cond b [] (since ++ w ∷ [])) words) none.0
+    ∙ (uncleared (since ++ w ∷ []) words none.1
+    ∙ append_assoc since (w ∷ []) words)
+
+-- and behind a `-*` they alone stand
+pub behind_clear : (front words : List (List ℕ)) → AllByRecursion (λ (w : List ℕ). is_clear w ≡ false) words → since_clear (front ++ (codes "-*" ∷ words)) ≡ words
+behind_clear front words none =
+    fold-append with_word [] front (codes "-*" ∷ words)
+    ∙ (ap (λ (b : Bool). fold with_word (cond b [] (since_clear front ++ codes "-*" ∷ [])) words) (bytes_eq-same (codes "-*"))
+    ∙ uncleared [] words none)

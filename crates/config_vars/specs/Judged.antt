@@ -1,5 +1,5 @@
 -- Which values the variables of the files may have, and the first assignment with another one.
-use Rattle.std.specs.Prelude.{◌≡◌, ◌⊎◌, ℕ, Bool, false, true, List, [], ◌∷◌, ◌++◌, bytes_eq, codes, if◌then◌else◌, ⊤}
+use Rattle.std.specs.Prelude.{◌≡◌, ◌⊎◌, ℕ, false, true, List, [], ◌∷◌, ◌++◌, codes, if◌then◌else◌, ⊤}
 use Rattle.std.specs.List.{AllByRecursion, list_any}
 use Rattle.std.specs.Option.{unwrap_or}
 use Rattle.config_text.specs.Values.{IsKey}

@@ -22,11 +22,13 @@
 
 mod fault;
 mod grammar;
+mod law;
 mod stack;
 mod vars;
 mod verdict;
 
 pub use fault::VarFault;
+pub use law::last_word_counts;
 pub use stack::{expanded, flag_of, stacked};
 pub use vars::{FileVars, last_value, value_in};
 pub use verdict::judge;
