@@ -48,7 +48,7 @@ fn bad_line_in(
 }
 
 /// The line of the first of the assignments that counts and isn't good.
-#[tactic(auto, using(crate::proofs::Judging::begin, crate::proofs::Judging::bad_stop, crate::proofs::Judging::ended))]
+#[tactic(auto, using(crate::proofs::Judging::bad_stop, crate::proofs::Judging::ended))]
 fn bad_line(
     alloc: Global,
     variables: &[&str],

@@ -1,6 +1,9 @@
-use Rattle.config_vars.proofs.Judging.{fine_step}
+use Rattle.config_vars.proofs.Judging.{begin, fine_step}
 use Rattle.config_vars.proofs.Stacking.{told}
 use Rattle.config_vars.proofs.verdict.bad_line.Goals as goal
+
+pub loop-assignment-init : goal.loop-assignment-init
+loop-assignment-init c = begin (told c.args.variables.now) c.args.assigned.now
 
 pub loop-assignment-preserved : goal.loop-assignment-preserved
 loop-assignment-preserved c =
