@@ -21,8 +21,8 @@ use Rattle.config_vars.specs.declared.vars.FileVars.{FileVars}
 abbrev pub unsigned : List ℕ → List ℕ
 unsigned word = unwrap_or (taken_back word) word
 
--- the word is one that such a variable may have: a change of flags; or `-*`, or with a hyphen before
--- it or without one the KEY of a variable
+-- the word is one that such a variable may have: a change of flags; or `-*`, or with a hyphen
+-- before it or without one the KEY of a variable
 abbrev pub IsWordOf : Grammar → List ℕ → Type 0
 IsWordOf Changes word = IsChange word
 IsWordOf Keys word = (is_clear word ≡ true) ⊎ IsKey (unsigned word)
@@ -70,7 +70,8 @@ abbrev pub IsGoodFile : List (List ℕ) → FileVars → Type 0
 IsGoodFile variables file = AreGoodIn variables file.assigned.items
 
 -- the first of the assignments that counts and isn't good stands in this line
-pub record IsBadAt (variables : List (List ℕ)) (assigned : List Assignment) (line : ℕ) : Type 0 where
+pub record IsBadAt (variables : List (List ℕ)) (assigned : List Assignment)
+    (line : ℕ) : Type 0 where
   pub front : List Assignment
   pub bad : Assignment
   pub rest : List Assignment

@@ -42,8 +42,8 @@ with_word since word = if is_clear word then [] else since ++ word ∷ []
 abbrev pub since_clear : List (List ℕ) → List (List ℕ)
 since_clear words = fold with_word [] words
 
--- the words of the variable that stand: of those behind the last `-*` a word adds itself, and behind
--- a hyphen it takes an equal one away
+-- the words of the variable that stand: of those behind the last `-*` a word adds itself, and
+-- behind a hyphen it takes an equal one away
 abbrev pub stacked : List ℕ → List FileVars → List (List ℕ)
 stacked key files = stacks.stacked (since_clear (words_said key files))
 
