@@ -1,4 +1,5 @@
-//! What the readers of the texts of files, and of the words of the command line, answer.
+//! What the readers of the texts of files, and of the words of the command line, answer, and what
+//! variables come to over files.
 //!
 //! Each line of its input asks for one call: the name of a query, a space, and its text. A byte may be
 //! written as `%` and two hexadecimal digits, and a `%` and a control byte are, in the lines that it
@@ -8,6 +9,7 @@
 mod cache;
 mod config;
 mod records;
+mod variables;
 mod words;
 
 use asked_lines::{answer_each, exit_of};
@@ -56,6 +58,7 @@ fn of_text(alloc: Global, query: &str, text: &str) -> Result<String, AllocError>
         "use" => records::enabled(alloc, text),
         "iuse" => records::known(alloc, text),
         "command" | "run" | "host" => words::told(alloc, query, text),
+        "stacked" | "expanded" | "last" | "flag" | "judge" => variables::told(alloc, query, text),
         _ => String::from_str(alloc, "no query"),
     }
 }
