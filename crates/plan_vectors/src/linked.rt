@@ -53,12 +53,17 @@ fn push_slots(out: &mut String, pkg: &Pkg) -> Result<(), AllocError> {
     out.push_str(pkg.facts.subslot.text())
 }
 
-fn push_addition(alloc: Global, out: &mut String, pkg: &Pkg) -> Result<(), AllocError> {
-    out.push_str(",+")?;
+/// Adds the package as `NAME-VERSION:SLOT/SUBSLOT`, with its flags and what it depends on.
+pub(crate) fn push_package(alloc: Global, out: &mut String, pkg: &Pkg) -> Result<(), AllocError> {
     push_id(out, &pkg.facts.id)?;
     push_slots(out, pkg)?;
     push_flags(out, &pkg.facts.enabled)?;
     push_needs(alloc, out, pkg)
+}
+
+fn push_addition(alloc: Global, out: &mut String, pkg: &Pkg) -> Result<(), AllocError> {
+    out.push_str(",+")?;
+    push_package(alloc, out, pkg)
 }
 
 fn push_removal(out: &mut String, removal: &Removal) -> Result<(), AllocError> {

@@ -9,17 +9,21 @@
 //! - `repair INSTALLED OFFERED PLAN`: whether the plan repairs the packages;
 //! - `check INSTALLED GROUP ..`: whether the plan of these groups is accepted;
 //! - `resolve HOW LIMIT WANTED LINE ..`: the choice, or those that were tried in vain;
-//! - `walk HOW WANTED LINE ..`: the tree of choices, where it has at most 20.
+//! - `walk HOW WANTED LINE ..`: the tree of choices, where it has at most 20;
+//! - `universe INSTALLED CANDIDATE ..`: the lines of the universe that is made of these;
+//! - `choose HOW LIMIT WANTED INSTALLED CANDIDATE ..`: the choice in such a universe, as `resolve`
+//!   tells it.
 //!
 //! Packages are written as `reading.rt` says, with a comma between two; groups as `groups.rt` says,
-//! the lines of a universe as `universes.rt`, and choices as `search.rt`. Of anything else it
-//! prints `not in form`.
+//! the lines of a universe as `universes.rt`, candidates and the lines that are made as `made.rt`,
+//! and choices as `search.rt`. Of anything else it prints `not in form`.
 #![tactic(auto)]
 
 mod answers;
 mod checks;
 mod groups;
 mod linked;
+mod made;
 mod plans;
 mod reading;
 mod refused;
@@ -53,6 +57,8 @@ fn answer(alloc: Global, line: &str) -> Option<String> {
         "check" => checks::check_groups(alloc, parts),
         "resolve" => search::resolve_lines(alloc, parts),
         "walk" => search::walk_lines(alloc, parts),
+        "universe" => made::universe_lines(alloc, parts),
+        "choose" => made::choose(alloc, parts),
         _ => None,
     }
 }

@@ -118,7 +118,12 @@ fn fault_text(alloc: Global, fault: ResolveFault) -> Result<String, AllocError> 
     }
 }
 
-fn resolve_over(alloc: Global, universe: &Universe, limit: usize) -> Result<String, AllocError> {
+/// The choice that is found, or why there is none.
+pub(crate) fn resolve_over(
+    alloc: Global,
+    universe: &Universe,
+    limit: usize,
+) -> Result<String, AllocError> {
     match resolve(alloc, universe, limit) {
         Ok(choice) => choice_text(alloc, &choice),
         Err(fault) => fault_text(alloc, fault),

@@ -44,7 +44,8 @@ fn offers(alloc: Global, text: &str) -> Option<Vec<Offer>> {
     Some(all)
 }
 
-fn atoms(alloc: Global, text: &str) -> Option<Vec<Atom>> {
+/// The atoms of a text, white space between two.
+pub(crate) fn atoms(alloc: Global, text: &str) -> Option<Vec<Atom>> {
     let mut all = Vec::new(alloc);
     for word in text.split_whitespace() {
         all.push(Atom::parse(alloc, word).ok()?).ok()?;
