@@ -7,7 +7,7 @@
 //! a variant stands, in line order, each line once; an offer has what is installed on its line, and
 //! the variants that stand there in the order in which they were handed in.
 //!
-//! **Only tested**: nothing yet.
+//! **Only tested**: that with ample memory it answers.
 //!
 //! Its time grows as n times the logarithm of n, over the installed packages and the variants.
 //!
