@@ -10,7 +10,7 @@ mod parts;
 mod still;
 mod work;
 
-use crate::parts::{book_of, task_of, wishes_of};
+use crate::parts::{batch_of, book_of, wishes_of};
 use crate::work::{claim, merge, open_tree, recovered};
 use std::alloc::Global;
 use std::io::Write;
@@ -65,9 +65,9 @@ fn claim_time<R: Clock>(rt: &R, alloc: Global, paths: u32) -> io::Result<u128> {
 
 /// The milliseconds of a group's merge, and the calls that it made.
 fn group_time<R: Clock>(rt: &R, alloc: Global, paths: u32) -> io::Result<(u128, u64)> {
-    let task = task_of(alloc, paths)?;
+    let batch = batch_of(alloc, paths)?;
     let began = Instant::now(rt)?;
-    let calls = merge(alloc, task)?;
+    let calls = merge(alloc, batch)?;
     Ok((began.elapsed(rt)?.as_millis(), calls))
 }
 

@@ -1,7 +1,8 @@
-ghost use Rattle.std.specs.Prelude.{◌≡◌, ◌<◌, [], IfOk, length, vec_capacity, vec_len};
+ghost use Rattle.std.specs.Prelude.{◌≡◌, ◌≤◌, ◌+◌, ◌∷◌, [], IfOk, length, vec_capacity, vec_len};
+ghost use Rattle.group_run.specs.Turns.{numbers};
 
 use file_tree::{Entry, Kind, Object, Path};
-use group_run::{Files, Task};
+use group_run::{Batch, Files, Turn};
 use merge_record::{OwnerKey, Placement, Record, digest_of, encode};
 use merge_site::SiteGroup;
 use owner_book::{OwnerBook, Wish};
@@ -57,17 +58,32 @@ fn files_of(alloc: Global, paths: u32) -> Result<Files, AllocError> {
     })
 }
 
-/// One group that places so many empty files, beside as many paths that are owned.
-pub fn task_of(alloc: Global, paths: u32) -> Result<Task, AllocError>
-    ensures group { IfOk result (λ t. t.group ≡ 0) }
-    ensures groups { IfOk result (λ t. length t.groups.items ≡ 1) }
-    ensures unclaimed { IfOk result (λ t. t.book.claims ≡ []) }
-    ensures none { IfOk result (λ t. t.history.items ≡ []) }
-    ensures untold { IfOk result (λ t. t.acknowledged.items ≡ []) }
-    ensures room { IfOk result (λ t. vec_len t.history < vec_capacity t.history) }
-    ensures more { IfOk result (λ t. vec_len t.acknowledged < vec_capacity t.acknowledged) }
+/// The turn of one group that places so many empty files.
+fn turns_of(alloc: Global, paths: u32) -> Result<Vec<Turn>, AllocError>
+    ensures turns { IfOk result (λ v. numbers v.items ≡ 0 ∷ []) }
+    ensures count { IfOk result (λ v. length v.items ≡ 1) }
 {
     let files = files_of(alloc, paths)?;
+    let turn = Turn {
+        group: 0,
+        removals: Vec::new(alloc),
+        packages: vec![in alloc; files]?,
+    };
+    Ok(vec![in alloc; turn]?)
+}
+
+/// One group that places so many empty files, beside as many paths that are owned.
+pub fn batch_of(alloc: Global, paths: u32) -> Result<Batch, AllocError>
+    ensures turns { IfOk result (λ b. numbers b.turns.items ≡ 0 ∷ []) }
+    ensures count { IfOk result (λ b. length b.turns.items ≡ 1) }
+    ensures groups { IfOk result (λ b. length b.groups.items ≡ 1) }
+    ensures unclaimed { IfOk result (λ b. b.book.claims ≡ []) }
+    ensures none { IfOk result (λ b. b.history.items ≡ []) }
+    ensures untold { IfOk result (λ b. b.acknowledged.items ≡ []) }
+    ensures room { IfOk result (λ b. vec_len b.history + 1 ≤ vec_capacity b.history) }
+    ensures more { IfOk result (λ b. vec_len b.acknowledged + 1 ≤ vec_capacity b.acknowledged) }
+{
+    let turns = turns_of(alloc, paths)?;
     let book = book_of(alloc, paths)?;
     let group = SiteGroup {
         after: Vec::new(alloc),
@@ -77,9 +93,8 @@ pub fn task_of(alloc: Global, paths: u32) -> Result<Task, AllocError>
     let groups = vec![in alloc; group]?;
     let history = Vec::with_capacity(alloc, 1)?;
     let acknowledged = Vec::with_capacity(alloc, 1)?;
-    Ok(Task {
-        group: 0,
-        files,
+    Ok(Batch {
+        turns,
         book,
         groups,
         history,

@@ -1,8 +1,9 @@
-ghost use Rattle.std.specs.Prelude.{◌≡◌, ◌<◌, [], length, vec_capacity, vec_len};
+ghost use Rattle.std.specs.Prelude.{◌≡◌, ◌≤◌, ◌+◌, ◌∷◌, [], length, vec_capacity, vec_len};
+ghost use Rattle.group_run.specs.Turns.{numbers};
 
 use crate::parts::filed_of;
 use crate::still::StillTree;
-use group_run::{Merged, Task, merge_group};
+use group_run::{Batch, Merged, merge_groups};
 use merge_record::gate_path;
 use owner_book::{OwnerBook, Wish};
 use recovery::recover;
@@ -41,16 +42,17 @@ pub fn open_tree(alloc: Global, paths: u32) -> Result<StillTree, AllocError> {
 }
 
 /// Merges a group into a tree that keeps nothing, and tells how many calls that made.
-pub fn merge(alloc: Global, task: Task) -> Result<u64, AllocError>
-    requires there { task.group ≡ 0 }
-    requires groups { length task.groups.items ≡ 1 }
-    requires unclaimed { task.book.claims ≡ [] }
-    requires none { task.history.items ≡ [] }
-    requires untold { task.acknowledged.items ≡ [] }
-    requires room { vec_len task.history < vec_capacity task.history }
-    requires more { vec_len task.acknowledged < vec_capacity task.acknowledged }
+pub fn merge(alloc: Global, batch: Batch) -> Result<u64, AllocError>
+    requires turns { numbers batch.turns.items ≡ 0 ∷ [] }
+    requires count { length batch.turns.items ≡ 1 }
+    requires groups { length batch.groups.items ≡ 1 }
+    requires unclaimed { batch.book.claims ≡ [] }
+    requires none { batch.history.items ≡ [] }
+    requires untold { batch.acknowledged.items ≡ [] }
+    requires room { vec_len batch.history + 1 ≤ vec_capacity batch.history }
+    requires more { vec_len batch.acknowledged + 1 ≤ vec_capacity batch.acknowledged }
 {
-    let Merged { tree, end, .. } = merge_group(alloc, empty(alloc), MemSink::new(alloc), task);
+    let Merged { tree, end, .. } = merge_groups(alloc, empty(alloc), MemSink::new(alloc), batch);
     match end {
         Ok(()) => Ok(tree.calls),
         Err(_) => Err(AllocError),

@@ -3,6 +3,7 @@ pub mod Cleared
 pub mod Drove
 pub mod Granted
 pub mod Left
+pub mod Onward
 pub mod Rest
 pub mod Settling
 pub mod Single

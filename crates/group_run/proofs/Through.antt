@@ -5,7 +5,8 @@ use Rattle.std.proofs.lemmas.Bool.{cases_eq}
 use Rattle.std.proofs.lemmas.List.{length-append, length-map, map-append}
 use Rattle.basics.specs.Members.{Has}
 use Rattle.basics.proofs.Membership.{has-append_cases, has-append_left, has-append_right}
-use Rattle.file_tree.specs.Disk.{Map}
+use Rattle.file_tree.specs.Disk.{Map, Story}
+use Rattle.file_tree.proofs.Moments.{since_weaker}
 use Rattle.journal.specs.Group.{Group, groups, with_groups}
 use Rattle.owner_book.specs.Book.{Book, HasOwnersOf, HasSettled}
 use Rattle.merge_core.specs.Keeping.{machine_of}
@@ -23,6 +24,7 @@ use Rattle.group_run.specs.Causes.{IsOfGroup, StopsChanges}
 use Rattle.group_run.specs.Granted.{IsAdmitted, IsOutside}
 use Rattle.group_run.specs.Through.{HasEnded, HasStood, IsThrough, settled_all}
 use Rattle.group_run.specs.Turns.{AreFirst, AreLetIn, StopsBehind, changes_of, group_for, numbers}
+use Rattle.group_run.specs.Went.{WentWith}
 use Rattle.group_run.specs.Working.{IsAlone, Works, group_in, is_shut, standing_at, stood_at}
 use Rattle.group_run.specs.declared.stop.Stop.{Stop}
 use Rattle.group_run.specs.declared.stop.Stop.TheVariants as stops
@@ -35,6 +37,14 @@ use Rattle.group_run.proofs.Worked.{run_on}
 
 pub recovers_weaker : (P Q : List Group → Type 0) (m : Map) (among : List ℕ) (c : Map) → ((xs : List Group) → P xs → Q xs) → RecoversWith P m among c → RecoversWith Q m among c
 recovers_weaker P Q m among c so h = record { groups = h.groups; of = so h.groups h.of; has = h.has; is = h.is }
+
+pub went_weaker : {A : Type 0} (P Q : List Group → Type 0) (old new : Story) (history : List ℕ) (end : Result A Stop) → ((xs : List Group) → P xs → Q xs) → WentWith P old new history end → WentWith Q old new history end
+went_weaker P Q old new history end so h = record {
+  moments = since_weaker (RecoversWith P old.now.holds []) (RecoversWith Q old.now.holds []) (λ c. recovers_weaker P Q old.now.holds [] c so) old new h.moments;
+  crash = λ c image. recovers_weaker P Q old.now.holds history c so (h.crash c image);
+  left = λ healthy. let k = h.left healthy in record { groups = k.groups; of = so k.groups k.of; are = k.are; each = k.each };
+  tree = λ healthy fed. let k = h.tree healthy fed in record { groups = k.groups; of = so k.groups k.of; are = k.are; reads = k.reads; untouched = k.untouched };
+}
 
 -- ---- a site that is through with some turns
 

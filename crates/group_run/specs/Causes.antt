@@ -1,21 +1,19 @@
 -- Why the run of a group was stopped.
 use Rattle.std.specs.Prelude.{◌≡◌, ◌<◌, ◌++◌, ℕ, Bool, true, false, List, length, ⊤}
-use Rattle.std.specs.Prelude.{Option, Some, None, IsTrue}
+use Rattle.std.specs.Prelude.{IsTrue}
 use Rattle.file_tree.specs.Disk.{Map}
 use Rattle.file_tree.specs.declared.objects.Entry.{Entry}
 use Rattle.image_fit.specs.Misfits.{IsFirstBad}
 use Rattle.owner_book.specs.Book.{Book, owner_in}
 use Rattle.merge_record.specs.Spelling.{PassesLimit}
 use Rattle.merge_record.specs.declared.limits.TheConstants.{MOST_GROUP_PATHS}
-use Rattle.merge_core.specs.Keeping.{Keeping}
 use Rattle.merge_site.specs.Booking.{dying_at}
 use Rattle.merge_site.specs.Claiming.{Stops, StopsAt}
 use Rattle.merge_site.specs.declared.fault.ClaimStop.{ClaimStop}
 use Rattle.merge_site.specs.declared.fault.ClaimStop.TheVariants as claims
 use Rattle.merge_site.specs.declared.group.SiteGroup.{SiteGroup}
-use Rattle.group_run.specs.Granted.{IsOutside, IsUnclaimed, bringing}
+use Rattle.group_run.specs.Granted.{IsOutside, IsUnclaimed}
 use Rattle.group_run.specs.Working.{Changes, changing}
-use Rattle.group_run.specs.declared.files.Files.{Files}
 use Rattle.group_run.specs.declared.stop.Stop.{Stop}
 use Rattle.group_run.specs.declared.stop.Stop.TheVariants as stops
 
@@ -58,11 +56,6 @@ pub record IsRefusalOf (tells : Bool) (opening : Map) (opened : Book) (groups : 
   pub met : IsTrue tells → (m : Map) × IsOutside opening m ×
       StopsAt m (owner_in book.owned) c.wishes s
 
--- the claim of a package's group is refused so, where it removes nothing
-abbrev pub IsRefusal : Bool → Map → Book → List SiteGroup → Files → ℕ → ClaimStop → Type 0
-IsRefusal tells opening opened groups files g s =
-    IsRefusalOf tells opening opened groups (bringing files) g s
-
 -- a stop for what the group has: an object, its record, or its claim
 abbrev pub IsOfGroup : Stop → Type 0
 IsOfGroup (stops.Image b) = ⊤
@@ -77,15 +70,3 @@ StopsChanges tells opening opened groups c g (stops.Claim s) =
     IsRefusalOf tells opening opened groups c g s
 StopsChanges tells opening opened groups c g stops.Limit = IsTooMuch g c
 StopsChanges tells opening opened groups c g e = ⊤
-
--- why the run of a package's group ended that removes nothing
-abbrev pub StopsRun : Bool → Map → Book → List SiteGroup → Files → ℕ → Stop → Type 0
-StopsRun tells opening opened groups files g e =
-    StopsChanges tells opening opened groups (bringing files) g e
-
--- where no site was opened, it is for want of memory
-abbrev pub HasCause : Bool → Map → Book → List SiteGroup → Files → ℕ → Option Keeping →
-    Stop → Type 0
-HasCause tells opening opened groups files g (Some k) e =
-    StopsRun tells opening opened groups files g e
-HasCause tells opening opened groups files g None e = e ≡ stops.Memory

@@ -1,5 +1,5 @@
 -- When a group may be merged.
-use Rattle.std.specs.Prelude.{◌≡◌, ◌++◌, ℕ, Bool, true, false, List, [], None, map}
+use Rattle.std.specs.Prelude.{◌≡◌, ◌++◌, ℕ, Bool, true, false, List, None, map}
 use Rattle.std.specs.List.{AllByRecursion, flat_map}
 use Rattle.file_tree.specs.Disk.{Map}
 use Rattle.file_tree.specs.Paths.{is_below}
@@ -14,8 +14,7 @@ use Rattle.merge_site.specs.Booking.{dying_at, wish_for, wishes_at}
 use Rattle.merge_site.specs.Claiming.{IsClearFor, MayClaim}
 use Rattle.merge_site.specs.Site.{Account}
 use Rattle.merge_site.specs.declared.group.SiteGroup.{SiteGroup}
-use Rattle.group_run.specs.Working.{Changes, IsAlone, all_in, all_of, changing, group_in}
-use Rattle.group_run.specs.Working.{placing}
+use Rattle.group_run.specs.Working.{Changes, IsAlone, all_of, changing, group_in}
 use Rattle.group_run.specs.declared.files.Files.{Files}
 
 -- the wishes for the paths of some files
@@ -35,10 +34,6 @@ wishes_of packages = flat_map wishes_in packages
 abbrev pub changes_in : List (List ℕ) → List Files → Changes
 changes_in removals packages =
     record { removals = removals; files = all_of packages; wishes = wishes_of packages }
-
--- the changes of a group that brings this one package and removes nothing
-abbrev pub bringing : Files → Changes
-bringing files = record { removals = []; files = all_in files; wishes = wishes_in files }
 
 -- a book with the owners of the opened one, and no claim
 pub record IsUnclaimed (opened book : Book) : Type 0 where
@@ -66,15 +61,6 @@ pub record MayChange (opening : Map) (opened : Book) (groups : List SiteGroup) (
 abbrev pub IsAdmitted : Map → Book → List SiteGroup → Changes → ℕ → Group → Type 0
 IsAdmitted opening opened groups c g x =
     (x ≡ changing g c) × MayChange opening opened groups c g
-
--- the claim of a package's group is granted, where it removes nothing
-abbrev pub MayMerge : Map → Book → List SiteGroup → Files → ℕ → Type 0
-MayMerge opening opened groups files g = MayChange opening opened groups (bringing files) g
-
--- the group places just what the package has, and may be merged
-abbrev pub IsLetIn : Map → Book → List SiteGroup → Files → ℕ → Group → Type 0
-IsLetIn opening opened groups files g x =
-    (x ≡ placing g (all_in files)) × MayMerge opening opened groups files g
 
 -- a group of a site has put its record of these changes and all that it wishes, its files may be
 -- placed, and no other group is under way

@@ -10,7 +10,6 @@ use Rattle.merge_site.specs.declared.group.SiteGroup.{SiteGroup}
 use Rattle.group_run.specs.Causes.{IsOfGroup, StopsChanges}
 use Rattle.group_run.specs.Granted.{MayChange, changes_in}
 use Rattle.group_run.specs.Working.{Changes, changing}
-use Rattle.group_run.specs.declared.files.Files.{Files}
 use Rattle.group_run.specs.declared.stop.Stop.{Stop}
 use Rattle.group_run.specs.declared.stop.Stop.TheVariants as stops
 use Rattle.group_run.specs.declared.turn.Turn.{Turn}
@@ -21,12 +20,6 @@ numbers turns = map (λ t. t.group) turns
 -- what a turn changes: its paths go, and all that its packages have comes
 abbrev pub changes_of : Turn → Changes
 changes_of t = changes_in t.removals.items t.packages.items
-
--- the turn of this group, which brings this one package and removes nothing
-pub record IsTurnOf (g : ℕ) (files : Files) (t : Turn) : Type 0 where
-  pub group : t.group ≡ g
-  pub removals : t.removals.items ≡ []
-  pub packages : t.packages.items ≡ files ∷ []
 
 -- the group of a turn: it makes just these changes
 abbrev pub group_for : Turn → Group

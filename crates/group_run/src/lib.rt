@@ -1,10 +1,11 @@
 //! Groups merged one after another into a tree at rest through one site, from the beginning of the
-//! first to the cleared journal; and one group, as the run of just that. A group brings any number
-//! of packages, and removes the paths that go with it; what is merged alone brings one package.
+//! first to the cleared journal: all of them from a list, or turn by turn, where each is made when
+//! those before it are merged. A group brings any number of packages, and removes the paths that go
+//! with it.
 //!
 //! **A contract sees** the tree as its story, the groups that a crash leaves and the tree holds
-//! (`WentWith`, and `Went` of one group), the sink as the bytes that it took, and the machine as its
-//! standings and its order.
+//! (`WentWith`, and `Went` of groups of one kind), the sink as the bytes that it took, and the
+//! machine as its standings and its order.
 //!
 //! **Proved**: each crash image of each moment recovers to the tree from before with the first
 //! groups of the run applied, in their order, at the end all of the history among them; unless the
@@ -25,12 +26,20 @@
 //! ```
 //! let merged = merge_groups(alloc, tree, sink, batch);
 //! ```
+//!
+//! ```
+//! let mut site = open_run(alloc, tree, sink, book, groups)?;
+//! let end = merge_next(&mut site, turn, &mut history, &mut acknowledged);
+//! let closed = close_run(alloc, site, end);
+//! ```
 #![tactic(auto)]
 
 mod claiming;
 mod clearing;
+mod ends;
 mod files;
 mod merging;
+mod next;
 mod opening;
 mod run;
 mod running;
@@ -40,7 +49,9 @@ mod stop;
 mod telling;
 mod turn;
 
+pub use ends::{Closed, close_run, open_run};
 pub use files::Files;
-pub use run::{Batch, Merged, Task, merge_group, merge_groups};
+pub use next::merge_next;
+pub use run::{Batch, Merged, merge_groups};
 pub use stop::Stop;
 pub use turn::Turn;

@@ -1,18 +1,16 @@
-ghost use Rattle.std.specs.Prelude.{◌≡◌, ◌⊎◌, ◌∷◌, ◌+◌, ◌<◌, ◌≤◌, ◌^◌, [], ℕ, true, length};
-ghost use Rattle.std.specs.Prelude.{IfErr, IfOk, IsErrOf, IsTrue, List, MatchOption, OnErr, OnOk};
+ghost use Rattle.std.specs.Prelude.{◌≡◌, ◌+◌, ◌<◌, ◌≤◌, ◌^◌, [], length};
+ghost use Rattle.std.specs.Prelude.{IfErr, IsErrOf, IsTrue, MatchOption, OnOk};
 ghost use Rattle.std.specs.Prelude.{vec_capacity, vec_len};
 ghost use Rattle.basics.specs.Members.{AreDistinct, Has};
 ghost use Rattle.file_tree.specs.Disk.{CountsFault};
 ghost use Rattle.merge_core.specs.Trail.{IsAtRest};
-ghost use Rattle.group_run.specs.Causes.{HasCause, IsOfGroup};
-ghost use Rattle.group_run.specs.Granted.{IsLetIn};
+ghost use Rattle.group_run.specs.Causes.{IsOfGroup};
 ghost use Rattle.group_run.specs.Lines.{AreLines, IsBeginning, Wrote, line_in};
-ghost use Rattle.group_run.specs.Turns.{AreFirst, HaveCause, IsTurnOf, numbers};
-ghost use Rattle.group_run.specs.Went.{HasRun, HaveRun, Went, WentWith};
+ghost use Rattle.group_run.specs.Turns.{AreFirst, HaveCause, numbers};
+ghost use Rattle.group_run.specs.Went.{HaveRun, WentWith};
 ghost use Rattle.group_run.specs.declared.turn.Turn.{Turn};
 
 use crate::clearing::clear;
-use crate::files::Files;
 use crate::running::drive;
 use crate::stop::Stop;
 use crate::turn::Turn;
@@ -20,20 +18,7 @@ use file_tree::{Sink, Tree};
 use merge_core::Core;
 use merge_site::{Site, SiteGroup};
 use owner_book::OwnerBook;
-use std::alloc::{AllocError, Global};
-
-/// A group that is to be merged, and what its run takes, made before the first change of the tree.
-#[derive(Drop)]
-pub struct Task {
-    pub group: u32,
-    pub files: Files,
-    /// Who owns what; nothing is claimed.
-    pub book: OwnerBook,
-    /// What the site is opened for.
-    pub groups: Vec<SiteGroup>,
-    pub history: Vec<u32>,
-    pub acknowledged: Vec<u32>,
-}
+use std::alloc::Global;
 
 /// Groups that are to be merged in this order, and what their run takes, made before the first
 /// change of the tree.
@@ -128,80 +113,4 @@ pub fn merge_groups<T: Tree, S: Sink>(alloc: Global, tree: T, sink: S, batch: Ba
         history,
         acknowledged,
     }
-}
-
-/// Merges a group into a tree at rest through a site, writes its line, and clears the journal.
-pub fn merge_group<T: Tree, S: Sink>(alloc: Global, tree: T, sink: S, task: Task) -> Merged<T, S>
-    requires rest { IsTrue T.tells → IsAtRest (T.story tree).now.holds (T.story tree).now }
-    requires small { length task.groups.items < 2 ^ 32 }
-    requires there { task.group < length task.groups.items }
-    requires unclaimed { task.book.claims ≡ [] }
-    requires none { task.history.items ≡ [] }
-    requires untold { task.acknowledged.items ≡ [] }
-    requires room { vec_len task.history < vec_capacity task.history }
-    requires more { vec_len task.acknowledged < vec_capacity task.acknowledged }
-    ensures went { IsTrue T.tells → Went (IsLetIn (T.story tree).now.holds task.book
-        task.groups.items task.files task.group)
-        (T.story tree) (T.story result.tree) result.history.items result.end }
-    ensures machine { MatchOption result.machine (result.history.items ≡ [])
-        (HasRun task.group (length task.groups.items) result.history.items) }
-    ensures one { (result.history.items ≡ []) ⊎ (result.history.items ≡ task.group ∷ []) }
-    ensures early { IfErr result.end (λ e. IsOfGroup e → result.history.items ≡ []) }
-    ensures kept { (result.acknowledged.items ≡ []) ⊎
-        (result.acknowledged.items ≡ result.history.items) }
-    ensures told { OnOk result.end ((result.history.items ≡ task.group ∷ []) ×
-        (result.acknowledged.items ≡ task.group ∷ [])) }
-    ensures written { IsTrue S.tells → Wrote
-        (AreLines (line_in task.groups.items) result.history.items result.acknowledged.items)
-        (S.written sink) (S.written result.sink) }
-    ensures cause { IfErr result.end (HasCause T.tells (T.story tree).now.holds task.book
-        task.groups.items task.files task.group result.machine) }
-    ensures device { CountsFault (IsErrOf result.end Stop.Device) (T.faults tree)
-        (T.faults result.tree) }
-    ensures output { CountsFault (IsErrOf result.end Stop.Output) (S.faults sink)
-        (S.faults result.sink) }
-{
-    let Task {
-        group,
-        files,
-        book,
-        groups,
-        history,
-        acknowledged,
-    } = task;
-    match only_turn(alloc, group, files) {
-        Ok(turns) => {
-            let batch = Batch {
-                turns,
-                book,
-                groups,
-                history,
-                acknowledged,
-            };
-            merge_groups(alloc, tree, sink, batch)
-        }
-        Err(_) => Merged {
-            tree,
-            sink,
-            machine: None,
-            end: Err(Stop::Memory),
-            history,
-            acknowledged,
-        },
-    }
-}
-
-/// The turn of a group that brings one package.
-fn only_turn(alloc: Global, group: u32, files: Files) -> Result<Vec<Turn>, AllocError>
-    ensures { IfOk result (λ v. (t : Turn) × IsTurnOf group files t × (v.items ≡ t ∷ [])) }
-{
-    let mut packages = Vec::with_capacity(alloc, 1)?;
-    packages.push(files)?;
-    let mut turns = Vec::with_capacity(alloc, 1)?;
-    turns.push(Turn {
-        group,
-        removals: Vec::new(alloc),
-        packages,
-    })?;
-    Ok(turns)
 }

@@ -76,7 +76,7 @@ fn merge<T: Tree, S: Sink>(
 }
 
 /// Merges a group, and writes its line.
-fn merge_and_tell<T: Tree, S: Sink>(
+pub(crate) fn merge_and_tell<T: Tree, S: Sink>(
     site: &mut Site<T, S>,
     group: u32,
     removals: Vec<Path>,

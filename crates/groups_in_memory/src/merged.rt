@@ -1,6 +1,6 @@
 //! Whole runs of one group or two.
 
-ghost use Rattle.std.specs.Prelude.{◌≡◌, ◌<◌, ◌≤◌, ◌+◌, ◌∷◌, [], IfOk, length};
+ghost use Rattle.std.specs.Prelude.{◌≡◌, ◌≤◌, ◌+◌, ◌∷◌, [], IfOk, length};
 ghost use Rattle.std.specs.Prelude.{vec_capacity, vec_len};
 ghost use Rattle.group_run.specs.Turns.{numbers};
 ghost use Rattle.merge_core.specs.Trail.{IsAtRest};
@@ -9,7 +9,7 @@ ghost use Rattle.tree_mem.specs.MemTree.{mem_story};
 use crate::given::{book, brought, brought_also, entries, group, removals, says_of};
 use crate::opened::stopping;
 use crate::told::{push_image_bad, push_stop, push_tree, push_written};
-use group_run::{Batch, Files, Merged, Stop, Task, Turn, merge_group, merge_groups};
+use group_run::{Batch, Files, Merged, Stop, Turn, merge_groups};
 use merge_site::SiteGroup;
 use std::alloc::{AllocError, Global};
 use std::io;
@@ -32,8 +32,8 @@ pub fn two(alloc: Global, fields: &str) -> io::Result<String> {
 fn merge_one(alloc: Global, fields: &str, tree: MemTree) -> io::Result<Merged<MemTree, MemSink>>
     requires { IsAtRest (mem_story tree).now.holds (mem_story tree).now }
 {
-    let task = task(alloc, fields)?;
-    Ok(merge_group(alloc, tree, MemSink::new(alloc), task))
+    let batch = batch_of_one(alloc, fields)?;
+    Ok(merge_groups(alloc, tree, MemSink::new(alloc), batch))
 }
 
 fn merge_two(alloc: Global, fields: &str, tree: MemTree) -> io::Result<Merged<MemTree, MemSink>>
@@ -83,24 +83,38 @@ fn both_groups(alloc: Global, fields: &str) -> io::Result<Vec<SiteGroup>>
     Ok(vec![in alloc; first, second]?)
 }
 
-/// Group 1 of two.
-fn task(alloc: Global, fields: &str) -> io::Result<Task>
-    ensures group { IfOk result (λ t. t.group ≡ 1) }
-    ensures groups { IfOk result (λ t. length t.groups.items ≡ 2) }
-    ensures unclaimed { IfOk result (λ t. t.book.claims ≡ []) }
-    ensures none { IfOk result (λ t. t.history.items ≡ []) }
-    ensures untold { IfOk result (λ t. t.acknowledged.items ≡ []) }
-    ensures room { IfOk result (λ t. vec_len t.history < vec_capacity t.history) }
-    ensures more { IfOk result (λ t. vec_len t.acknowledged < vec_capacity t.acknowledged) }
+/// The turn of group 1 that brings its first package, and removes nothing.
+fn only_turn(alloc: Global, fields: &str) -> io::Result<Vec<Turn>>
+    ensures turns { IfOk result (λ v. numbers v.items ≡ 1 ∷ []) }
+    ensures count { IfOk result (λ v. length v.items ≡ 1) }
 {
     let files = files(alloc, fields, 1)?;
+    let turn = Turn {
+        group: 1,
+        removals: Vec::new(alloc),
+        packages: vec![in alloc; files]?,
+    };
+    Ok(vec![in alloc; turn]?)
+}
+
+/// Group 1 of two.
+fn batch_of_one(alloc: Global, fields: &str) -> io::Result<Batch>
+    ensures turns { IfOk result (λ b. numbers b.turns.items ≡ 1 ∷ []) }
+    ensures count { IfOk result (λ b. length b.turns.items ≡ 1) }
+    ensures groups { IfOk result (λ b. length b.groups.items ≡ 2) }
+    ensures unclaimed { IfOk result (λ b. b.book.claims ≡ []) }
+    ensures none { IfOk result (λ b. b.history.items ≡ []) }
+    ensures untold { IfOk result (λ b. b.acknowledged.items ≡ []) }
+    ensures room { IfOk result (λ b. vec_len b.history + 1 ≤ vec_capacity b.history) }
+    ensures more { IfOk result (λ b. vec_len b.acknowledged + 1 ≤ vec_capacity b.acknowledged) }
+{
+    let turns = only_turn(alloc, fields)?;
     let book = book(alloc, fields)?;
     let groups = both_groups(alloc, fields)?;
     let history = Vec::with_capacity(alloc, 1)?;
     let acknowledged = Vec::with_capacity(alloc, 1)?;
-    Ok(Task {
-        group: 1,
-        files,
+    Ok(Batch {
+        turns,
         book,
         groups,
         history,

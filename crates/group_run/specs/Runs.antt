@@ -1,0 +1,49 @@
+-- A run that takes its turns one by one: where it stands between two, and how it ended.
+use Rattle.std.specs.Prelude.{◌≡◌, ℕ, suc, Bool, List, map}
+use Rattle.std.specs.Prelude.{Err, IfErr, OnOk, Result, length, take}
+use Rattle.basics.specs.Members.{Has}
+use Rattle.file_tree.specs.Disk.{Map}
+use Rattle.merge_core.specs.Roll.{resting}
+use Rattle.merge_site.specs.Site.{Account}
+use Rattle.group_run.specs.Applied.{number}
+use Rattle.group_run.specs.Causes.{IsOfGroup}
+use Rattle.group_run.specs.Lines.{IsBeginning}
+use Rattle.group_run.specs.Through.{HasEnded, IsThrough}
+use Rattle.group_run.specs.Turns.{StopsBehind, numbers}
+use Rattle.group_run.specs.Working.{standing_at}
+use Rattle.group_run.specs.declared.stop.Stop.{Stop}
+use Rattle.group_run.specs.declared.turn.Turn.{Turn}
+
+-- the groups of just these turns are in the tree for good, in this order, and all of them are told
+pub record IsUnderWay {T S : Type 0} (tells : Bool) (opening : Map) (turns : List Turn)
+    (history acknowledged : List ℕ) (a : Account T S) : Type 0 where
+  pub through : IsThrough tells opening turns a
+  pub count : length a.groups ≡ length a.keeping.standings
+  pub merged : history ≡ numbers turns
+  pub told : acknowledged ≡ numbers turns
+
+-- the run has not begun the group of this turn
+abbrev pub IsNew : List Turn → Turn → Type 0
+IsNew turns t = ¬ Has (numbers turns) t.group
+
+-- a run that began these turns ended so: its history is their first groups and the machine's order,
+-- no group behind the next one has begun, the told ones are the first of the history, and all of it
+-- where a group was stopped for what it has; a stop is that of the group behind the history
+pub record IsOver {A T S : Type 0} (tells : Bool) (opening : Map) (turns : List Turn)
+    (history acknowledged : List ℕ) (end : Result A Stop) (a : Account T S) : Type 0 where
+  pub ended : HasEnded tells opening turns a end
+  pub order : history ≡ map number a.keeping.order
+  pub rest : (h : ℕ) → ¬ Has (take (suc (length history)) (numbers turns)) h →
+      standing_at a h ≡ resting
+  pub first : IsBeginning (numbers turns) history
+  pub kept : IsBeginning history acknowledged
+  pub all_told : IfErr end (λ e. IsOfGroup e → acknowledged ≡ history)
+  pub merged : OnOk end (history ≡ numbers turns)
+  pub told : OnOk end (acknowledged ≡ numbers turns)
+  pub cause : IfErr end (StopsBehind tells opening a.opened_book a.groups turns (length history))
+
+-- .. with this stop
+abbrev pub EndsAt : {T S : Type 0} → Bool → Map → List Turn → List ℕ → List ℕ → Account T S → Stop →
+    Type 0
+EndsAt tells opening turns history acknowledged a e =
+    IsOver {A = Unit {0}} tells opening turns history acknowledged (Err e) a
