@@ -3,6 +3,8 @@ ghost use Rattle.std.specs.Prelude.{None, OnOk};
 ghost use Rattle.plan_check.specs.Refusals.{told};
 ghost use Rattle.pkg_state.specs.Fault as state;
 ghost use Rattle.exchange_law.specs.Ends.{IsPlan};
+ghost use Rattle.pms_names.specs.Flags.{has};
+ghost use Rattle.std.specs.List.{list_all};
 ghost use Rattle.atom_plan.specs.Plans.{group_for};
 
 use crate::packages::{needing_nothing, packages_of};
@@ -13,17 +15,28 @@ use plan_check::{Group, Plan, PlanRefused, check};
 use record_read::Installed;
 use std::alloc::{AllocError, Global};
 
-/// Whether the plan is accepted in which the package with these facts comes, without flags and
-/// needs, and what stands on its line goes.
+/// Whether the plan is accepted in which the package with these facts comes, without needs, and what
+/// stands on its line goes. One with a flag on that it doesn't know isn't: its record would lose that
+/// flag.
 pub fn is_accepted(
     alloc: Global,
     facts: &Facts,
     installed: &[Installed],
 ) -> Result<bool, AllocError>
     ensures { IfOk result (λ b. IsTrue b ↔
-        IsPlan installed.now (group_for facts.now installed.now)) }
+        IsPlan [] installed.now (group_for facts.now installed.now)) }
 {
+    if !are_known(facts) {
+        return Ok(false);
+    }
     verdict(judge(alloc, facts, installed))
+}
+
+/// Whether the package knows each of its flags that are on.
+fn are_known(facts: &Facts) -> bool
+    ensures { result ≡ list_all (has facts.now.iuse) facts.now.enabled }
+{
+    facts.enabled.list().all(|flag| facts.iuse.has(flag))
 }
 
 /// Whether the check accepted the plan, unless that was refused for want of memory.
@@ -49,8 +62,9 @@ fn answer_to(judged: &Result<(), PlanRefused>) -> Result<bool, AllocError>
 
 /// Has the plan checked.
 fn judge(alloc: Global, facts: &Facts, installed: &[Installed]) -> Result<(), PlanRefused>
-    ensures ok { OnOk result (IsPlan installed.now (group_for facts.now installed.now)) }
-    ensures fine { IsPlan installed.now (group_for facts.now installed.now) →
+    requires { list_all (has facts.now.iuse) facts.now.enabled ≡ true }
+    ensures ok { OnOk result (IsPlan [] installed.now (group_for facts.now installed.now)) }
+    ensures fine { IsPlan [] installed.now (group_for facts.now installed.now) →
         IfErr result (λ e. told e ≡ None) }
 {
     let start = packages_of(alloc, installed)?;

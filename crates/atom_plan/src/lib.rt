@@ -8,8 +8,9 @@
 //!
 //! **Only tested**, within whole runs: that with ample memory this is answered.
 //!
-//! The candidate is one without flags and needs, so that nothing of it asks for a bind. It takes
-//! time in n log n of the installed packages, as the check of plans does.
+//! The candidate is one without needs, so that nothing of it asks for a bind, and the run has no flag
+//! on for every package. It takes time in n log n of the installed packages, as the check of plans
+//! does.
 //!
 //! ```
 //! if is_accepted(alloc, &facts, &opening.packages)? {

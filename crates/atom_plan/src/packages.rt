@@ -1,5 +1,5 @@
-ghost use Rattle.std.specs.Prelude.{◌≡◌, IfOk};
-ghost use Rattle.commit_law.specs.Commits.{packages_of};
+ghost use Rattle.std.specs.Prelude.{◌≡◌, [], IfOk};
+ghost use Rattle.commit_law.specs.Lit.{packages_of};
 ghost use Rattle.package_law.specs.Records.{needing_nothing};
 
 use dep_atom::Facts;
@@ -28,7 +28,7 @@ pub fn needing_nothing(alloc: Global, facts: &Facts) -> Result<Pkg, AllocError>
 
 /// Copies of the installed packages, without what they own.
 pub(crate) fn packages_of(alloc: Global, installed: &[Installed]) -> Result<Vec<Pkg>, AllocError>
-    ensures { IfOk result (λ v. v.items ≡ packages_of installed.now) }
+    ensures { IfOk result (λ v. v.items ≡ packages_of [] installed.now) }
 {
     let mut packages = Vec::with_capacity(alloc, installed.len())?;
     for one in installed {

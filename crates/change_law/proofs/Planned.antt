@@ -32,15 +32,15 @@ applied_once m g x xs q staged same =
 
 -- ---- a plan of one group
 
-change_alone : (g : plans.Group) (c : Change) → IsOf g c → commits.AreOf (g ∷ []) (λ i. c)
-change_alone g c is zero within = is
-change_alone g c is (suc i) within = absurd (omega (arith, within))
+change_alone : (flags : List (List ℕ)) (g : plans.Group) (c : Change) → IsOf flags g c → commits.AreOf flags (g ∷ []) (λ i. c)
+change_alone flags g c is zero within = is
+change_alone flags g c is (suc i) within = absurd (omega (arith, within))
 
-run_alone : (g : plans.Group) → WaitsForEarlier (g ∷ []) → IsRun (g ∷ []) (0 ∷ [])
+pub run_alone : (g : plans.Group) → WaitsForEarlier (g ∷ []) → IsRun (g ∷ []) (0 ∷ [])
 run_alone g earlier = (omega arith, (λ has. has), (λ h has. let less = earlier 0 h has in absurd (omega (arith, less))), tt)
 
-module _ (leave : GrantedExchangesLeaveOwnedTrees) (commit : CommitsLeaveSoundTrees) (key : Installed → OwnerKey) (m : Map) (ps : List Installed) (book : Book) (groups : List SiteGroup) (n : ℕ) (g : plans.Group) (x : Exchange)
-    (is : IsPlannedExchange key m ps book groups n g x) where
+module _ (leave : GrantedExchangesLeaveOwnedTrees) (commit : CommitsLeaveSoundTrees) (flags : List (List ℕ)) (key : Installed → OwnerKey) (m : Map) (ps : List Installed) (book : Book) (groups : List SiteGroup) (n : ℕ) (g : plans.Group) (x : Exchange)
+    (is : IsPlannedExchange flags key m ps book groups n g x) where
   abbrev Is : Group → Type 0
   Is = IsAdmitted m book groups (changes_by x) n
 
@@ -51,25 +51,25 @@ module _ (leave : GrantedExchangesLeaveOwnedTrees) (commit : CommitsLeaveSoundTr
   gs = g ∷ []
 
   -- what stands behind a run of the plan
-  sound_by : (run : List ℕ) (qs : List Installed) → IsRun gs run → AreSteps (map (λ (i : ℕ). c) run) m ps qs → IsSoundTree (applied m (groups_of (map (λ (i : ℕ). c) run))) qs
+  sound_by : (run : List ℕ) (qs : List Installed) → IsRun gs run → AreSteps (map (λ (i : ℕ). c) run) m ps qs → IsSoundTree flags (applied m (groups_of (map (λ (i : ℕ). c) run))) qs
   sound_by run qs goes steps =
-      commit gs (λ i. c) m ps qs run is.planned.earlier is.planned.accepted (change_alone g c is.planned.is) is.tree.database is.tree.kept goes steps
+      commit flags gs (λ i. c) m ps qs run is.planned.earlier is.planned.accepted (change_alone flags g c is.planned.is) is.tree.database is.tree.kept goes steps
 
-  some_came : (y : Group) (ys : List Group) → AreOf Is (y ∷ ys) → HoldsExchanged ps x (IsSoundTree (applied m (y ∷ ys)))
+  some_came : (y : Group) (ys : List Group) → AreOf Is (y ∷ ys) → HoldsExchanged ps x (IsSoundTree flags (applied m (y ∷ ys)))
   some_came y ys of =
       let left = leave key m ps book groups n x is.tree is.exchange (of y (inl refl)).1 in
       let qs = left.packages in
       let sound = sound_by (0 ∷ []) qs (run_alone g is.planned.earlier) (left.comes.step, (qs, left.after, refl)) in (
         qs,
         left.after,
-        subst (λ (t : Map). IsSoundTree t qs) (λ i q. sym (applied_once m c.does y ys q (staged (all_of x.packages)) (λ z has. (of z has).0)) i) sound,
+        subst (λ (t : Map). IsSoundTree flags t qs) (λ i q. sym (applied_once m c.does y ys q (staged (all_of x.packages)) (λ z has. (of z has).0)) i) sound,
       )
 
-  pub groups_leave : (xs : List Group) → AreOf (IsAdmitted m book groups (changes_by x) n) xs → ((xs ≡ []) × IsSoundTree (applied m xs) ps) ⊎ (¬ (xs ≡ []) × HoldsExchanged ps x (IsSoundTree (applied m xs)))
+  pub groups_leave : (xs : List Group) → AreOf (IsAdmitted m book groups (changes_by x) n) xs → ((xs ≡ []) × IsSoundTree flags (applied m xs) ps) ⊎ (¬ (xs ≡ []) × HoldsExchanged ps x (IsSoundTree flags (applied m xs)))
   groups_leave [] of = inl (refl, sound_by [] ps tt refl)
   groups_leave (y ∷ ys) of = inr ((λ e. cc e), some_came y ys of)
 
-  pub crash_leaves : (history : List ℕ) (d : Map) → Recovers (IsAdmitted m book groups (changes_by x) n) m history d → ((history ≡ []) × RecoversSoundly d ps) ⊎ HoldsExchanged ps x (RecoversSoundly d)
+  pub crash_leaves : (history : List ℕ) (d : Map) → Recovers (IsAdmitted m book groups (changes_by x) n) m history d → ((history ≡ []) × RecoversSoundly flags d ps) ⊎ HoldsExchanged ps x (RecoversSoundly flags d)
   crash_leaves history d r = elim (groups_leave r.groups r.of) [
     | inl before ↦ inl (none_told Is m history d r before.0, record { tree = applied m r.groups; recovers = r.is; sound = before.1 })
     | inr (some, (qs, after, sound)) ↦ inr (qs, after, record { tree = applied m r.groups; recovers = r.is; sound = sound })
@@ -79,22 +79,22 @@ module _ (leave : GrantedExchangesLeaveOwnedTrees) (commit : CommitsLeaveSoundTr
   none_numbered [] e = refl
   none_numbered (y ∷ ys) e = absurd (cc e)
 
-  pub disk_reads : (history : List ℕ) (d : Disk) → HasHistory (IsAdmitted m book groups (changes_by x) n) m history d → ((history ≡ []) × IsSoundTree d.holds ps) ⊎ (¬ (history ≡ []) × HoldsExchanged ps x (IsSoundTree d.holds))
+  pub disk_reads : (history : List ℕ) (d : Disk) → HasHistory (IsAdmitted m book groups (changes_by x) n) m history d → ((history ≡ []) × IsSoundTree flags d.holds ps) ⊎ (¬ (history ≡ []) × HoldsExchanged ps x (IsSoundTree flags d.holds))
   disk_reads history d reads =
       let same : applied m reads.groups ≡ d.holds = λ i q. sym (reads.reads q) i in
       elim (groups_leave reads.groups reads.of) [
-        | inl before ↦ inl (sym reads.are ∙ ap (map number) before.0, subst (λ (t : Map). IsSoundTree t ps) same before.1)
+        | inl before ↦ inl (sym reads.are ∙ ap (map number) before.0, subst (λ (t : Map). IsSoundTree flags t ps) same before.1)
         | inr (some, (qs, after, sound)) ↦ inr (
           (λ e. some (none_numbered reads.groups (reads.are ∙ e))),
-          (qs, after, subst (λ (t : Map). IsSoundTree t qs) same sound),
+          (qs, after, subst (λ (t : Map). IsSoundTree flags t qs) same sound),
         )
       ]
 
 pub groups_leave_sound : GrantedExchangesLeaveOwnedTrees → CommitsLeaveSoundTrees → OneGroupPlansLeaveSoundTrees
-groups_leave_sound leave commit key m ps book groups n g x xs is of = groups_leave leave commit key m ps book groups n g x is xs of
+groups_leave_sound leave commit flags key m ps book groups n g x xs is of = groups_leave leave commit flags key m ps book groups n g x is xs of
 
 pub crashes_recover_soundly : GrantedExchangesLeaveOwnedTrees → CommitsLeaveSoundTrees → OneGroupPlansRecoverSoundly
-crashes_recover_soundly leave commit key m ps book groups n g x history c is r = crash_leaves leave commit key m ps book groups n g x is history c r
+crashes_recover_soundly leave commit flags key m ps book groups n g x history c is r = crash_leaves leave commit flags key m ps book groups n g x is history c r
 
 pub disks_read_soundly : GrantedExchangesLeaveOwnedTrees → CommitsLeaveSoundTrees → OneGroupPlansReadSoundly
-disks_read_soundly leave commit key m ps book groups n g x history d is reads = disk_reads leave commit key m ps book groups n g x is history d reads
+disks_read_soundly leave commit flags key m ps book groups n g x history d is reads = disk_reads leave commit flags key m ps book groups n g x is history d reads

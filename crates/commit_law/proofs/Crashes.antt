@@ -105,9 +105,9 @@ stood_run opening after r c stands listed follows =
 
 -- where a map stands, it recovers to a sound tree
 pub stands_soundly : ((c : Map) → IsRising (open_groups c)) → CommitsLeaveSoundTrees
-    → (plan : List plans.Group) (change : ℕ → Change) (opening : Map) (ps : List Installed) (r : Roll) (c : Map) → IsPlanned plan change opening ps → IsListed r → Merges r plan change
-    → AreStepsCommitted opening r change ps → Stands opening r c → RecoversSoundly opening r plan change c
-stands_soundly rise commits plan change opening ps r c planned listed merges steps stands =
+    → (flags : List (List ℕ)) (plan : List plans.Group) (change : ℕ → Change) (opening : Map) (ps : List Installed) (r : Roll) (c : Map) → IsPlanned flags plan change opening ps → IsListed r → Merges r plan change
+    → AreStepsCommitted opening r change ps → Stands opening r c → RecoversSoundly flags opening r plan change c
+stands_soundly rise commits flags plan change opening ps r c planned listed merges steps stands =
     let within : (x : Group) → Has (committed r c) x → number x < length plan = λ x h. merges.there (number x) (stands.opened x h).0 in
     let run : List ℕ = map number (committed r c) in
     let is_run : plans.IsRun plan run = goes_on plan (committed r c) [] (stood_run opening (λ g. (plans.group_at plan g).after) r c stands listed merges.follows) (committed_differ r listed c (rise c)) (λ x h none. none) within in
@@ -122,7 +122,7 @@ stands_soundly rise commits plan change opening ps r c planned listed merges ste
       opened = opened;
       recovers = subst (λ (gs : List Group). IsRecovered c (applied opening gs)) (sym whole) stands.recovers;
       database = went.0;
-      sound = commits plan change opening ps went.0 run planned.earlier planned.accepted planned.changes planned.database planned.kept is_run went.1;
+      sound = commits flags plan change opening ps went.0 run planned.earlier planned.accepted planned.changes planned.database planned.kept is_run went.1;
     }
 
 -- a machine on the way merges the plan where the one at the end does
@@ -140,12 +140,12 @@ pub record Laws : Type 0 where
   pub keeps : (opening : Map) (m : Machine) (e : Event) → EventKeeps opening m e
   pub follows : (opening : Map) (after : ℕ → List ℕ) (m : Machine) (d : Disk) (e : Event) (ok : Bool) → IsInOrder opening m d → IsFollowing after m.roll → Admits m e → Waits after m e → IsFollowing after (answered m e ok).roll
 
-module _ (laws : Laws) (plan : List plans.Group) (change : ℕ → Change) (opening : Map) (ps : List Installed) (planned : IsPlanned plan change opening ps) where
+module _ (laws : Laws) (flags : List (List ℕ)) (plan : List plans.Group) (change : ℕ → Change) (opening : Map) (ps : List Installed) (planned : IsPlanned flags plan change opening ps) where
   abbrev after : ℕ → List ℕ
   after g = (plans.group_at plan g).after
 
   pub walk : (m : Machine) (old new : Story) (es : List Entry) → IsInOrder opening m old.now → IsFollowing after m.roll → Happens m old es new → AllWait after m es
-      → Merges (machine_after m es).roll plan change → AreStepsAllAlong opening change ps m es → SoundTrail opening plan change m old es new
+      → Merges (machine_after m es).roll plan change → AreStepsAllAlong opening change ps m es → SoundTrail flags opening plan change m old es new
   walk m old new [] order follows happens waits merges steps = happens
   walk m old new (e ∷ es) order follows happens waits merges steps =
       let next = answered m e.0 e.1 in
@@ -154,17 +154,17 @@ module _ (laws : Laws) (plan : List plans.Group) (change : ℕ → Change) (open
       let stays = stays_then (begun m e.0).roll next.roll last (answer_stays m e.0 e.1 happens.2) (run_stays next happens.0 new es happens.4) in
       let during = laws.follows opening after m old.now e.0 false order follows happens.2 waits.0 in (
         happens.0,
-        since_weaker (Stands opening (begun m e.0).roll) (RecoversSoundly opening (begun m e.0).roll plan change)
-            (λ c stands. stands_soundly laws.rise laws.commits plan change opening ps (begun m e.0).roll c planned (begun_listed m e.0 happens.2 order.listed)
+        since_weaker (Stands opening (begun m e.0).roll) (RecoversSoundly flags opening (begun m e.0).roll plan change)
+            (λ c stands. stands_soundly laws.rise laws.commits flags plan change opening ps (begun m e.0).roll c planned (begun_listed m e.0 happens.2 order.listed)
             (merges_before plan change (begun m e.0).roll last during stays merges) steps.0 stands)
             old happens.0 kept.1,
         walk next happens.0 new es kept.0 (laws.follows opening after m old.now e.0 e.1 order follows happens.2 waits.0) happens.4 waits.1 merges steps.1,
       )
 
 pub crashes_recover_soundly : Laws → ((opening : Map) (r : Roll) (d : Disk) → IsFirm opening r d → IsListed r → Leaves (Stands opening r) d) → CrashesRecoverSoundly
-crashes_recover_soundly laws stand plan change opening ps r d c planned firm listed merges steps image =
-    stands_soundly laws.rise laws.commits plan change opening ps r c planned listed merges steps (stand opening r d firm listed c image)
+crashes_recover_soundly laws stand flags plan change opening ps r d c planned firm listed merges steps image =
+    stands_soundly laws.rise laws.commits flags plan change opening ps r c planned listed merges steps (stand opening r d firm listed c image)
 
 pub each_moment_recovers_soundly : Laws → ((opening : Map) (d : Disk) → IsAtRest opening d → IsInOrder opening idle d) → ((after : ℕ → List ℕ) → IsFollowing after idle.roll) → EachMomentRecoversSoundly
-each_moment_recovers_soundly laws begins idles plan change opening ps old new es planned rest happens waits merges steps =
-    walk laws plan change opening ps planned idle old new es (begins opening old.now rest) (idles (λ g. (plans.group_at plan g).after)) happens waits merges steps
+each_moment_recovers_soundly laws begins idles flags plan change opening ps old new es planned rest happens waits merges steps =
+    walk laws flags plan change opening ps planned idle old new es (begins opening old.now rest) (idles (λ g. (plans.group_at plan g).after)) happens waits merges steps

@@ -96,7 +96,7 @@ module _ (facts : Facts) (change : ℕ → Change) where
       (beside a b (inr ha) (inr hb) ne) (back now (change b) c (beside_first b hb))) in
       (rest.0, (first.step, (after.0, after.1, rest.1)))
 
-  module _ (plan : List plans.Group) (opening : Map) (ps : List Installed) (planned : IsPlanned plan change opening ps) (clear : IsClear opening) where
+  module _ (flags : List (List ℕ)) (plan : List plans.Group) (opening : Map) (ps : List Installed) (planned : IsPlanned flags plan change opening ps) (clear : IsClear opening) where
     -- the settled groups are steps, and each group under way may come behind them, beside the others
     pub record IsFair (r : Roll) : Type 0 where
       pub now : List Installed
@@ -271,5 +271,5 @@ module _ (facts : Facts) (change : ℕ → Change) where
         not_granted (Abandon g) = tt
 
 pub good_claims_suffice : Facts → GoodClaimsSuffice
-good_claims_suffice facts plan change opening ps old new es planned rest happens merges grants =
-    fair_walk facts change plan opening ps planned rest.empty idle old new es (fair_idle facts change plan opening ps planned rest.empty) happens merges grants
+good_claims_suffice facts flags plan change opening ps old new es planned rest happens merges grants =
+    fair_walk facts change flags plan opening ps planned rest.empty idle old new es (fair_idle facts change flags plan opening ps planned rest.empty) happens merges grants

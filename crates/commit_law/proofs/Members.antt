@@ -20,7 +20,7 @@ use Rattle.database_law.specs.Database.{folder_name}
 use Rattle.database_law.specs.Packages.{Installed}
 use Rattle.database_law.proofs.Places.{all_less}
 use Rattle.plan_law.proofs.Members.{passes_some, some_passes}
-use Rattle.commit_law.specs.Commits.{packages_of}
+use Rattle.commit_law.specs.Lit.{lit, packages_of}
 use Rattle.basics.proofs.Tests.{same_tests}
 use Rattle.basics.proofs.Texts.{not_less}
 
@@ -58,27 +58,27 @@ distinct_folders (x ∷ qs) rising = (
 abbrev line : Package → List ℕ
 line p = line_of p.facts
 
-lines_apart : (qs : List Installed) → ((p q : Installed) → Has qs p → Has qs q → line p.package_is ≡ line q.package_is → folder_name p ≡ folder_name q) → AreDistinct (map folder_name qs) → AreApart (packages_of qs)
-lines_apart [] alike d = tt
-lines_apart (x ∷ qs) alike d = (
-  (λ h. let r = has-map_back line (packages_of qs) (line x.package_is) h in
-      let k = has-map_back (λ (p : Installed). p.package_is) qs r.0 r.1 in
+lines_apart : (flags : List (List ℕ)) (qs : List Installed) → ((p q : Installed) → Has qs p → Has qs q → line p.package_is ≡ line q.package_is → folder_name p ≡ folder_name q) → AreDistinct (map folder_name qs) → AreApart (packages_of flags qs)
+lines_apart flags [] alike d = tt
+lines_apart flags (x ∷ qs) alike d = (
+  (λ h. let r = has-map_back line (packages_of flags qs) (line x.package_is) h in
+      let k = has-map_back (λ (p : Installed). lit flags p.package_is) qs r.0 r.1 in
       let same : line k.0.package_is ≡ line x.package_is = ap line k.2 ∙ r.2 in
       d.0 (subst (λ (t : List ℕ). Has (map folder_name qs) t) (alike k.0 x (inr k.1) (inl refl) same) (has-map folder_name qs k.0 k.1))),
-  lines_apart qs (λ p q hp hq. alike p q (inr hp) (inr hq)) d.1,
+  lines_apart flags qs (λ p q hp hq. alike p q (inr hp) (inr hq)) d.1,
 )
 
 -- consistent packages are so as a database of just these
-pub consistent_alike : (qs : List Installed) (ps : List Package) → IsRising (map folder_name qs) → AreSame ps (packages_of qs) → AreConsistent ps → AreConsistent (packages_of qs)
-consistent_alike qs ps rising same c = record {
-  apart = lines_apart qs one_folder (distinct_folders qs rising);
+pub consistent_alike : (flags : List (List ℕ)) (qs : List Installed) (ps : List Package) → IsRising (map folder_name qs) → AreSame ps (packages_of flags qs) → AreConsistent ps → AreConsistent (packages_of flags qs)
+consistent_alike flags qs ps rising same c = record {
+  apart = lines_apart flags qs one_folder (distinct_folders qs rising);
   required = λ p h. c.required p ((same p).1 h);
   unblocked = λ p q hp hq. c.unblocked p q ((same p).1 hp) ((same q).1 hq);
-  runtime = λ p h. sym (met_alike ps (packages_of qs) same Rdepend p) ∙ c.runtime p ((same p).1 h);
+  runtime = λ p h. sym (met_alike ps (packages_of flags qs) same Rdepend p) ∙ c.runtime p ((same p).1 h);
 } where
   one_folder : (p q : Installed) → Has qs p → Has qs q → line p.package_is ≡ line q.package_is → folder_name p ≡ folder_name q
   one_folder p q hp hq e =
-      let there = has-map (λ (x : Installed). x.package_is) qs p hp in
-      let here = has-map (λ (x : Installed). x.package_is) qs q hq in
-      let one : p.package_is ≡ q.package_is = one_on_line ps p.package_is q.package_is c.apart ((same p.package_is).1 there) ((same q.package_is).1 here) e in
+      let there = has-map (λ (x : Installed). lit flags x.package_is) qs p hp in
+      let here = has-map (λ (x : Installed). lit flags x.package_is) qs q hq in
+      let one : lit flags p.package_is ≡ lit flags q.package_is = one_on_line ps (lit flags p.package_is) (lit flags q.package_is) c.apart ((same (lit flags p.package_is)).1 there) ((same (lit flags q.package_is)).1 here) e in
       ap (λ (x : Package). id_text x.facts.id) one

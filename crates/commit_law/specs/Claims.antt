@@ -70,9 +70,9 @@ GrantsWellAllAlong opening change ps m (e ∷ es) =
 -- another, in whatever order the groups come.
 abbrev pub GoodClaimsSuffice : Type 0
 GoodClaimsSuffice =
-    (plan : List plans.Group) (change : ℕ → Change) (opening : Map) (ps : List Installed)
-    (old new : Story) (es : List Entry) →
-    IsPlanned plan change opening ps → IsAtRest opening old.now → Happens idle old es new →
+    (flags : List (List ℕ)) (plan : List plans.Group) (change : ℕ → Change) (opening : Map)
+    (ps : List Installed) (old new : Story) (es : List Entry) →
+    IsPlanned flags plan change opening ps → IsAtRest opening old.now → Happens idle old es new →
     Merges (machine_after idle es).roll plan change →
     GrantsWellAllAlong opening change ps idle es →
     AreStepsAllAlong opening change ps idle es
@@ -84,10 +84,10 @@ GoodClaimsSuffice =
 -- settled when that moment's event began, and none whose gate was never put.
 abbrev pub MergesRecoverSoundly : Type 0
 MergesRecoverSoundly =
-    (plan : List plans.Group) (change : ℕ → Change) (opening : Map) (ps : List Installed)
-    (old new : Story) (es : List Entry) →
-    IsPlanned plan change opening ps → IsAtRest opening old.now → Happens idle old es new →
+    (flags : List (List ℕ)) (plan : List plans.Group) (change : ℕ → Change) (opening : Map)
+    (ps : List Installed) (old new : Story) (es : List Entry) →
+    IsPlanned flags plan change opening ps → IsAtRest opening old.now → Happens idle old es new →
     AllWait (λ g. (plans.group_at plan g).after) idle es →
     Merges (machine_after idle es).roll plan change →
     GrantsWellAllAlong opening change ps idle es →
-    SoundTrail opening plan change idle old es new
+    SoundTrail flags opening plan change idle old es new

@@ -16,14 +16,15 @@ use Rattle.database_law.specs.Packages.{Installed}
 use Rattle.database_law.specs.Step.{AreSteps, Change, groups_of}
 use Rattle.plan_law.specs.Accepted.{IsAccepted}
 use Rattle.plan_law.specs.Plans as plans
-use Rattle.commit_law.specs.Commits.{AreOf, IsSoundTree, packages_of}
+use Rattle.commit_law.specs.Commits.{AreOf, IsSoundTree}
+use Rattle.commit_law.specs.Lit.{packages_of}
 
 -- a plan over the packages of a kept tree: it is accepted, and each of its groups has a change
-pub record IsPlanned (plan : List plans.Group) (change : ℕ → Change) (opening : Map)
-    (ps : List Installed) : Type 0 where
+pub record IsPlanned (flags : List (List ℕ)) (plan : List plans.Group) (change : ℕ → Change)
+    (opening : Map) (ps : List Installed) : Type 0 where
   pub earlier : plans.WaitsForEarlier plan
-  pub accepted : IsAccepted plan (packages_of ps)
-  pub changes : AreOf plan change
+  pub accepted : IsAccepted plan (packages_of flags ps)
+  pub changes : AreOf flags plan change
   pub database : IsDatabase opening ps
   pub kept : IsKept opening ps
 
@@ -51,24 +52,24 @@ AreStepsCommitted opening r change ps =
 
 -- the map recovers to a sound tree: the opening after a run of the plan, with each settled group in
 -- it and none whose gate was never put
-pub record RecoversSoundly (opening : Map) (r : Roll) (plan : List plans.Group)
-    (change : ℕ → Change) (c : Map) : Type 0 where
+pub record RecoversSoundly (flags : List (List ℕ)) (opening : Map) (r : Roll)
+    (plan : List plans.Group) (change : ℕ → Change) (c : Map) : Type 0 where
   pub run : List ℕ
   pub is_run : plans.IsRun plan run
   pub settled : (g : ℕ) → is_settled (phase_at r g) ≡ true → Has run g
   pub opened : AreOpened r run
   pub recovers : IsRecovered c (applied opening (groups_of (map change run)))
   pub database : List Installed
-  pub sound : IsSoundTree (applied opening (groups_of (map change run))) database
+  pub sound : IsSoundTree flags (applied opening (groups_of (map change run))) database
 
 -- whatever a crash leaves while the machine and the disk are in order
 abbrev pub CrashesRecoverSoundly : Type 0
 CrashesRecoverSoundly =
-    (plan : List plans.Group) (change : ℕ → Change) (opening : Map) (ps : List Installed)
-    (r : Roll) (d : Disk) (c : Map) →
-    IsPlanned plan change opening ps → IsFirm opening r d → IsListed r → Merges r plan change →
-    AreStepsCommitted opening r change ps → IsImage d c →
-    RecoversSoundly opening r plan change c
+    (flags : List (List ℕ)) (plan : List plans.Group) (change : ℕ → Change) (opening : Map)
+    (ps : List Installed) (r : Roll) (d : Disk) (c : Map) →
+    IsPlanned flags plan change opening ps → IsFirm opening r d → IsListed r →
+    Merges r plan change → AreStepsCommitted opening r change ps → IsImage d c →
+    RecoversSoundly flags opening r plan change c
 
 -- the changes are such steps at each moment of the run
 abbrev pub AreStepsAllAlong : Map → (ℕ → Change) → List Installed → Machine → List Entry → Type 0
@@ -79,22 +80,22 @@ AreStepsAllAlong opening change ps m (e ∷ es) =
 
 -- each crash image of each moment of the run recovers soundly, with each group in it that was
 -- settled when that moment's event began
-abbrev pub SoundTrail : Map → List plans.Group → (ℕ → Change) → Machine → Story → List Entry →
-    Story → Type 0
-SoundTrail opening plan change m old [] new = new ≡ old
-SoundTrail opening plan change m old (e ∷ es) new =
-    (mid : Story) × Since (RecoversSoundly opening (begun m e.0).roll plan change) old mid ×
-    SoundTrail opening plan change (answered m e.0 e.1) mid es new
+abbrev pub SoundTrail : List (List ℕ) → Map → List plans.Group → (ℕ → Change) → Machine →
+    Story → List Entry → Story → Type 0
+SoundTrail flags opening plan change m old [] new = new ≡ old
+SoundTrail flags opening plan change m old (e ∷ es) new =
+    (mid : Story) × Since (RecoversSoundly flags opening (begun m e.0).roll plan change) old mid ×
+    SoundTrail flags opening plan change (answered m e.0 e.1) mid es new
 
 -- Whatever a crash leaves at any moment, also within a write, while the machine merges the plan
 -- from a tree at rest: its events come in any order in which groups wait, answered in any way. An
 -- event that the crash cut off is the last of the list.
 abbrev pub EachMomentRecoversSoundly : Type 0
 EachMomentRecoversSoundly =
-    (plan : List plans.Group) (change : ℕ → Change) (opening : Map) (ps : List Installed)
-    (old new : Story) (es : List Entry) →
-    IsPlanned plan change opening ps → IsAtRest opening old.now → Happens idle old es new →
+    (flags : List (List ℕ)) (plan : List plans.Group) (change : ℕ → Change) (opening : Map)
+    (ps : List Installed) (old new : Story) (es : List Entry) →
+    IsPlanned flags plan change opening ps → IsAtRest opening old.now → Happens idle old es new →
     AllWait (λ g. (plans.group_at plan g).after) idle es →
     Merges (machine_after idle es).roll plan change →
     AreStepsAllAlong opening change ps idle es →
-    SoundTrail opening plan change idle old es new
+    SoundTrail flags opening plan change idle old es new

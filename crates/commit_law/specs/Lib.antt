@@ -1,3 +1,4 @@
 pub mod Claims
 pub mod Commits
 pub mod Crashes
+pub mod Lit

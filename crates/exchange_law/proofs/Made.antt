@@ -6,4 +6,4 @@ use Rattle.exchange_run.proofs.Soundly.{made_leaves}
 use Rattle.exchange_law.specs.Ends.{MadeGroupsLeaveSoundTrees}
 
 pub made_groups_leave : MadeGroupsExchange → AcceptedGroupsBringEachOnce → OwnersKeepTheirKeys → OneGroupPlansLeaveSoundTrees → GroupsKeepDatabase → MadeGroupsLeaveSoundTrees
-made_groups_leave make once stay leave keep m ps g images book made xs planned is of = made_leaves make once stay leave keep m ps book g is.newcomers is.line made planned is.brings is.over xs of
+made_groups_leave make once stay leave keep flags m ps g images book made xs planned is of = made_leaves make once stay leave keep flags m ps book g is.newcomers is.line made planned is.brings is.over xs of

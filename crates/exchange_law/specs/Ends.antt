@@ -12,7 +12,8 @@ use Rattle.owner_book.specs.Book.{Book}
 use Rattle.plan_law.specs.Accepted.{IsAccepted}
 use Rattle.plan_law.specs.Plans.{Group, WaitsForEarlier}
 use Rattle.database_law.specs.Packages.{Installed}
-use Rattle.commit_law.specs.Commits.{IsSoundTree, packages_of}
+use Rattle.commit_law.specs.Commits.{IsSoundTree}
+use Rattle.commit_law.specs.Lit.{packages_of}
 use Rattle.group_run.specs.Applied.{AreOf, HasHistory, LeavesHistory, Recovers}
 use Rattle.change_law.specs.Planned.{RecoversSoundly}
 use Rattle.run_law.specs.Ends.{BeginsWith, IsKept}
@@ -43,18 +44,18 @@ pub record IsMerge (m : Map) (ps : List Installed) (g : Group) (images : List (L
 -- sound tree: with the packages from before where there is none, or else with those after it.
 abbrev pub MadeGroupsLeaveSoundTrees : Type 0
 MadeGroupsLeaveSoundTrees =
-    (m : Map) (ps : List Installed) (g : Group) (images : List (List Entry)) (book : Book)
-    (made : Made) (xs : List journal.Group) →
-    IsPlannedFor m ps book g → IsMerge m ps g images book made →
+    (flags : List (List ℕ)) (m : Map) (ps : List Installed) (g : Group)
+    (images : List (List Entry)) (book : Book) (made : Made) (xs : List journal.Group) →
+    IsPlannedFor flags m ps book g → IsMerge m ps g images book made →
     AreOf (IsOfMade m book made) xs →
-    ((xs ≡ []) × IsSoundTree (applied m xs) ps)
-    ⊎ (¬ (xs ≡ []) × HoldsAfterGroup ps g (IsSoundTree (applied m xs)))
+    ((xs ≡ []) × IsSoundTree flags (applied m xs) ps)
+    ⊎ (¬ (xs ≡ []) × HoldsAfterGroup flags ps g (IsSoundTree flags (applied m xs)))
 
 -- the plan of just this group is accepted over the packages, and what it brings can be recorded
-pub record IsPlan (ps : List Installed) (g : Group) : Type 0 where
+pub record IsPlan (flags : List (List ℕ)) (ps : List Installed) (g : Group) : Type 0 where
   pub earlier : WaitsForEarlier (g ∷ [])
-  pub accepted : IsAccepted (g ∷ []) (packages_of ps)
-  pub recordable : AllByRecursion CanBeRecorded g.additions
+  pub accepted : IsAccepted (g ∷ []) (packages_of flags ps)
+  pub recordable : AllByRecursion (CanBeRecorded flags) g.additions
 
 -- which group a run merges into a map, over which packages, and with which images for its additions
 abbrev pub Choice : Type 1
@@ -102,24 +103,27 @@ HasGroups Chooses history old new = HoldsOfRun Chooses old (λ m Of. HasHistory 
 
 -- whatever is chosen in this map is a wanted group, over these packages, whose plan is accepted and
 -- whose additions can be recorded
-abbrev pub ChoosesPlans : Choice → Map → List Installed → (Group → Type 0) → Type 0
-ChoosesPlans Chooses m ps Wants = (qs : List Installed) (g : Group)
-    (images : List (List Entry)) → Chooses m qs g images → (qs ≡ ps) × Wants g × IsPlan ps g
+abbrev pub ChoosesPlans : List (List ℕ) → Choice → Map → List Installed → (Group → Type 0) →
+    Type 0
+ChoosesPlans flags Chooses m ps Wants = (qs : List Installed) (g : Group)
+    (images : List (List Entry)) → Chooses m qs g images → (qs ≡ ps) × Wants g × IsPlan flags ps g
 
 -- something holds of these packages, where nothing was merged, or of those after a wanted group,
 -- where it was
-abbrev pub HoldsAfter : List Installed → (Group → Type 0) → (Nothing Merged : Type 0) →
-    (List Installed → Type 0) → Type 0
-HoldsAfter ps Wants Nothing Merged P =
-    (Nothing × P ps) ⊎ (Merged × ((g : Group) × Wants g × HoldsAfterGroup ps g P))
+abbrev pub HoldsAfter : List (List ℕ) → List Installed → (Group → Type 0) →
+    (Nothing Merged : Type 0) → (List Installed → Type 0) → Type 0
+HoldsAfter flags ps Wants Nothing Merged P =
+    (Nothing × P ps) ⊎ (Merged × ((g : Group) × Wants g × HoldsAfterGroup flags ps g P))
 
 -- a crash image recovers to a sound tree: with these packages, where none of these groups are among
 -- those of the run, or with those after the wanted one
-abbrev pub StaysSound : List Installed → (Group → Type 0) → List ℕ → Map → Type 0
-StaysSound ps Wants among c = HoldsAfter ps Wants (among ≡ []) ⊤ (RecoversSoundly c)
+abbrev pub StaysSound : List (List ℕ) → List Installed → (Group → Type 0) → List ℕ → Map → Type 0
+StaysSound flags ps Wants among c =
+    HoldsAfter flags ps Wants (among ≡ []) ⊤ (RecoversSoundly flags c)
 
 -- a disk is one that runs begin with: with these packages, where the history has no group, or else
 -- with those after the wanted one
-abbrev pub EndsSoundly : List Installed → (Group → Type 0) → List ℕ → Disk → Type 0
-EndsSoundly ps Wants history d =
-    HoldsAfter ps Wants (history ≡ []) (¬ (history ≡ [])) (BeginsWith d d.holds)
+abbrev pub EndsSoundly : List (List ℕ) → List Installed → (Group → Type 0) → List ℕ → Disk →
+    Type 0
+EndsSoundly flags ps Wants history d =
+    HoldsAfter flags ps Wants (history ≡ []) (¬ (history ≡ [])) (BeginsWith flags d d.holds)

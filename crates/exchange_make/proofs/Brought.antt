@@ -2,7 +2,6 @@
 use Rattle.std.proofs.Common.{◌≡◌, ◌∙◌, ◌||◌, ℕ, Bool, true, false, List, [], ◌∷◌, Option, Some, inl, inr, refl, ap, map, subst, sym}
 use Rattle.std.specs.Prelude.{bytes_eq, if◌then◌else◌}
 use Rattle.std.specs.List.{AllByRecursion}
-use Rattle.std.proofs.lemmas.Bool.{or_parts}
 use Rattle.std.proofs.lemmas.List.Sorted.{IsPermutation-sym}
 use Rattle.basics.specs.Members.{AreDistinct, Has}
 use Rattle.basics.proofs.Each.{all_has}
@@ -11,53 +10,36 @@ use Rattle.basics.proofs.Permutations.{has-moved}
 use Rattle.file_tree.specs.Disk.{Map}
 use Rattle.file_tree.specs.Thing.{Thing}
 use Rattle.file_tree.specs.declared.objects.Entry.{Entry}
-use Rattle.file_tree.specs.declared.objects.Kind.{Kind}
-use Rattle.file_tree.specs.declared.objects.Kind.TheVariants as kinds
 use Rattle.image_fit.specs.Images as images
-use Rattle.image_fit.specs.Images.{is_good, is_good_by}
+use Rattle.image_fit.specs.Images.{is_good}
 use Rattle.image_fit.specs.Misfits.{AreGood}
 use Rattle.merge_record.specs.Judging.{meets_jobs}
 use Rattle.merge_record.specs.Spelling.{IsPathText}
-use Rattle.owner_book.specs.Rules.{database, is_reserved, own_files, touches}
-use Rattle.vdb_text.specs.Files.{database_path}
-use Rattle.contents_text.specs.Contents.{IsContent, IsOwnable, is_dropped, meets, path_of}
+use Rattle.owner_book.specs.Rules.{is_reserved}
+use Rattle.contents_text.specs.Contents.{IsOwnable, is_dropped, path_of}
 use Rattle.contents_text.specs.declared.owned.Owned.{Owned}
-use Rattle.database_law.specs.Database.{Holds, folder}
+use Rattle.database_law.specs.Database.{folder}
 use Rattle.database_law.specs.Fields.{Says}
 use Rattle.database_law.specs.Packages.{Installed, paths}
 use Rattle.group_run.specs.declared.files.Files.{Files}
 use Rattle.package_law.specs.Packages as laws
 use Rattle.package_law.specs.Packages.{AreFilesOf, IsRecorded}
-use Rattle.package_law.specs.Records.{content_by, owned_of}
-use Rattle.package_law.proofs.Digests.{is_digest}
+use Rattle.package_law.specs.Records.{owned_of}
+use Rattle.package_law.proofs.LetIn.{let_in_apart}
+use Rattle.package_law.proofs.Records.{content_good, content_held, same_paths}
 use Rattle.pkg_state.specs.Package.{Package}
 use Rattle.record_write.specs.Recorded as records
-use Rattle.record_write.specs.Recorded.{FilesAreInTheFolder, IsRecordable, SortedRecordsAreReadBack}
+use Rattle.record_write.specs.Recorded.{AreBound, FilesAreInTheFolder, IsRecordable, SortedRecordsAreReadBack}
 use Rattle.record_write.specs.Written.{AreFolderFiles, AreInOrder, installed_with}
+use Rattle.commit_law.specs.Lit.{as_recorded}
 use Rattle.exchange_make.specs.Laws.{CanBeRecorded}
 use Rattle.exchange_make.specs.Made.{AreFilesFor, IsNamed, recorded}
 use Rattle.exchange_make.specs.declared.newcomer.Newcomer.{Newcomer}
+use Rattle.exchange_make.proofs.Kept.{named_recorded, same_tree}
 
 -- a path that an image may have, and that is outside the journal, is one that packages own
 pub ownable_path : (p : List ℕ) → is_reserved p ≡ false → meets_jobs p ≡ false → is_dropped p ≡ false
-unfolding database_path
-ownable_path p free outside =
-    let apart : meets database_path p ≡ false = (or_parts (touches database p) (touches own_files p) free).0 in
-    ap (λ (b : Bool). b || meets_jobs p) apart ∙ outside
-
-recorded_paths : (es : List Entry) → map path_of (map owned_of es) ≡ map images.path_of es
-recorded_paths [] = refl
-recorded_paths (e ∷ es) = ap (λ (l : List (List ℕ)). e.path ∷ l) (recorded_paths es)
-
-good_content : (k : Kind) (bytes : List ℕ) → is_good_by k bytes ≡ true → IsContent (content_by k bytes)
-good_content kinds.Plain bytes good = is_digest bytes
-good_content kinds.Exec bytes good = is_digest bytes
-good_content kinds.Link bytes good = good
-
-held_content : (k : Kind) (bytes : List ℕ) → Holds (Some (record { kind = k; bytes = bytes })) (content_by k bytes)
-held_content kinds.Plain bytes = (record { kind = kinds.Plain; bytes = bytes }, refl, (refl, refl))
-held_content kinds.Exec bytes = (record { kind = kinds.Exec; bytes = bytes }, refl, (refl, refl))
-held_content kinds.Link bytes = refl
+ownable_path p free outside = ap (λ (b : Bool). b || meets_jobs p) (let_in_apart p free) ∙ outside
 
 all_ownable : (es : List Entry) → ((e : Entry) → Has es e → IsOwnable (owned_of e)) → AllByRecursion IsOwnable (map owned_of es)
 all_ownable [] each = tt
@@ -73,8 +55,8 @@ pub record IsTakenImage (es : List Entry) : Type 0 where
   pub free : (e : Entry) → Has es e → is_dropped e.path ≡ false
   pub distinct : AreDistinct (map images.path_of es)
 
-module _ (read : SortedRecordsAreReadBack) (inside : FilesAreInTheFolder) (ps : List Installed) (coming : List Package) (n : Newcomer) (files : Files)
-    (is : AreFilesFor ps coming n files) (named : IsNamed n) (can : CanBeRecorded n.pkg) (taken : IsTakenImage n.image.items) where
+module _ (read : SortedRecordsAreReadBack) (inside : FilesAreInTheFolder) (flags : List (List ℕ)) (ps : List Installed) (coming : List Package) (n : Newcomer) (files : Files)
+    (is : AreFilesFor ps coming n files) (named : IsNamed n) (can : CanBeRecorded flags n.pkg) (taken : IsTakenImage n.image.items) where
   abbrev image : List Entry
   image = n.image.items
 
@@ -87,21 +69,25 @@ module _ (read : SortedRecordsAreReadBack) (inside : FilesAreInTheFolder) (ps : 
   ownable : (e : Entry) → Has image e → IsOwnable (owned_of e)
   ownable e has = record {
     path = all_has (λ (x : Entry). IsPathText x.path) image e named.paths has;
-    content = good_content e.object.kind e.object.bytes (all_has (λ (x : Entry). is_good x ≡ true) image e taken.good has);
+    content = content_good e.object.kind e.object.bytes (all_has (λ (x : Entry). is_good x ≡ true) image e taken.good has);
     free = taken.free e has;
   }
 
   recordable : IsRecordable (recorded n)
-  recordable = record { needs = can.needs; required = can.required; owned = all_ownable image ownable }
+  recordable = record {
+    needs = λ class. subst AreBound (sym (same_tree n.pkg class)) (can.needs.needs class);
+    required = can.needs.required;
+    owned = all_ownable image ownable;
+  }
 
   distinct : AreDistinct (paths (recorded n))
-  distinct = subst (λ (l : List (List ℕ)). AreDistinct l) (sym (recorded_paths image)) taken.distinct
+  distinct = subst (λ (l : List (List ℕ)). AreDistinct l) (sym (same_paths image)) taken.distinct
 
-  found : (sorted : List Owned) × AreInOrder (map owned_of image) sorted × Says (records.folder_of (recorded n) own) (installed_with n.pkg sorted)
-  found = read (recorded n) own named.facts recordable distinct filed
+  found : (sorted : List Owned) × AreInOrder (map owned_of image) sorted × Says (records.folder_of (recorded n) own) (installed_with (as_recorded n.pkg) sorted)
+  found = read (recorded n) own (named_recorded n.pkg named.facts) recordable distinct filed
 
   abbrev a : Installed
-  a = installed_with n.pkg found.0
+  a = installed_with (as_recorded n.pkg) found.0
 
   said : Says (folder (laws.held_by own) n.pkg.facts.id) a
   said = subst (λ (m : Map). Says (folder m n.pkg.facts.id) a) (λ i q. same_held own q i) found.2
@@ -111,7 +97,7 @@ module _ (read : SortedRecordsAreReadBack) (inside : FilesAreInTheFolder) (ps : 
       let e = has-map_back owned_of image o (has-moved found.0 (map owned_of image) o (IsPermutation-sym (map owned_of image) found.0 found.1.all) has) in (
         e.0,
         subst (λ (l : List Entry). Has l e.0) (sym is.image) e.1,
-        subst (λ (x : Owned). IsRecorded e.0 x) e.2 (record { path = refl; content = held_content e.0.object.kind e.0.object.bytes }),
+        subst (λ (x : Owned). IsRecorded e.0 x) e.2 (record { path = refl; content = content_held e.0.object.kind e.0.object.bytes }),
       )
 
   recorded_here : (e : Entry) → Has files.image.items e → Has (map path_of found.0) e.path
@@ -120,7 +106,7 @@ module _ (read : SortedRecordsAreReadBack) (inside : FilesAreInTheFolder) (ps : 
       (has-map owned_of image e (subst (λ (l : List Entry). Has l e) is.image has)))
 
   -- the files are those of a package
-  pub brought : (b : Installed) × (b.package_is ≡ n.pkg) × AreFilesOf files b
+  pub brought : (b : Installed) × (b.package_is ≡ as_recorded n.pkg) × AreFilesOf files b
   brought = (
     a,
     refl,

@@ -24,13 +24,12 @@ use Rattle.plan_law.proofs.Members.{passes_some, some_passes}
 use Rattle.database_law.specs.Database.{IsDatabase, folder_name}
 use Rattle.database_law.specs.Packages.{Installed}
 use Rattle.database_law.proofs.Places.{one_of_rising}
-use Rattle.commit_law.specs.Commits.{packages_of}
+use Rattle.commit_law.specs.Lit.{lit, packages_of}
 use Rattle.claim_law.proofs.Granted.{free_wish}
 use Rattle.group_run.specs.Granted.{MayChange, wishes_in, wishes_of}
 use Rattle.group_run.specs.Turns.{changes_of}
 use Rattle.group_run.specs.Working.{all_in, all_of}
 use Rattle.group_run.specs.declared.files.Files.{Files}
-use Rattle.package_run.specs.Packages.{GROUP}
 use Rattle.package_law.specs.Packages.{AreFilesOf}
 use Rattle.package_law.proofs.Places.{distinct_back, distinct_front}
 use Rattle.change_law.proofs.Pieces.{has-piece, left, pairs_of, right}
@@ -39,7 +38,7 @@ use Rattle.record_write.specs.Recorded.{FilesAreInTheFolder, SortedRecordsAreRea
 use Rattle.std.proofs.lemmas.List.{map-append}
 use Rattle.exchange_make.specs.Keys.{folder_of, folders_with, key_with}
 use Rattle.exchange_make.specs.Laws.{CanBeRecorded, Exchanges, MadeGroupsExchange, RemovesOwned}
-use Rattle.exchange_make.specs.Made.{AreFilesFor, IsMadeFor, IsNamed, leaves, package_of}
+use Rattle.exchange_make.specs.Made.{AreFilesFor, GROUP, IsMadeFor, IsNamed, leaves, package_of}
 use Rattle.exchange_make.specs.declared.made.Made.{Made}
 use Rattle.exchange_make.specs.declared.newcomer.Newcomer.{Newcomer}
 use Rattle.exchange_make.proofs.Brought.{IsTakenImage, brought, ownable_path}
@@ -49,9 +48,9 @@ use Rattle.exchange_make.proofs.Zips.{chosen, distinct_by, distinct_in_piece, zi
 abbrev Pair : Type 0
 Pair = Newcomer × Files
 
-folders_as : (ps : List Installed) → map folder_name ps ≡ map folder_of (packages_of ps)
-folders_as [] = refl
-folders_as (p ∷ ps) = ap (λ (l : List (List ℕ)). folder_name p ∷ l) (folders_as ps)
+folders_as : (flags : List (List ℕ)) (ps : List Installed) → map folder_name ps ≡ map folder_of (packages_of flags ps)
+folders_as flags [] = refl
+folders_as flags (p ∷ ps) = ap (λ (l : List (List ℕ)). folder_name p ∷ l) (folders_as flags ps)
 
 module _ (ps : List Installed) (coming : List Package) where
   abbrev key : Installed → OwnerKey
@@ -67,17 +66,17 @@ module _ (ps : List Installed) (coming : List Package) where
   pub there_in : (p : Installed) → Has ps p → Has folders (folder_name p)
   there_in p has = has-append_left (map folder_name ps) (map folder_of coming) (folder_name p) (has-map folder_name ps p has)
 
-  pub comes_in : (qs : List Installed) → packages_of qs ≡ coming → (a : Installed) → Has qs a → Has folders (folder_name a)
-  comes_in qs are a has =
+  pub comes_in : (flags : List (List ℕ)) (qs : List Installed) → packages_of flags qs ≡ coming → (a : Installed) → Has qs a → Has folders (folder_name a)
+  comes_in flags qs are a has =
       has-append_right (map folder_name ps) (map folder_of coming) (folder_name a)
-      (subst (λ (l : List (List ℕ)). Has l (folder_name a)) (folders_as qs ∙ ap (map folder_of) are) (has-map folder_name qs a has))
+      (subst (λ (l : List (List ℕ)). Has l (folder_name a)) (folders_as flags qs ∙ ap (map folder_of) are) (has-map folder_name qs a has))
 
   -- packages that come with folders of their own have keys of their own
-  pub keys_apart : (qs : List Installed) → packages_of qs ≡ coming → AreDistinct (map folder_of coming) → AreDistinct (map key qs)
-  keys_apart qs are distinct =
+  pub keys_apart : (flags : List (List ℕ)) (qs : List Installed) → packages_of flags qs ≡ coming → AreDistinct (map folder_of coming) → AreDistinct (map key qs)
+  keys_apart flags qs are distinct =
       distinct_by key folder_name qs
-      (λ p r hp hr e. one_folder_of_key p r (comes_in qs are p hp) (comes_in qs are r hr) (ap (λ (k : OwnerKey). k.number) e))
-      (subst (λ (l : List (List ℕ)). AreDistinct l) (sym (folders_as qs ∙ ap (map folder_of) are)) distinct)
+      (λ p r hp hr e. one_folder_of_key p r (comes_in flags qs are p hp) (comes_in flags qs are r hr) (ap (λ (k : OwnerKey). k.number) e))
+      (subst (λ (l : List (List ℕ)). AreDistinct l) (sym (folders_as flags qs ∙ ap (map folder_of) are)) distinct)
 
   -- the keys of those that leave are the dying ones
   module _ (m : Map) (db : IsDatabase m ps) (gone : Installed → Bool) where
@@ -103,9 +102,9 @@ module _ (ps : List Installed) (coming : List Package) where
     pub dies : (p : Installed) → Has ps p → is_dying (map (key_with ps coming) (filter gone ps)) (key_with ps coming p) ≡ gone p
     dies p has = same_tests (is_dying ks (key p)) (gone p) (dies_goes p has) (goes_dies p has)
 
-module _ (read : SortedRecordsAreReadBack) (inside : FilesAreInTheFolder) (m : Map) (ps : List Installed) (book : Book) (g : Group) (newcomers : List Newcomer)
+module _ (read : SortedRecordsAreReadBack) (inside : FilesAreInTheFolder) (flags : List (List ℕ)) (m : Map) (ps : List Installed) (book : Book) (g : Group) (newcomers : List Newcomer)
     (line : List ℕ) (made : Made) (db : IsDatabase m ps) (brings : g.additions ≡ map package_of newcomers) (is : IsMadeFor ps g newcomers line made)
-    (removes : RemovesOwned m ps g made) (can : AllByRecursion CanBeRecorded g.additions) (apart : AreDistinct (map folder_of g.additions))
+    (removes : RemovesOwned m ps g made) (can : AllByRecursion (CanBeRecorded flags) g.additions) (apart : AreDistinct (map folder_of g.additions))
     (may : MayChange m book made.groups.items (changes_of made.turn) GROUP) where
   abbrev packages : List Files
   packages = made.turn.packages.items
@@ -155,15 +154,15 @@ module _ (read : SortedRecordsAreReadBack) (inside : FilesAreInTheFolder) (m : M
   -- ---- what comes
 
   abbrev IsBrought : Pair → Installed → Type 0
-  IsBrought z a = (a.package_is ≡ z.0.pkg) × AreFilesOf z.1 a × (z.1.owner ≡ key_with ps g.additions a)
+  IsBrought z a = (lit flags a.package_is ≡ z.0.pkg) × AreFilesOf z.1 a × (z.1.owner ≡ key_with ps g.additions a)
 
   brought_by : (n : Newcomer) (f : Files) → Has newcomers n → Has packages f → AreFilesFor ps g.additions n f → (a : Installed) × IsBrought (n, f) a
   brought_by n f hn hf are =
-      let may_record = all_has CanBeRecorded g.additions n.pkg can (subst (λ (l : List Package). Has l n.pkg) (sym brings) (has-map package_of newcomers n hn)) in
-      let k = brought read inside ps g.additions n f are (all_has IsNamed newcomers n is.named hn) may_record (subst IsTakenImage are.image (taken_image f hf)) in
-      (k.0, (k.1, k.2, are.owner ∙ ap (λ (p : Package). key_with ps g.additions (record { package_is = p; owned = [] })) (sym k.1)))
+      let may_record = all_has (CanBeRecorded flags) g.additions n.pkg can (subst (λ (l : List Package). Has l n.pkg) (sym brings) (has-map package_of newcomers n hn)) in
+      let k = brought read inside flags ps g.additions n f are (all_has IsNamed newcomers n is.named hn) may_record (subst IsTakenImage are.image (taken_image f hf)) in
+      (k.0, (ap (lit flags) k.1 ∙ may_record.enabled, k.2, are.owner ∙ ap (λ (p : Package). key_with ps g.additions (record { package_is = p; owned = [] })) (sym k.1)))
 
-  exchanges : Exchanges m ps g made
+  exchanges : Exchanges flags m ps g made
   exchanges =
       let z = pairs_of (AreFilesFor ps g.additions) newcomers packages is.files in
       let zs = z.pairs in
@@ -172,14 +171,14 @@ module _ (read : SortedRecordsAreReadBack) (inside : FilesAreInTheFolder) (m : M
       let added = came.0 in
       let files = zip_weaker IsBrought AreFilesOf right (λ y a b. b.1) zs added came.1 in
       let keys = zip_weaker IsBrought (λ (f : Files) (a : Installed). key_with ps g.additions a ≡ f.owner) right (λ y a b. sym b.2) zs added came.1 in
-      let same = zip_weaker IsBrought (λ (n : Newcomer) (a : Installed). package_of n ≡ a.package_is) left (λ y a b. sym b.0) zs added came.1 in
-      let comes = sym (zip_same package_of (λ (a : Installed). a.package_is) (map left zs) added same) ∙ (ap (map package_of) z.lefts ∙ sym brings) in
+      let same = zip_weaker IsBrought (λ (n : Newcomer) (a : Installed). package_of n ≡ lit flags a.package_is) left (λ y a b. sym b.0) zs added came.1 in
+      let comes = sym (zip_same package_of (λ (a : Installed). lit flags a.package_is) (map left zs) added same) ∙ (ap (map package_of) z.lefts ∙ sym brings) in
       record {
         added = added;
         is = record {
           files = subst (λ (l : List Files). AllZip AreFilesOf l added) z.rights files;
           keys = subst (λ (l : List Files). AllZip (λ (f : Files) (a : Installed). key_with ps g.additions a ≡ f.owner) l added) z.rights keys;
-          apart = keys_apart ps g.additions added comes apart;
+          apart = keys_apart ps g.additions flags added comes apart;
           removes = removes;
           dies = λ p has. ap (λ (ks : List OwnerKey). is_dying ks (key_with ps g.additions p)) is.dying ∙ dies ps g.additions m db (leaves g) p has;
         };
@@ -187,4 +186,4 @@ module _ (read : SortedRecordsAreReadBack) (inside : FilesAreInTheFolder) (m : M
       }
 
 pub made_exchanges : SortedRecordsAreReadBack → FilesAreInTheFolder → MadeGroupsExchange
-made_exchanges read inside m ps book g newcomers line made db brings is removes can apart may = exchanges read inside m ps book g newcomers line made db brings is removes can apart may
+made_exchanges read inside flags m ps book g newcomers line made db brings is removes can apart may = exchanges read inside flags m ps book g newcomers line made db brings is removes can apart may

@@ -3,4 +3,5 @@ pub mod Taking
 pub mod Zips
 pub mod Brought
 pub mod Exchanged
+pub mod Kept
 pub mod Once

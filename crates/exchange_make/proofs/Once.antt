@@ -1,5 +1,5 @@
 -- The one group of an accepted plan brings no two packages with one folder.
-use Rattle.std.proofs.Common.{◌≡◌, ◌++◌, ℕ, List, [], ◌∷◌, arith, ap, map, subst}
+use Rattle.std.proofs.Common.{◌≡◌, ◌++◌, ℕ, List, [], ◌∷◌, ap, map, subst}
 use Rattle.std.specs.Prelude.{codes, filter, not}
 use Rattle.std.proofs.lemmas.List.{map-append}
 use Rattle.basics.specs.Members.{AreDistinct}
@@ -9,9 +9,10 @@ use Rattle.dep_atom.specs.declared.package.PackageId.{PackageId}
 use Rattle.dep_atom.proofs.Joined.{ComesApart}
 use Rattle.pkg_state.specs.Package.{Package, line_of}
 use Rattle.plan_law.specs.Accepted.{IsAccepted}
-use Rattle.plan_law.specs.Plans.{Group, IsRun, WaitsForEarlier, clears}
+use Rattle.plan_law.specs.Plans.{Group, WaitsForEarlier, clears}
 use Rattle.plan_law.specs.Sound.{IsSound}
 use Rattle.package_law.proofs.Places.{distinct_front}
+use Rattle.change_law.proofs.Planned.{run_alone}
 use Rattle.vdb_text.specs.Files.{record_path}
 use Rattle.vdb_text.proofs.Packages.{OneSpelling, one_id}
 use Rattle.exchange_make.specs.Keys.{folder_of}
@@ -26,14 +27,11 @@ one_of_text comes spells a b is also e = one_id comes spells a b [] [] is also (
 abbrev AcceptedAreSound : Type 0
 AcceptedAreSound = (plan : List Group) (start : List Package) → WaitsForEarlier plan → IsAccepted plan start → IsSound plan start
 
-run_of_one : (g : Group) → WaitsForEarlier (g ∷ []) → IsRun (g ∷ []) (0 ∷ [])
-run_of_one g earlier = (omega arith, (λ has. has), (λ h has. let less = earlier 0 h has in absurd (omega (arith, less))), tt)
-
 pub each_once : AcceptedAreSound → ComesApart → OneSpelling → AcceptedGroupsBringEachOnce
 each_once sound comes spells g start earlier accepted ids =
     let rest = filter (λ (p : Package). not (clears g (line_of p.facts))) start in
     let id : Package → PackageId = λ p. p.facts.id in
-    let all = (sound (g ∷ []) start earlier accepted).versions (0 ∷ []) (run_of_one g earlier) in
+    let all = (sound (g ∷ []) start earlier accepted).versions (0 ∷ []) (run_alone g earlier) in
     let mine = distinct_front (map id g.additions) (map id rest) (subst (λ (l : List PackageId). AreDistinct l) (map-append id g.additions rest) all) in
     distinct_by folder_of id g.additions
     (λ p r hp hr e. one_of_text comes spells p.facts.id r.facts.id (all_has (λ (x : Package). IsId x.facts.id) g.additions p ids hp) (all_has (λ (x : Package). IsId x.facts.id) g.additions r ids hr) e)

@@ -5,7 +5,7 @@ use Rattle.std.specs.BTreeMap.{is_at}
 use Rattle.std.specs.Cmp.Lexicographic.{slice_cmp}
 use Rattle.std.specs.List.{list_any}
 use Rattle.std.specs.Ordering.{nat_cmp}
-use Rattle.std.proofs.lemmas.List.{map-append, take_more}
+use Rattle.std.proofs.lemmas.List.{take_more}
 use Rattle.std.proofs.lemmas.List.Elements.{filter-append}
 use Rattle.std.proofs.lemmas.List.Folds.{list_any-append, list_any_more}
 use Rattle.std.proofs.lemmas.Map.Text.{is_eq-slice_cmp}
@@ -15,7 +15,6 @@ use Rattle.basics.specs.Members.{AreDistinct, Has}
 use Rattle.basics.proofs.Membership.{distinct-push, has-append_cases, has-append_left, has-append_right, has-filter, has-filter_back}
 use Rattle.basics.proofs.Tests.{or-false}
 use Rattle.file_tree.specs.Disk.{Map}
-use Rattle.file_tree.specs.declared.objects.Entry.{Entry}
 use Rattle.image_fit.specs.Images.{path_of}
 use Rattle.merge_record.specs.Judging.{HasSame, is_in}
 use Rattle.merge_record.proofs.Form.{has_if_in, in_if_has}
@@ -38,15 +37,6 @@ taken_behind p xs taken same q =
 -- lists with the same members, with one more
 pub taken_more : (p : List ℕ) (xs old new : List (List ℕ)) → HasSame old xs → HasSame new (p ∷ old) → HasSame new (xs ++ p ∷ [])
 taken_more p xs old new are more = taken_behind p xs new (λ q. more q ∙ ap (λ (b : Bool). bytes_eq q p || b) (are q))
-
--- the paths of one entry more
-pub entry_taken : (first : List (List ℕ)) (es : List Entry) (i : ℕ) (e : Entry) (old new : List (List ℕ)) → i < length es → e ≡ get_or es i e → HasSame old (first ++ map path_of (take i es)) → HasSame new (e.path ∷ old) → HasSame new (first ++ map path_of (take (i + 1) es))
-entry_taken first es i e old new lt is are more =
-    let longer : take (i + 1) es ≡ take i es ++ e ∷ [] = take_more es i e lt ∙ ap (λ (x : Entry). take i es ++ x ∷ []) (sym is) in
-    let paths : first ++ map path_of (take (i + 1) es) ≡ (first ++ map path_of (take i es)) ++ e.path ∷ [] =
-    ap (λ (l : List Entry). first ++ map path_of l) longer
-    ∙ (ap (λ (l : List (List ℕ)). first ++ l) (map-append path_of (take i es) (e ∷ [])) ∙ sym (append_assoc first (map path_of (take i es)) (e.path ∷ []))) in
-    subst (λ (l : List (List ℕ)). HasSame new l) (sym paths) (taken_more e.path (first ++ map path_of (take i es)) old new are more)
 
 -- ---- one path more
 
@@ -112,12 +102,6 @@ pass xs taken p q false e there are = are
 pub still_taken : (xs taken new : List (List ℕ)) (p : List ℕ) → HasSame taken xs → is_in taken p ≡ true → HasSame new (p ∷ taken) → HasSame new xs
 still_taken xs taken new p are there more q = more q ∙ pass xs taken p q (bytes_eq q p) refl there (are q)
 
-pub none_added : (placed old : List (List ℕ)) → AddsFree placed [] old old
-none_added placed old = record {
-  members = λ q. (λ h. inl h, λ h. elim h [ inl is ↦ is | inr k ↦ absurd k.0 ]);
-  once = λ distinct. distinct;
-}
-
 -- ---- one package more
 
 pub package_more : (m : Map) (before after : List Installed) (p : Installed) (placed paths old new : List (List ℕ)) → after ≡ before ++ p ∷ [] → ((q : List ℕ) → Has paths q ↔ Owns m p q) → AreRemoved m before placed old → AddsFree placed paths old new → AreRemoved m after placed new
@@ -138,12 +122,6 @@ package_more m before after p placed paths old new longer own removed adds = rec
     ],
   );
   once = adds.once removed.once;
-}
-
-pub none_removed : (m : Map) (placed : List (List ℕ)) → AreRemoved m [] placed []
-none_removed m placed = record {
-  members = λ q. (λ h. absurd h, λ h. absurd h.0.1);
-  once = tt;
 }
 
 -- ---- the packages that leave

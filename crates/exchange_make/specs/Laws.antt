@@ -14,23 +14,25 @@ use Rattle.plan_law.specs.Plans.{Group, WaitsForEarlier}
 use Rattle.database_law.specs.Database.{IsDatabase}
 use Rattle.database_law.specs.Packages.{Installed}
 use Rattle.commit_law.specs.Commits.{IsOf}
+use Rattle.commit_law.specs.Lit.{as_recorded, lit}
 use Rattle.claim_law.specs.Owners.{OwnersAre}
 use Rattle.group_run.specs.Granted.{MayChange}
 use Rattle.group_run.specs.Turns.{changes_of}
-use Rattle.package_run.specs.Packages.{GROUP}
 use Rattle.run_law.specs.Openings.{key_among}
 use Rattle.change_law.specs.Changes.{Exchange, IsExchange, change_by}
 use Rattle.change_law.specs.Packages.{IsRemovalOf}
 use Rattle.record_write.specs.Recorded.{IsRecordable}
 use Rattle.record_write.specs.Written.{installed_with}
 use Rattle.exchange_make.specs.Keys.{folder_of, key_with}
-use Rattle.exchange_make.specs.Made.{IsMadeFor, leaves, package_of}
+use Rattle.exchange_make.specs.Made.{GROUP, IsMadeFor, leaves, package_of}
 use Rattle.exchange_make.specs.declared.made.Made.{Made}
 use Rattle.exchange_make.specs.declared.newcomer.Newcomer.{Newcomer}
 
--- what the package needs and asks of its flags can be recorded
-abbrev pub CanBeRecorded : Package → Type 0
-CanBeRecorded p = IsRecordable (installed_with p [])
+-- the package can be recorded: what it needs and asks of its flags is in form, and what is recorded
+-- of it is the package again with the flags on that the run has on for every package
+pub record CanBeRecorded (flags : List (List ℕ)) (p : Package) : Type 0 where
+  pub needs : IsRecordable (installed_with p [])
+  pub enabled : lit flags (as_recorded p) ≡ p
 
 -- the group's turn removes what those own that leave with it, but for what it places
 abbrev pub RemovesOwned : Map → List Installed → Group → Made → Type 0
@@ -47,22 +49,24 @@ exchange_of g made added = record {
 }
 
 -- what is made is an exchange, and does what the group of the plan says
-pub record Exchanges (m : Map) (ps : List Installed) (g : Group) (made : Made) : Type 0 where
+pub record Exchanges (flags : List (List ℕ)) (m : Map) (ps : List Installed) (g : Group)
+    (made : Made) : Type 0 where
   pub added : List Installed
   pub is : IsExchange (key_with ps g.additions) m ps (is_dying (dying_at made.groups.items GROUP))
       (exchange_of g made added)
-  pub does : IsOf g (change_by GROUP (exchange_of g made added))
+  pub does : IsOf flags g (change_by GROUP (exchange_of g made added))
 
 -- What is made of a group over a tree with a database is an exchange once its claim is granted,
 -- where the packages that come can be recorded, and no two have one folder.
 abbrev pub MadeGroupsExchange : Type 0
 MadeGroupsExchange =
-    (m : Map) (ps : List Installed) (book : Book) (g : Group) (newcomers : List Newcomer)
-    (line : List ℕ) (made : Made) →
+    (flags : List (List ℕ)) (m : Map) (ps : List Installed) (book : Book) (g : Group)
+    (newcomers : List Newcomer) (line : List ℕ) (made : Made) →
     IsDatabase m ps → g.additions ≡ map package_of newcomers →
     IsMadeFor ps g newcomers line made → RemovesOwned m ps g made →
-    AllByRecursion CanBeRecorded g.additions → AreDistinct (map folder_of g.additions) →
-    MayChange m book made.groups.items (changes_of made.turn) GROUP → Exchanges m ps g made
+    AllByRecursion (CanBeRecorded flags) g.additions → AreDistinct (map folder_of g.additions) →
+    MayChange m book made.groups.items (changes_of made.turn) GROUP →
+    Exchanges flags m ps g made
 
 -- The packages that come with the one group of an accepted plan have folders of their own.
 abbrev pub AcceptedGroupsBringEachOnce : Type 0

@@ -1,5 +1,5 @@
 -- What is made of a group that brings packages with their images, for a run of just that group.
-use Rattle.std.specs.Prelude.{◌≡◌, ℕ, Bool, List, [], filter, length, map}
+use Rattle.std.specs.Prelude.{◌≡◌, ◌==◌, ℕ, Bool, List, [], filter, length, map, if◌then◌else◌}
 use Rattle.std.specs.List.{AllByRecursion, AllZip}
 use Rattle.dep_atom.specs.Ids.{IsId}
 use Rattle.image_fit.specs.Misfits.{AreGood}
@@ -8,9 +8,9 @@ use Rattle.merge_site.specs.Booking.{dying_at}
 use Rattle.pkg_state.specs.Package.{Package, line_of}
 use Rattle.plan_law.specs.Plans.{Group, Removal, clears}
 use Rattle.database_law.specs.Packages.{Installed}
+use Rattle.commit_law.specs.Lit.{as_recorded}
 use Rattle.group_run.specs.Lines.{line_in}
 use Rattle.group_run.specs.declared.files.Files.{Files}
-use Rattle.package_run.specs.Packages.{GROUP, only_line}
 use Rattle.package_law.specs.Records.{owned_of}
 use Rattle.record_write.specs.Recorded.{AreNamed}
 use Rattle.record_write.specs.Written.{AreFolderFiles, installed_with}
@@ -18,6 +18,15 @@ use Rattle.exchange_make.specs.Keys.{key_with}
 use Rattle.exchange_make.specs.declared.made.Made.{Made}
 use Rattle.exchange_make.specs.declared.newcomer.Newcomer.{Newcomer}
 
+-- the number of the one group
+abbrev pub GROUP : ℕ
+GROUP = 1
+
+-- the line of that group, and none of any other
+abbrev pub only_line : List ℕ → ℕ → List ℕ
+only_line line g = if g == GROUP then line else []
+
+-- what a newcomer is
 abbrev pub package_of : Newcomer → Package
 package_of n = n.pkg
 
@@ -30,9 +39,9 @@ group_with removals newcomers =
 abbrev pub leaves : Group → Installed → Bool
 leaves g p = clears g (line_of p.package_is.facts)
 
--- the package that comes, with the entries of its image as what it owns
+-- the package that comes as it is recorded, with the entries of its image as what it owns
 abbrev pub recorded : Newcomer → Installed
-recorded n = installed_with n.pkg (map owned_of n.image.items)
+recorded n = installed_with (as_recorded n.pkg) (map owned_of n.image.items)
 
 -- what a package that comes is, by the types of its parts: its names are names, and the paths of
 -- its image are texts of paths

@@ -1,8 +1,9 @@
-ghost use Rattle.std.specs.Prelude.{ℕ, List, IfOk, map};
+ghost use Rattle.std.specs.Prelude.{◌≡◌, ℕ, List, IfOk, map};
 ghost use Rattle.std.specs.List.{AllZip};
 ghost use Rattle.image_fit.specs.Misfits.{AreGood};
 ghost use Rattle.package_law.specs.Records.{owned_of};
 ghost use Rattle.record_write.specs.Written.{AreFolderFiles, installed_with};
+ghost use Rattle.commit_law.specs.Lit.{as_recorded};
 ghost use Rattle.database_law.specs.Packages.{Installed as InstalledValue};
 ghost use Rattle.pkg_state.specs.Package.{Package};
 ghost use Rattle.exchange_make.specs.Keys.{folders_with};
@@ -16,20 +17,38 @@ use file_tree::Entry;
 use group_run::Files;
 use pkg_state::Pkg;
 use record_read::Installed;
-use record_write::folder_files;
+use record_write::{facts_are_named, folder_files, recorded_flags};
 use std::alloc::{AllocError, Global};
+
+/// The package as it is recorded: of the flags that are on, those that it knows.
+fn as_recorded(alloc: Global, pkg: Pkg) -> Result<Pkg, AllocError>
+    ensures { IfOk result (λ p. p ≡ as_recorded pkg) }
+{
+    facts_are_named(&pkg.facts);
+    let mut recorded = pkg;
+    recorded.facts.enabled = recorded_flags(alloc, &recorded.facts)?;
+    facts_are_named(&recorded.facts);
+    Ok(recorded)
+}
 
 /// The files of a folder that record a package with this image.
 fn recorded_files(alloc: Global, pkg: Pkg, image: &[Entry]) -> Result<Vec<Entry>, AllocError>
     ensures { AreGood image.now → IfOk result
-        (λ v. AreFolderFiles (installed_with pkg (map owned_of image.now)) v.items) }
+        (λ v. AreFolderFiles (installed_with (as_recorded pkg) (map owned_of image.now)) v.items) }
 {
     let owned = all_owned(alloc, image)?;
-    folder_files(alloc, &Installed { pkg, owned })
+    let recorded = as_recorded(alloc, pkg)?;
+    folder_files(
+        alloc,
+        &Installed {
+            pkg: recorded,
+            owned,
+        },
+    )
 }
 
 /// The files of a package that comes.
-fn files_of(alloc: Global, places: &Places, newcomer: Newcomer) -> Result<Files, AllocError>
+pub fn files_of(alloc: Global, places: &Places, newcomer: Newcomer) -> Result<Files, AllocError>
     ensures { (ps : List InstalledValue) (coming : List Package) →
         ArePlaces (folders_with ps coming) places.now →
         IfOk result (AreFilesFor ps coming newcomer) }

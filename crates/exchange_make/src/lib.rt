@@ -35,7 +35,11 @@ mod owned;
 mod places;
 mod removing;
 
+pub use files::files_of;
 pub use laws::{accepted_groups_bring_each_once, made_groups_exchange, owners_keep_their_keys};
 pub use made::Made;
 pub use making::make_exchange;
+pub use named::newcomers_are_named;
 pub use newcomer::Newcomer;
+pub use places::Places;
+pub use removing::{add_free, placed};

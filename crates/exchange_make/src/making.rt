@@ -3,9 +3,8 @@ ghost use Rattle.basics.specs.Members.{AreDistinct};
 ghost use Rattle.file_tree.specs.Disk.{CountsFault};
 ghost use Rattle.group_run.specs.Lines.{line_in};
 ghost use Rattle.merge_site.specs.Booking.{dying_at};
-ghost use Rattle.package_run.specs.Packages.{GROUP, only_line};
 ghost use Rattle.exchange_make.specs.Laws.{RemovesOwned};
-ghost use Rattle.exchange_make.specs.Made.{IsMadeFor, group_with};
+ghost use Rattle.exchange_make.specs.Made.{GROUP, IsMadeFor, group_with, only_line};
 
 use crate::files::all_files;
 use crate::going::{going, keys_of};

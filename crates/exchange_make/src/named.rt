@@ -9,7 +9,7 @@ use file_tree::{Entry, Path};
 use record_write::facts_are_named;
 
 /// A law: the packages that come are named as their types promise.
-pub(crate) fn newcomers_are_named(newcomers: &[Newcomer])
+pub fn newcomers_are_named(newcomers: &[Newcomer])
     ensures { AllByRecursion IsNamed newcomers.now }
 {
     for newcomer in newcomers {

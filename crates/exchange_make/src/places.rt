@@ -15,13 +15,14 @@ use std::collections::BTreeMap;
 
 /// The first place of each folder in a list, to be looked up.
 #[derive(Drop)]
-pub(crate) struct Places {
+pub struct Places {
     pub(crate) places: BTreeMap<String, u32>,
     pub(crate) count: u32,
 }
 
 impl Places {
-    fn new(alloc: Global) -> Places
+    /// The places of no folders.
+    pub fn new(alloc: Global) -> Places
         ensures { ArePlaces [] result }
     {
         Places {
@@ -31,7 +32,7 @@ impl Places {
     }
 
     /// Takes one more folder, that of a package with this id.
-    fn add(&mut self, alloc: Global, id: &PackageId) -> Result<(), AllocError>
+    pub fn add(&mut self, alloc: Global, id: &PackageId) -> Result<(), AllocError>
         ensures { (texts : List (List ℕ)) → ArePlaces texts self.old →
             OnOk result (ArePlaces (texts ++ id_text id.now ∷ []) self.new) }
     {
@@ -48,7 +49,7 @@ impl Places {
     }
 
     /// The key of the package with this id: the first place of its folder, or how many there are.
-    pub(crate) fn key(&self, alloc: Global, id: &PackageId) -> Result<OwnerKey, AllocError>
+    pub fn key(&self, alloc: Global, id: &PackageId) -> Result<OwnerKey, AllocError>
         ensures { (texts : List (List ℕ)) → ArePlaces texts self.now →
             IfOk result (λ k. k ≡ key_at (place_of (id_text id.now) texts)) }
     {

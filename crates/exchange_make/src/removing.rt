@@ -1,20 +1,15 @@
-ghost use Rattle.std.specs.Prelude.{◌≡◌, ◌↔◌, ◌++◌, ℕ, List, IfOk, IsErrOf, IsTrue, OnOk};
-ghost use Rattle.std.specs.Prelude.{codes, map};
-ghost use Rattle.basics.specs.Members.{AreDistinct, Has};
-ghost use Rattle.contents_text.specs.Contents.{path_of};
-ghost use Rattle.database_law.specs.Step.{Owns};
-ghost use Rattle.dep_atom.specs.Ids.{id_text};
+ghost use Rattle.std.specs.Prelude.{◌≡◌, ◌++◌, List, ℕ, IfOk, IsErrOf, IsTrue, OnOk, map};
+ghost use Rattle.basics.specs.Members.{AreDistinct};
 ghost use Rattle.file_tree.specs.Disk.{CountsFault};
 ghost use Rattle.group_run.specs.Working.{all_of};
 ghost use Rattle.image_fit.specs.Images.{path_of as entry_path};
 ghost use Rattle.merge_record.specs.Judging.{HasSame};
 ghost use Rattle.exchange_make.specs.Removing.{AddsFree, AreRemoved};
 
-use contents_text::Owned;
 use file_tree::{Entry, Path, Tree, TreeFault};
 use group_run::Files;
 use merge_record::TakenPaths;
-use pkg_state::Pkg;
+use opening::paths_of;
 use record_read::Installed;
 use std::alloc::{AllocError, Global};
 
@@ -43,7 +38,7 @@ pub(crate) fn removals_of<T: Tree>(
 }
 
 /// The paths that the files are for.
-fn placed(alloc: Global, files: &[Files]) -> Result<TakenPaths, AllocError>
+pub fn placed(alloc: Global, files: &[Files]) -> Result<TakenPaths, AllocError>
     ensures { IfOk result (λ t. HasSame t (map entry_path (all_of files.now))) }
 {
     let mut taken = TakenPaths::new(alloc);
@@ -65,7 +60,7 @@ fn take_all(alloc: Global, entries: &[Entry], taken: &mut TakenPaths) -> Result<
 }
 
 /// Puts those of the paths that are free behind the removals, and takes them.
-fn add_free(
+pub fn add_free(
     alloc: Global,
     paths: Vec<Path>,
     taken: &mut TakenPaths,
@@ -82,40 +77,4 @@ fn add_free(
         }
     }
     Ok(())
-}
-
-/// The paths that a package owns.
-fn paths_of<T: Tree>(
-    alloc: Global,
-    tree: &mut T,
-    package: &Installed,
-) -> Result<Vec<Path>, TreeFault>
-    ensures owned { IsTrue T.tells → IfOk result (λ v. (q : List ℕ) →
-        Has v.items q ↔ Owns (T.story tree.old).now.holds «package».now q) }
-    ensures same { IsTrue T.tells → T.story tree.new ≡ T.story tree.old }
-    ensures faults { CountsFault (IsErrOf result TreeFault.Failed) (T.faults tree.old)
-        (T.faults tree.new) }
-{
-    let folder = folder_of(alloc, &package.pkg)?;
-    let mut paths = tree.list(&folder)?;
-    add_recorded(&package.owned, &mut paths)?;
-    Ok(paths)
-}
-
-fn add_recorded(owned: &[Owned], paths: &mut Vec<Path>) -> Result<(), AllocError>
-    ensures { OnOk result (paths.new.items ≡ paths.old.items ++ map path_of owned.now) }
-{
-    for one in owned {
-        paths.push(one.path.try_clone()?)?;
-    }
-    Ok(())
-}
-
-/// The package's own folder in the database.
-fn folder_of(alloc: Global, pkg: &Pkg) -> Result<Path, AllocError>
-    ensures { IfOk result (λ p. p ≡ codes "var/db/pkg/" ++ id_text pkg.now.facts.id) }
-{
-    let name = pkg.facts.id.print(alloc)?;
-    let text = format!(in alloc; "var/db/pkg/{name}")?;
-    Path::parse(alloc, text.as_str()).map_err(|_| AllocError)
 }

@@ -5,14 +5,13 @@ use Rattle.basics.specs.Members.{Has}
 use Rattle.file_tree.specs.Disk.{Map, Story}
 use Rattle.file_tree.specs.declared.fault.TreeFault.{TreeFault}
 use Rattle.file_tree.specs.declared.fault.TreeFault.TheVariants as trees
-use Rattle.file_tree.proofs.Moments.{since_weaker}
 use Rattle.journal.specs.Group as journal
 use Rattle.merge_core.specs.Keeping.{Keeping}
 use Rattle.merge_core.specs.Trail.{IsAtRest}
 use Rattle.merge_site.specs.declared.group.SiteGroup.{SiteGroup}
 use Rattle.merge_site.specs.Claiming.{StopsAt}
 use Rattle.owner_book.specs.Book.{Book, owner_in}
-use Rattle.group_run.specs.Applied.{AreOf, RecoversWith}
+use Rattle.group_run.specs.Applied.{AreOf}
 use Rattle.group_run.specs.Causes.{StopsChanges}
 use Rattle.group_run.specs.Granted.{IsAdmitted, IsOutside}
 use Rattle.group_run.specs.Stops.{stop_of_tree}
@@ -24,12 +23,11 @@ use Rattle.group_run.specs.declared.stop.Stop.TheVariants as stops
 use Rattle.group_run.specs.declared.turn.Turn.{Turn}
 use Rattle.group_run.proofs.Cleared.{went_nowhere}
 use Rattle.group_run.proofs.Left.{plain_run}
-use Rattle.group_run.proofs.Through.{recovers_weaker}
-use Rattle.package_run.specs.Packages.{GROUP}
+use Rattle.group_run.proofs.Through.{went_weaker}
 use Rattle.plan_law.specs.Plans.{Group}
 use Rattle.database_law.specs.Packages.{Installed}
 use Rattle.exchange_make.specs.Laws.{RemovesOwned}
-use Rattle.exchange_make.specs.Made.{IsMadeFor}
+use Rattle.exchange_make.specs.Made.{GROUP, IsMadeFor}
 use Rattle.exchange_make.specs.declared.made.Made.{Made}
 use Rattle.exchange_make.specs.declared.newcomer.Newcomer.{Newcomer}
 use Rattle.exchange_run.specs.Runs.{StopsMade, StopsMerge}
@@ -48,16 +46,8 @@ first_made m b groups t xs (u ∷ v ∷ vs) rest is split are all x has = let n 
 
 pub went_made : {A : Type 0} (m : Map) (b : Book) (groups : List SiteGroup) (t : Turn) (turns : List Turn) (old new : Story) (history : List ℕ) (end : Result A Stop) → t.group ≡ GROUP → turns ≡ t ∷ [] → WentWith (AreFirst m b groups turns) old new history end
     → Went (IsAdmitted m b groups (changes_of t) GROUP) old new history end
-went_made m b groups t turns old new history end is one h =
-    let P = AreFirst m b groups turns in
-    let Q = AreOf (IsAdmitted m b groups (changes_of t) GROUP) in
-    let so : (xs : List journal.Group) → P xs → Q xs = λ xs f. first_made m b groups t xs f.first f.rest is (sym one ∙ f.split) f.are f.let_in in
-    record {
-      moments = since_weaker (RecoversWith P old.now.holds []) (RecoversWith Q old.now.holds []) (λ c. recovers_weaker P Q old.now.holds [] c so) old new h.moments;
-      crash = λ c image. recovers_weaker P Q old.now.holds history c so (h.crash c image);
-      left = λ healthy. let k = h.left healthy in record { groups = k.groups; of = so k.groups k.of; are = k.are; each = k.each };
-      tree = λ healthy fed. let k = h.tree healthy fed in record { groups = k.groups; of = so k.groups k.of; are = k.are; reads = k.reads; untouched = k.untouched };
-    }
+went_made m b groups t turns old new history end is one =
+    went_weaker (AreFirst m b groups turns) (AreOf (IsAdmitted m b groups (changes_of t) GROUP)) old new history end (λ xs f. first_made m b groups t xs f.first f.rest is (sym one ∙ f.split) f.are f.let_in)
 
 -- nothing came in where the device failed, or memory ran out, before the run
 pub went_unmade : (Of : journal.Group → Type 0) (old new : Story) (history : List ℕ) (end : Result (Unit {0}) Stop) → IsAtRest old.now.holds old.now → new ≡ old → history ≡ [] → (end ≡ Err stops.Device) ⊎ (end ≡ Err stops.Memory) → Went Of old new history end

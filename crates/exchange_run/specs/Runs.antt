@@ -11,9 +11,8 @@ use Rattle.group_run.specs.Turns.{changes_of}
 use Rattle.group_run.specs.Went.{Went}
 use Rattle.group_run.specs.declared.stop.Stop.{Stop}
 use Rattle.group_run.specs.declared.stop.Stop.TheVariants as stops
-use Rattle.package_run.specs.Packages.{GROUP}
 use Rattle.exchange_make.specs.Laws.{RemovesOwned}
-use Rattle.exchange_make.specs.Made.{IsMadeFor}
+use Rattle.exchange_make.specs.Made.{GROUP, IsMadeFor}
 use Rattle.exchange_make.specs.declared.made.Made.{Made}
 use Rattle.exchange_make.specs.declared.newcomer.Newcomer.{Newcomer}
 

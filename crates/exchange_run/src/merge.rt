@@ -1,5 +1,5 @@
 ghost use Rattle.std.specs.Prelude.{◌≡◌, ◌⊎◌, ◌∷◌, ◌<◌, [], true, IfErr, IfOk, IsErrOf, IsTrue};
-ghost use Rattle.std.specs.Prelude.{MatchOption, OnOk, length, vec_capacity, vec_len};
+ghost use Rattle.std.specs.Prelude.{List, MatchOption, OnOk, length, vec_capacity, vec_len, ℕ};
 ghost use Rattle.file_tree.specs.Disk.{CountsFault};
 ghost use Rattle.merge_core.specs.Trail.{IsAtRest};
 ghost use Rattle.group_run.specs.Causes.{IsOfGroup, StopsChanges};
@@ -7,8 +7,7 @@ ghost use Rattle.group_run.specs.Lines.{AreLines, Wrote, line_in};
 ghost use Rattle.group_run.specs.Stops.{stop_of_tree};
 ghost use Rattle.group_run.specs.Turns.{changes_of};
 ghost use Rattle.group_run.specs.Went.{HasRun, Went};
-ghost use Rattle.package_run.specs.Packages.{GROUP, only_line};
-ghost use Rattle.exchange_make.specs.Made.{group_with};
+ghost use Rattle.exchange_make.specs.Made.{GROUP, group_with, only_line};
 ghost use Rattle.exchange_run.specs.Runs.{IsOfMade, StopsMerge, WentFor};
 ghost use Rattle.exchange_run.specs.Sound.{IsPlannedFor, RunsSoundly};
 
@@ -38,9 +37,10 @@ pub fn merge_exchange<T: Tree, S: Sink>(
     ensures went { IsTrue T.tells → WentFor additions.book installed.now
         (group_with removals.now additions.newcomers.items) additions.newcomers.items
         additions.line.items (T.story tree) (T.story result.tree) result.history.items result.end }
-    ensures sound { IsTrue T.tells → IsPlannedFor (T.story tree).now.holds installed.now
+    ensures sound { IsTrue T.tells → (flags : List (List ℕ)) →
+        IsPlannedFor flags (T.story tree).now.holds installed.now
         additions.book (group_with removals.now additions.newcomers.items) →
-        RunsSoundly installed.now (group_with removals.now additions.newcomers.items)
+        RunsSoundly flags installed.now (group_with removals.now additions.newcomers.items)
         (T.story tree) (T.story result.tree) result.history.items result.end }
     ensures machine { MatchOption result.machine (result.history.items ≡ [])
         (HasRun GROUP 2 result.history.items) }

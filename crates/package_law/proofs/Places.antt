@@ -2,9 +2,8 @@
 use Rattle.std.proofs.Common.{◌≡◌, ◌∙◌, ◌++◌, ℕ, Bool, false, List, [], ◌∷◌, Option, Some, None, inl, inr, refl, ap, map, subst, sym}
 use Rattle.std.specs.Prelude.{IsSome, bytes_eq, if◌then◌else◌}
 use Rattle.std.proofs.lemmas.Bool.{cases_Bool}
-use Rattle.std.proofs.lemmas.List.{map-append}
 use Rattle.basics.specs.Members.{AreDistinct, Has}
-use Rattle.basics.proofs.Membership.{has-append_cases, has-append_left, has-append_right, has-map, has-map_back}
+use Rattle.basics.proofs.Membership.{has-append_left, has-map, has-map_back}
 use Rattle.basics.proofs.Texts.{bytes_eq-apart, bytes_eq-same}
 use Rattle.basics.proofs.Tests.{none_is_not_some}
 use Rattle.file_tree.specs.Thing.{Thing}
@@ -15,7 +14,7 @@ use Rattle.journal.proofs.Changes.{placed_outside}
 use Rattle.merge_record.specs.Judging as judging
 use Rattle.merge_record.specs.Judging.{is_in}
 use Rattle.merge_record.specs.declared.record.OwnerKey.{OwnerKey}
-use Rattle.merge_record.proofs.Form.{false_if_absent, has_if_in, in_if_has}
+use Rattle.merge_record.proofs.Form.{false_if_absent, has_if_in}
 use Rattle.merge_site.specs.Staging.{placement_of}
 use Rattle.database_law.specs.Step.{put}
 use Rattle.group_run.specs.Granted.{wishes_for}
@@ -78,17 +77,3 @@ distinct_back (x ∷ xs) ys distinct = distinct_back xs ys distinct.1
 pub distinct_front : {A : Type 0} (xs ys : List A) → AreDistinct (xs ++ ys) → AreDistinct xs
 distinct_front [] ys distinct = tt
 distinct_front (x ∷ xs) ys distinct = ((λ has. distinct.0 (has-append_left xs ys x has)), distinct_front xs ys distinct.1)
-
--- where the path is none of the first files', the group puts there what the map of the others has
-pub put_behind : (n : ℕ) (image folder : List Entry) (q : List ℕ) → AreDistinct (map path_of (image ++ folder)) → (Has (map path_of image) q → ⊥) → put (placing n (image ++ folder)) q ≡ held_by folder q
-put_behind n image folder q distinct none = elim (cases_Bool (is_in (map path_of folder) q)) [
-  | inl e ↦ (
-      let k = has-map_back path_of folder q (has_if_in (map path_of folder) q e) in
-      let behind = distinct_back (map path_of image) (map path_of folder) (subst (λ (l : List (List ℕ)). AreDistinct l) (map-append path_of image folder) distinct) in
-      subst (λ (p : List ℕ). put (placing n (image ++ folder)) p ≡ held_by folder p) k.2
-      (put_at n (image ++ folder) k.0 distinct (has-append_right image folder k.0 k.1) ∙ sym (held_at folder k.0 behind k.1)))
-  | inr e ↦ (
-      let out : Has (map path_of folder) q → ⊥ = λ has. cc (in_if_has (map path_of folder) q has, e) in
-      untouched (image ++ folder) q None (λ has. elim (has-append_cases (map path_of image) (map path_of folder) q (subst (λ (l : List (List ℕ)). Has l q) (map-append path_of image folder) has)) [ inl i ↦ none i | inr f ↦ out f ])
-      ∙ sym (held_none folder q out))
-]

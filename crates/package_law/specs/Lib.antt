@@ -1,3 +1,2 @@
-pub mod Merges
 pub mod Packages
 pub mod Records

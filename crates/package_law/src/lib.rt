@@ -1,17 +1,10 @@
-//! What merging a package makes of the database of a tree: laws, and no code.
+//! What a group that places files puts at each path, and what is recorded of a package that comes:
+//! definitions and lemmas, and no code.
 //!
-//! **A contract sees** a package and its tree's database as `database_law` does, the files of a
-//! package and its group as `group_run` does.
+//! **A contract sees** a package and its tree's database as `database_law` does, and the files of a
+//! package as `group_run` does.
 //!
-//! **Proved**: over a kept tree whose packages are the owners in the book, a group of a package's
-//! files that a site was granted leaves a kept tree, whose database is the one from before with the
-//! package. So whatever a crash leaves of its run recovers to a kept tree with the one database or
-//! the other. The files that are written for a package without flags and needs are those of the
-//! package.
+//! **Proved**: a group of files at different paths puts each object at its path and nothing else; a
+//! group that comes again changes nothing; and what is recorded of an image has its paths, and
+//! holds of its objects.
 #![tactic(auto)]
-
-mod laws;
-
-pub use laws::{
-    merged_packages_are_kept, merges_leave_kept_trees, records_are_read_back, runs_leave_kept_trees,
-};

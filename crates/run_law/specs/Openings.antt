@@ -1,25 +1,20 @@
--- The packages that a run begins with, who owns what among them, and which package may join them.
-use Rattle.std.specs.Prelude.{◌≡◌, ◌||◌, ℕ, Bool, false, List, [], ◌∷◌, suc, bytes_eq, map, if◌then◌else◌}
-use Rattle.std.specs.List.{list_any}
-use Rattle.dep_atom.specs.Ids.{id_text}
-use Rattle.dep_atom.specs.declared.package.Facts.{Facts}
+-- The packages that a run begins with, and who owns what among them.
+use Rattle.std.specs.Prelude.{◌≡◌, ℕ, List, [], ◌∷◌, suc, bytes_eq, map, if◌then◌else◌}
 use Rattle.file_tree.specs.Disk.{Map}
 use Rattle.merge_record.specs.declared.record.OwnerKey.{OwnerKey}
 use Rattle.owner_book.specs.Book.{Book, owner_in}
 use Rattle.pkg_state.specs.Consistent.{AreConsistent}
-use Rattle.pkg_state.specs.Package.{Package, line_of}
-pub use Rattle.commit_law.specs.Commits.{packages_of}
+use Rattle.commit_law.specs.Lit.{packages_of}
 use Rattle.database_law.specs.Database.{IsDatabase, IsTidy, folder_name}
 use Rattle.database_law.specs.Packages.{Installed}
 use Rattle.claim_law.specs.Owners.{OwnersAre}
-use Rattle.package_law.specs.Records.{needing_nothing}
 
 -- these are the packages of the map's database; no two are in each other's way, and they go
--- together
-pub record HasOpening (m : Map) (ps : List Installed) : Type 0 where
+-- together with these flags on
+pub record HasOpening (flags : List (List ℕ)) (m : Map) (ps : List Installed) : Type 0 where
   pub database : IsDatabase m ps
   pub tidy : IsTidy ps
-  pub consistent : AreConsistent (packages_of ps)
+  pub consistent : AreConsistent (packages_of flags ps)
 
 -- the key of the package at a place
 abbrev pub key_at : ℕ → OwnerKey
@@ -39,18 +34,3 @@ key_among ps p = key_at (place_of (folder_name p) (map folder_name ps))
 pub record AreOwners (m : Map) (ps : List Installed) (b : Book) : Type 0 where
   pub unclaimed : b.claims ≡ []
   pub owners : OwnersAre (key_among ps) m ps (owner_in b.owned)
-
--- the package is on the line of the other one, or has its name and version
-abbrev pub takes_place : Facts → Package → Bool
-takes_place f p =
-    bytes_eq (line_of f) (line_of p.facts) || bytes_eq (id_text f.id) (id_text p.facts.id)
-
--- the place of the package is taken by one of these
-abbrev pub is_taken : Facts → List Installed → Bool
-is_taken f ps = list_any (λ p. takes_place f p.package_is) ps
-
--- the package with these facts that needs nothing may come beside these: its place is free, and
--- they go together with it
-pub record MayJoin (f : Facts) (ps : List Installed) : Type 0 where
-  pub free : is_taken f ps ≡ false
-  pub consistent : AreConsistent (needing_nothing f ∷ packages_of ps)

@@ -77,7 +77,7 @@ module _ (claims : GrantedClaimsAreGood) (settles : SettledOwnersAre) (keeps : G
 
   module _ (commits : CommitsLeaveSoundTrees) where
     pub groups_leave_sound : GroupsLeaveSoundTrees
-    groups_leave_sound plan change key m ps b groups turns xs all are =
+    groups_leave_sound flags plan change key m ps b groups turns xs all are =
         let first = are.first in
         let does : (t : Turn) → Has first t → (change t.group).does ≡ group_for t =
         λ t has. all.does t (subst (λ (l : List Turn). Has l t) (sym are.split) (has-append_left first are.rest t has)) in
@@ -86,30 +86,30 @@ module _ (claims : GrantedClaimsAreGood) (settles : SettledOwnersAre) (keeps : G
         let told = first_told key change groups m b ps first are.rest (subst (AreTold key change groups m b ps) are.split all.told) in
         let planned = all.planned in
         let steps = are_steps key change groups m ps b first planned.database planned.kept all.owners does told are.let_in in
-        let sound = commits plan change m ps steps.0 (numbers first) planned.earlier planned.accepted planned.changes planned.database planned.kept run steps.1 in
+        let sound = commits flags plan change m ps steps.0 (numbers first) planned.earlier planned.accepted planned.changes planned.database planned.kept run steps.1 in
         let named : map number xs ≡ numbers first = ap (map number) are.are ∙ numbers_of first in
         record {
           run = subst (plans.IsRun plan) (sym named) run;
           packages = steps.0;
           steps = subst (λ (l : List ℕ). AreSteps (map change l) m ps steps.0) (sym named) steps.1;
-          sound = subst (λ (l : List Group). IsSoundTree (applied m l) steps.0) (done_by change first does ∙ sym are.are) sound;
+          sound = subst (λ (l : List Group). IsSoundTree flags (applied m l) steps.0) (done_by change first does ∙ sym are.are) sound;
         }
 
     pub turns_recover_soundly : TurnsRecoverSoundly
-    turns_recover_soundly plan change key m ps b groups turns among c all to = record {
+    turns_recover_soundly flags plan change key m ps b groups turns among c all to = record {
       groups = to.groups;
       has = to.has;
       recovers = to.is;
-      leave = groups_leave_sound plan change key m ps b groups turns to.groups all to.of;
+      leave = groups_leave_sound flags plan change key m ps b groups turns to.groups all to.of;
     }
 
     pub turns_read_soundly : TurnsReadSoundly
-    turns_read_soundly plan change key m ps b groups turns history d all reads =
-        let left = groups_leave_sound plan change key m ps b groups turns reads.groups all reads.of in
+    turns_read_soundly flags plan change key m ps b groups turns history d all reads =
+        let left = groups_leave_sound flags plan change key m ps b groups turns reads.groups all reads.of in
         record {
           packages = left.packages;
           run = subst (plans.IsRun plan) reads.are left.run;
           steps = subst (λ (l : List ℕ). AreSteps (map change l) m ps left.packages) reads.are left.steps;
-          sound = subst (λ (n : Map). IsSoundTree n left.packages) (λ i q. sym (reads.reads q) i) left.sound;
+          sound = subst (λ (n : Map). IsSoundTree flags n left.packages) (λ i q. sym (reads.reads q) i) left.sound;
           untouched = reads.untouched;
         }

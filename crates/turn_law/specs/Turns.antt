@@ -34,10 +34,10 @@ AreTold key change groups m b ps (t ∷ ts) =
 
 -- the turns merge groups of an accepted plan over a kept tree, whose packages are the book's
 -- owners: in an order that the plan allows, each doing what its change says
-pub record ArePlanned (plan : List plans.Group) (change : ℕ → Change) (key : Installed → OwnerKey)
-    (m : Map) (ps : List Installed) (b : Book) (groups : List SiteGroup) (turns : List Turn) :
-    Type 0 where
-  pub planned : IsPlanned plan change m ps
+pub record ArePlanned (flags : List (List ℕ)) (plan : List plans.Group) (change : ℕ → Change)
+    (key : Installed → OwnerKey) (m : Map) (ps : List Installed) (b : Book)
+    (groups : List SiteGroup) (turns : List Turn) : Type 0 where
+  pub planned : IsPlanned flags plan change m ps
   pub owners : OwnersAre key m ps (owner_in b.owned)
   pub run : plans.IsRun plan (numbers turns)
   pub does : (t : Turn) → Has turns t → (change t.group).does ≡ group_for t
@@ -45,57 +45,57 @@ pub record ArePlanned (plan : List plans.Group) (change : ℕ → Change) (key :
 
 -- the map with these groups of the plan applied, in this order, is a sound tree: with the packages
 -- that their changes leave
-pub record LeaveSoundTree (plan : List plans.Group) (change : ℕ → Change) (m : Map)
-    (ps : List Installed) (xs : List Group) : Type 0 where
+pub record LeaveSoundTree (flags : List (List ℕ)) (plan : List plans.Group) (change : ℕ → Change)
+    (m : Map) (ps : List Installed) (xs : List Group) : Type 0 where
   pub run : plans.IsRun plan (map number xs)
   pub packages : List Installed
   pub steps : AreSteps (map change (map number xs)) m ps packages
-  pub sound : IsSoundTree (applied m xs) packages
+  pub sound : IsSoundTree flags (applied m xs) packages
 
 -- The first turns of such a run that were let in leave a sound tree.
 abbrev pub GroupsLeaveSoundTrees : Type 0
 GroupsLeaveSoundTrees =
-    (plan : List plans.Group) (change : ℕ → Change) (key : Installed → OwnerKey) (m : Map)
-    (ps : List Installed) (b : Book) (groups : List SiteGroup) (turns : List Turn)
-    (xs : List Group) →
-    ArePlanned plan change key m ps b groups turns → AreFirst m b groups turns xs →
-    LeaveSoundTree plan change m ps xs
+    (flags : List (List ℕ)) (plan : List plans.Group) (change : ℕ → Change)
+    (key : Installed → OwnerKey) (m : Map) (ps : List Installed) (b : Book)
+    (groups : List SiteGroup) (turns : List Turn) (xs : List Group) →
+    ArePlanned flags plan change key m ps b groups turns → AreFirst m b groups turns xs →
+    LeaveSoundTree flags plan change m ps xs
 
 -- a map recovers to a sound tree: to the opening after some groups of the plan, those with these
 -- numbers among them
-pub record RecoversSoundly (plan : List plans.Group) (change : ℕ → Change) (m : Map)
-    (ps : List Installed) (among : List ℕ) (c : Map) : Type 0 where
+pub record RecoversSoundly (flags : List (List ℕ)) (plan : List plans.Group) (change : ℕ → Change)
+    (m : Map) (ps : List Installed) (among : List ℕ) (c : Map) : Type 0 where
   pub groups : List Group
   pub has : (n : ℕ) → Has among n → Has (map number groups) n
   pub recovers : IsRecovered c (applied m groups)
-  pub leave : LeaveSoundTree plan change m ps groups
+  pub leave : LeaveSoundTree flags plan change m ps groups
 
 -- Whatever a crash leaves of such a run, as `group_run` says it, recovers to a sound tree.
 abbrev pub TurnsRecoverSoundly : Type 0
 TurnsRecoverSoundly =
-    (plan : List plans.Group) (change : ℕ → Change) (key : Installed → OwnerKey) (m : Map)
-    (ps : List Installed) (b : Book) (groups : List SiteGroup) (turns : List Turn)
-    (among : List ℕ) (c : Map) →
-    ArePlanned plan change key m ps b groups turns →
+    (flags : List (List ℕ)) (plan : List plans.Group) (change : ℕ → Change)
+    (key : Installed → OwnerKey) (m : Map) (ps : List Installed) (b : Book)
+    (groups : List SiteGroup) (turns : List Turn) (among : List ℕ) (c : Map) →
+    ArePlanned flags plan change key m ps b groups turns →
     RecoversWith (AreFirst m b groups turns) m among c →
-    RecoversSoundly plan change m ps among c
+    RecoversSoundly flags plan change m ps among c
 
 -- a disk reads as a sound tree, with nothing unsynced: the opening after just the groups of the
 -- history
-pub record ReadsSoundly (plan : List plans.Group) (change : ℕ → Change) (m : Map)
-    (ps : List Installed) (history : List ℕ) (d : Disk) : Type 0 where
+pub record ReadsSoundly (flags : List (List ℕ)) (plan : List plans.Group) (change : ℕ → Change)
+    (m : Map) (ps : List Installed) (history : List ℕ) (d : Disk) : Type 0 where
   pub packages : List Installed
   pub run : plans.IsRun plan history
   pub steps : AreSteps (map change history) m ps packages
-  pub sound : IsSoundTree d.holds packages
+  pub sound : IsSoundTree flags d.holds packages
   pub untouched : IsUntouched d
 
 -- Where such a run leaves a disk that reads as the opening with its history, that is a sound tree.
 abbrev pub TurnsReadSoundly : Type 0
 TurnsReadSoundly =
-    (plan : List plans.Group) (change : ℕ → Change) (key : Installed → OwnerKey) (m : Map)
-    (ps : List Installed) (b : Book) (groups : List SiteGroup) (turns : List Turn)
-    (history : List ℕ) (d : Disk) →
-    ArePlanned plan change key m ps b groups turns →
+    (flags : List (List ℕ)) (plan : List plans.Group) (change : ℕ → Change)
+    (key : Installed → OwnerKey) (m : Map) (ps : List Installed) (b : Book)
+    (groups : List SiteGroup) (turns : List Turn) (history : List ℕ) (d : Disk) →
+    ArePlanned flags plan change key m ps b groups turns →
     ReadsWith (AreFirst m b groups turns) m history d →
-    ReadsSoundly plan change m ps history d
+    ReadsSoundly flags plan change m ps history d

@@ -1,8 +1,13 @@
-use Rattle.std.proofs.Common.{List, subst}
+use Rattle.std.proofs.Common.{List, map, subst}
 use Rattle.std.specs.Prelude.{IfOk}
+use Rattle.commit_law.specs.Lit.{as_recorded}
 use Rattle.contents_text.specs.declared.owned.Owned.{Owned}
+use Rattle.package_law.specs.Records.{owned_of}
+use Rattle.pkg_state.specs.Package.{Package}
 use Rattle.record_write.specs.Written.{AreFolderFiles, installed_with}
 use Rattle.exchange_make.proofs.files.recorded_files.Goals as goal
 
 pub returns : goal.returns
-returns c good = subst (λ (l : List Owned). IfOk c.folder_files.result (λ v. AreFolderFiles (installed_with c.args.pkg l) v.items)) (c.in_ok-owned.ensures good) c.folder_files.ensures.files
+returns c good =
+    subst (λ (p : Package). IfOk c.folder_files.result (λ v. AreFolderFiles (installed_with p (map owned_of c.args.image.now)) v.items)) c.in_ok-recorded.ensures
+    (subst (λ (l : List Owned). IfOk c.folder_files.result (λ v. AreFolderFiles (installed_with c.in_ok-recorded.recorded l) v.items)) (c.in_ok-owned.ensures good) c.folder_files.ensures.files)

@@ -6,8 +6,7 @@ use Rattle.group_run.specs.Lines.{AreLines, Wrote}
 use Rattle.group_run.specs.Turns.{changes_of}
 use Rattle.group_run.specs.Went.{Went}
 use Rattle.group_run.proofs.Caused.{err_weaker}
-use Rattle.package_run.specs.Packages.{GROUP}
-use Rattle.exchange_make.specs.Made.{group_with}
+use Rattle.exchange_make.specs.Made.{GROUP, group_with}
 use Rattle.exchange_run.specs.Runs.{IsOfMade}
 use Rattle.exchange_run.proofs.Made.{merge_stopped, of_tree, stops_over, went_unmade}
 use Rattle.exchange_run.proofs.merge.merge_exchange.Goals as goal
@@ -21,12 +20,12 @@ returns-in-Ok-clause-went g c t =
     inr (made, record { made_for = e.made; removes = e.removes t }, subst (λ (s : Story). Went (IsOfMade s.now.holds book made) s (g.T.Tree.story r.tree) r.history.items r.end) (e.same t) (c.run_made.ensures.went t))
 
 pub returns-in-Ok-clause-sound : goal.returns-in-Ok-clause-sound
-returns-in-Ok-clause-sound g c t plan =
+returns-in-Ok-clause-sound g c t flags plan =
     let made = c.in-Ok.made in
     let e = c.in-Ok.ensures in
     let r = c.run_made.result in
     let a = c.args.additions in
-    c.plans_run_soundly.ensures a.book c.args.installed.now (group_with c.args.removals.now a.newcomers.items) a.newcomers.items a.line.items (g.T.Tree.story c.args.tree) (g.T.Tree.story r.tree) r.history.items r.end plan refl
+    c.plans_run_soundly.ensures flags a.book c.args.installed.now (group_with c.args.removals.now a.newcomers.items) a.newcomers.items a.line.items (g.T.Tree.story c.args.tree) (g.T.Tree.story r.tree) r.history.items r.end plan refl
     (inr (made, record { made_for = e.made; removes = e.removes t }, subst (λ (s : Story). Went (IsOfMade s.now.holds a.book made) s (g.T.Tree.story r.tree) r.history.items r.end) (e.same t) (c.run_made.ensures.went t)))
 
 pub returns-in-Ok-clause-written : goal.returns-in-Ok-clause-written
@@ -56,10 +55,10 @@ returns-in-Err-clause-went g c t =
     inl (went_unmade (λ (x : Group). ⊥) old (g.T.Tree.story r.tree) r.history.items r.end (c.requires.rest t) (ap g.T.Tree.story e.tree ∙ c.in-Err.ensures.same t) e.history (of_tree c.in-Err.fault r.end e.end))
 
 pub returns-in-Err-clause-sound : goal.returns-in-Err-clause-sound
-returns-in-Err-clause-sound g c t plan =
+returns-in-Err-clause-sound g c t flags plan =
     let old = g.T.Tree.story c.args.tree in
     let r = c.unmerged.result in
     let e = c.unmerged.ensures in
     let a = c.args.additions in
-    c.plans_run_soundly.ensures a.book c.args.installed.now (group_with c.args.removals.now a.newcomers.items) a.newcomers.items a.line.items old (g.T.Tree.story r.tree) r.history.items r.end plan refl
+    c.plans_run_soundly.ensures flags a.book c.args.installed.now (group_with c.args.removals.now a.newcomers.items) a.newcomers.items a.line.items old (g.T.Tree.story r.tree) r.history.items r.end plan refl
     (inl (went_unmade (λ (x : Group). ⊥) old (g.T.Tree.story r.tree) r.history.items r.end (c.requires.rest t) (ap g.T.Tree.story e.tree ∙ c.in-Err.ensures.same t) e.history (of_tree c.in-Err.fault r.end e.end)))

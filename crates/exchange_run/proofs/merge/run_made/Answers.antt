@@ -8,7 +8,7 @@ use Rattle.group_run.specs.Lines.{AreLines, Wrote, line_in}
 use Rattle.group_run.specs.Turns.{changes_of, numbers}
 use Rattle.group_run.specs.Went.{HasRun, Went}
 use Rattle.group_run.proofs.Single.{early_single, kept_single, machine_single, one_single}
-use Rattle.package_run.specs.Packages.{GROUP}
+use Rattle.exchange_make.specs.Made.{GROUP}
 use Rattle.exchange_run.specs.Runs.{IsOfMade}
 use Rattle.exchange_run.proofs.Made.{run_stopped, went_made, went_unmade}
 use Rattle.exchange_run.proofs.merge.run_made.Goals as goal
