@@ -72,7 +72,7 @@ def a_package_that_is_installed():
     """Where `c/p-1.00` is installed in slot `0/2`, with the file `usr/bin/p`."""
     installed = merged(CACHED, ONE, "c/p-1.00", "0/2")
     rows = [(atom, "- usr/bin/q", "0 emerge: ok 0\n") for atom in ("c/p", "=c/p-1.0", "c/p:0")]
-    owned = "13 emerge: Collision: Owned usr/bin/p 0\n"
+    owned = "13 emerge: Collision: Owned usr/bin/p c/p-1.00\n"
     below = "13 emerge: Collision: Ancestor usr/bin/p/x usr/bin/p\n"
     above = "13 emerge: Collision: Ancestor usr/bin usr/bin/p\n"
     rows += [

@@ -58,6 +58,50 @@ def repair_of_a_broken_opening():
     ))
 
 
+# one more file of `c/u-1`, which isn't in form
+FAULTY = (
+    "USE a +b",
+    "USE -a",
+    "IUSE +a ++b",
+    "REQUIRED_USE a %",
+    "REQUIRED_USE ( a",
+    "RDEPEND c/x c/y[",
+    "PDEPEND || ( c/x !c/y )",
+    "DEPEND c/x ( c/y",
+    "BDEPEND (c/x )",
+    "IDEPEND c/x )",
+)
+
+# the records of `c/w-1`, and the file that is told
+BROKEN = (
+    (("c/w-1/EAPI 8", "c/w-1/SLOT 0"), "CONTENTS"),
+    (("c/w-1/CONTENTS", "c/w-1/SLOT 0"), "EAPI"),
+    (("c/w-1/CONTENTS", "c/w-1/EAPI 8"), "SLOT"),
+    (("c/w-1/CONTENTS", "c/w-1/EAPI 7", "c/w-1/SLOT 0"), "EAPI"),
+    (("c/w-1/CONTENTS", "c/w-1/EAPI 8", "c/w-1/SLOT 0/"), "SLOT"),
+    (("c/w-1/CONTENTS obj /x 0 0", "c/w-1/EAPI 8", "c/w-1/SLOT 0"), "CONTENTS"),
+    (("c/w-1/CONTENTS sym /x y 0", "c/w-1/EAPI 8", "c/w-1/SLOT 0"), "CONTENTS"),
+    (("c/w-1/CONTENTS fif /x", "c/w-1/EAPI 8", "c/w-1/SLOT 0"), "CONTENTS"),
+)
+
+
+def refused_at(path):
+    return f"4 emerge: BadDatabase: {path}\n"
+
+
+def records_that_are_not_in_form():
+    """Each kind of fault of each file of a record, of the name of its folder, and of what two
+    packages own, by the last line of the run."""
+    record = "var/db/pkg/c/u-1"
+    told = [((NO_FILES, f"c/u-1/{row}"), f"{record}/{row.split()[0]}") for row in FAULTY]
+    told += [((NO_FILES, *rows), f"var/db/pkg/c/w-1/{file}") for rows, file in BROKEN]
+    told.append(((NO_FILES, "c/w/x"), "var/db/pkg/c/w"))
+    for other, path in (("x", "x"), ("x/y", "x")):
+        rows = ("c/u-1/CONTENTS sym /x -> y 0", f"c/w-1/CONTENTS sym /{other} -> y 0", *OTHER[1:])
+        told.append((rows, path))
+    check_rows("c/v", [(rows, refused_at(path)) for rows, path in told])
+
+
 def packages_beside_installed_ones():
     """What becomes of a merge of `c/p`, by the rows of `c/u-1`."""
     check_rows("c/p", (
@@ -65,9 +109,13 @@ def packages_beside_installed_ones():
         ((NO_FILES, "c/u-1/RDEPEND !c/p", *OTHER), "20 emerge: NotBuilt: Result\n"),
         (
             ("c/u-1/CONTENTS sym /usr/bin/p -> q 0", *OTHER),
-            "13 emerge: Collision: Owned usr/bin/p 0\n",
+            "13 emerge: Collision: Owned usr/bin/p c/u-1\n",
         ),
     ))
 
 
-TESTS = [repair_of_a_broken_opening, packages_beside_installed_ones]
+TESTS = [
+    repair_of_a_broken_opening,
+    records_that_are_not_in_form,
+    packages_beside_installed_ones,
+]

@@ -87,7 +87,7 @@ def files_in_the_way_of_an_upgrade():
     tree = {**begun(*other), "usr/bin/v": ("-", b"")}
     rows = (
         ("- usr/share/p/doc", UPGRADED),
-        ("- usr/bin/u", "13 emerge: Collision: Owned usr/bin/u 1\n"),
+        ("- usr/bin/u", "13 emerge: Collision: Owned usr/bin/u c/u-1\n"),
         ("- usr/bin/v", "13 emerge: Collision: Unowned usr/bin/v\n"),
     )
     came = told_each([run_case([UPGRADE], tree, image_of(text)) for text, _ in rows])

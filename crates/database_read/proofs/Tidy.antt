@@ -18,7 +18,7 @@ use Rattle.path_overlap.specs.Overlaps.{AreApart, IsFirst, IsFirstOverlap, IsOve
 use Rattle.path_overlap.specs.declared.overlap.Overlap.{Overlap}
 use Rattle.path_overlap.specs.declared.overlap.Overlap.TheVariants.{Nested, Twice}
 use Rattle.path_overlap.proofs.Again.{none_twice}
-use Rattle.database_read.specs.Faults.{Overlaps, overlap_fault}
+use Rattle.database_read.specs.Faults.{ArePast, Overlaps, overlap_fault}
 use Rattle.database_read.specs.Machine.{IsOfMachine}
 use Rattle.database_read.specs.Owned.{IsAbove, IsOwned, IsOwnedBelow, IsOwnedTwice, all_paths}
 use Rattle.database_read.specs.declared.fault.DatabaseFault.{DatabaseFault}
@@ -176,7 +176,7 @@ not_tidy m ps db (Nested q s) h tidy = not_tidy_above ps q tidy (first_above ps 
 
 -- of the packages of a tidy database only these are answered
 pub tidy_only : {A : Type 0} (items : A → List Installed) (r : Result A DatabaseFault) (qs ps : List Installed) (m : Map) → IsDatabase m ps → IsTidy ps → qs ≡ ps → IfOk r (λ v. items v ≡ qs)
-    → IfErr r (λ e. (e ≡ Memory) ⊎ ((o : Overlap) × IsFirstOverlap (all_paths qs) o × (e ≡ overlap_fault o))) → MatchResult r (λ v. items v ≡ ps) IsOfMachine
+    → IfErr r (λ e. (e ≡ Memory) ⊎ ((o : Overlap) × IsFirstOverlap (all_paths qs) o × (e ≡ overlap_fault o))) → MatchResult r (λ v. items v ≡ ps) (λ e. IsOfMachine e ⊎ ArePast ps e)
 tidy_only items (Ok v) qs ps m db tidy e h k = h ∙ e
-tidy_only items (Err x) qs ps m db tidy e h (inl memory) = inl memory
+tidy_only items (Err x) qs ps m db tidy e h (inl memory) = inl (inl memory)
 tidy_only items (Err x) qs ps m db tidy e h (inr o) = absurd (not_tidy m ps db o.0 (subst (λ (l : List Installed). IsFirstOverlap (all_paths l) o.0) e o.1) tidy)

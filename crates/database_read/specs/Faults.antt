@@ -18,10 +18,11 @@ use Rattle.path_overlap.specs.Overlaps.{IsFirst}
 use Rattle.path_overlap.specs.declared.overlap.Overlap.{Overlap}
 use Rattle.path_overlap.specs.declared.overlap.Overlap.TheVariants as overlaps
 use Rattle.database_read.specs.Folders.{IsFolder}
+use Rattle.database_read.specs.Limits.{AreMany, AreWithin}
 use Rattle.database_read.specs.Owned.{IsAbove, IsOwnedBelow, IsOwnedTwice}
 use Rattle.database_read.specs.Telling.{IsNameless, Tells, file_path, folder_path}
 use Rattle.database_read.specs.declared.fault.DatabaseFault.{DatabaseFault}
-use Rattle.database_read.specs.declared.fault.DatabaseFault.TheVariants.{Name, Missing, Eapi, Text, Dep, OwnedTwice, Nested, Memory}
+use Rattle.database_read.specs.declared.fault.DatabaseFault.TheVariants.{Name, Missing, Eapi, Text, Dep, Limit, OwnedTwice, Nested, Memory}
 
 -- a fault of a record, by the path of its file in the folder of this text
 abbrev pub located : List ℕ → RecordFault → DatabaseFault
@@ -79,12 +80,26 @@ Overlaps ps (Nested q s) = ((t : List ℕ) → ¬ IsOwnedTwice ps t)
     × IsFirst (IsAbove ps) q × IsFirst (IsOwnedBelow ps q) s
 Overlaps ps fault = ⊥
 
--- the map has a database, and this fault tells how its packages are in each other's way
+-- the fault tells what there is too much of with these packages
+abbrev pub ArePast : List Installed → DatabaseFault → Type 0
+ArePast ps (Limit quantity) = AreMany ps quantity
+ArePast ps fault = ⊥
+
+-- the map has a database, and this fault tells what there is too much of
+pub record HasTooMuch (m : Map) (fault : DatabaseFault) : Type 0 where
+  pub packages : List Installed
+  pub database : IsDatabase m packages
+  pub past : ArePast packages fault
+
+-- the map has a database within the limits, and this fault tells how its packages are in each
+-- other's way
 pub record IsUntidy (m : Map) (fault : DatabaseFault) : Type 0 where
   pub packages : List Installed
   pub database : IsDatabase m packages
+  pub within : AreWithin packages
   pub overlaps : Overlaps packages fault
 
--- the first fault of a map: that of its first bad folder, or else of its packages
+-- the first fault of a map: that of its first bad folder, else that it has too much, else that of
+-- its packages
 abbrev pub FirstFault : Map → DatabaseFault → Type 0
-FirstFault m fault = IsFirstBadFolder m fault ⊎ IsUntidy m fault
+FirstFault m fault = IsFirstBadFolder m fault ⊎ (HasTooMuch m fault ⊎ IsUntidy m fault)

@@ -2,13 +2,14 @@ ghost use Rattle.std.specs.Prelude.{◌≡◌, ◌⊎◌, List, IfErr, IfOk, IsE
 ghost use Rattle.file_tree.specs.Disk.{CountsFault};
 ghost use Rattle.database_law.specs.Database.{IsDatabase, IsTidy};
 ghost use Rattle.database_law.specs.Packages.{Installed as InstalledValue};
-ghost use Rattle.database_read.specs.Faults.{FirstFault, IsFirstBadFolder, IsFirstOf};
+ghost use Rattle.database_read.specs.Faults.{ArePast, FirstFault, IsFirstBadFolder, IsFirstOf};
+ghost use Rattle.database_read.specs.Limits.{AreWithin};
 ghost use Rattle.database_read.specs.Machine.{IsOfMachine};
 ghost use Rattle.database_read.specs.Telling.{TellAll};
 
 use crate::fault::DatabaseFault;
 use crate::folders::list_folders;
-use crate::owned::tidy;
+use crate::owned::{tidy, too_much};
 use crate::package::read_package;
 use basics::Text;
 use file_tree::Tree;
@@ -16,14 +17,16 @@ use record_read::Installed;
 use std::alloc::Global;
 
 /// The installed packages of a tree, in byte order of their folders. First come the faults of the
-/// folders, one after the other in that order, and then those of what the packages own.
+/// folders, one after the other in that order, then that there is too much of something, and then
+/// those of what the packages own.
 pub fn read_database<T: Tree>(alloc: Global, tree: &mut T) -> Result<Vec<Installed>, DatabaseFault>
     ensures found { IsTrue T.tells → IfOk result
         (λ v. IsDatabase (T.story tree.old).now.holds v.items) }
+    ensures within { IfOk result (λ v. AreWithin v.items) }
     ensures tidy { IfOk result (λ v. IsTidy v.items) }
     ensures only { IsTrue T.tells → (ps : List InstalledValue) →
         IsDatabase (T.story tree.old).now.holds ps → IsTidy ps →
-        MatchResult result (λ v. v.items ≡ ps) IsOfMachine }
+        MatchResult result (λ v. v.items ≡ ps) (λ e. IsOfMachine e ⊎ ArePast ps e) }
     ensures fault { IsTrue T.tells → IfErr result
         (λ e. IsOfMachine e ⊎ FirstFault (T.story tree.old).now.holds e) }
     ensures same { IsTrue T.tells → T.story tree.new ≡ T.story tree.old }
@@ -31,7 +34,10 @@ pub fn read_database<T: Tree>(alloc: Global, tree: &mut T) -> Result<Vec<Install
         (T.faults tree.new) }
 {
     let packages = read_folders(alloc, tree)?;
-    tidy(alloc, packages)
+    match too_much(&packages) {
+        Some(quantity) => Err(DatabaseFault::Limit { quantity }),
+        None => tidy(alloc, packages),
+    }
 }
 
 /// The packages of all folders that count.

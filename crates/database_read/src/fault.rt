@@ -1,4 +1,4 @@
-use file_tree::{Path, TreeFault};
+use file_tree::{Path, Quantity, TreeFault};
 use std::alloc::{AllocError, AllocFailed};
 use thiserror::Error;
 
@@ -20,6 +20,9 @@ pub enum DatabaseFault {
     /// The first place of the value that is no tree, counted from its first byte that is no blank.
     #[error("a value of a record is no tree at {at}")]
     Dep { path: Path, at: usize },
+    /// More packages are installed than may be, or they own more paths.
+    #[error("the database has too much of a quantity")]
+    Limit { quantity: Quantity },
     /// The first path that two packages own.
     #[error("two packages own a path")]
     OwnedTwice { path: Path },

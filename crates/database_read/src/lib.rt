@@ -3,10 +3,11 @@
 //! **A contract sees** a tree as its story, the files of a package's folder as the map of their
 //! texts, and an installed package as plain data.
 //!
-//! **Proved**: a tree's database is read exactly where its map has one in which no path has two
-//! owners or is above another, as just its packages in byte order of their folders. Else the first
-//! fault is told: that of the first folder in this order that tells no package, with the path of
-//! the folder or of the file; else the first path that two packages own, or that is above another.
+//! **Proved**: a tree's database is read exactly where its map has one within the limits in which no
+//! path has two owners or is above another, as just its packages in byte order of their folders.
+//! Else the first fault is told: that of the first folder in this order that tells no package, with
+//! the path of the folder or of the file; else that there are too many packages, or else too many
+//! owned paths; else the first path that two packages own, or that is above another.
 //! The tree is only read.
 //!
 //! **Only tested**: that with ample memory a database is read, on rows for each kind of fault.
@@ -19,6 +20,7 @@
 mod database;
 mod fault;
 mod folders;
+mod limits;
 mod owned;
 mod package;
 mod paths;
@@ -27,4 +29,5 @@ mod texts;
 pub use database::read_database;
 pub use fault::DatabaseFault;
 pub use folders::list_folders;
+pub use limits::MOST_PACKAGES;
 pub use texts::read_folder;

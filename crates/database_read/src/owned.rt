@@ -1,18 +1,52 @@
-ghost use Rattle.std.specs.Prelude.{◌≡◌, ◌⊎◌, ◌++◌, ℕ, IfErr, IfOk, List, MatchOption, OnOk, map};
+ghost use Rattle.std.specs.Prelude.{◌≡◌, ◌⊎◌, ◌++◌, ◌+◌, ◌<◌, ℕ, IfErr, IfOk, List, MatchOption, OnOk};
+ghost use Rattle.std.specs.Prelude.{length, map};
+ghost use Rattle.owner_book.specs.declared.limits.TheConstants.{MOST_PATHS};
 ghost use Rattle.contents_text.specs.Contents.{path_of};
 ghost use Rattle.database_law.specs.Database.{IsTidy};
 ghost use Rattle.path_overlap.specs.Indexes.{IsSeen};
 ghost use Rattle.path_overlap.specs.Overlaps.{AreApart, IsFirstOverlap};
 ghost use Rattle.path_overlap.specs.declared.overlap.Overlap.{Overlap as OverlapValue};
 ghost use Rattle.database_read.specs.Faults.{overlap_fault};
+ghost use Rattle.database_read.specs.Limits.{AreMany, AreWithin};
 ghost use Rattle.database_read.specs.Owned.{all_paths};
 ghost use Rattle.database_read.specs.declared.fault.DatabaseFault.TheVariants.{Memory};
 
 use crate::fault::DatabaseFault;
+use crate::limits::MOST_PACKAGES;
 use contents_text::Owned;
+use file_tree::Quantity;
+use owner_book::MOST_PATHS;
 use path_overlap::{Overlap, PathIndex};
 use record_read::Installed;
 use std::alloc::{AllocError, Global};
+
+/// What there is too much of, if anything: packages, or else paths that they own.
+pub(crate) fn too_much(packages: &[Installed]) -> Option<Quantity>
+    ensures { MatchOption result (AreWithin packages.now) (AreMany packages.now) }
+{
+    if packages.len() > MOST_PACKAGES {
+        return Some(Quantity::Packages);
+    }
+    match paths_left(packages) {
+        Some(_) => None,
+        None => Some(Quantity::Paths),
+    }
+}
+
+/// How many more paths may be owned beside those of the packages, unless these are too many.
+fn paths_left(packages: &[Installed]) -> Option<usize>
+    ensures { MatchOption result (MOST_PATHS < length (all_paths packages.now))
+        (λ n. n + length (all_paths packages.now) ≡ MOST_PATHS) }
+{
+    let mut left = MOST_PATHS;
+    for package in packages {
+        let Some(fewer) = left.checked_sub(package.owned.len()) else {
+            return None;
+        };
+        left = fewer;
+    }
+    Some(left)
+}
 
 /// The packages, if their paths are not in each other's way.
 pub(crate) fn tidy(alloc: Global, packages: Vec<Installed>) -> Result<Vec<Installed>, DatabaseFault>

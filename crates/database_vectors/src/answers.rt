@@ -3,7 +3,7 @@
 use crate::trees::tree_of;
 use asked_lines::cut;
 use database_read::{DatabaseFault, read_database};
-use file_tree::Path;
+use file_tree::{Path, Quantity};
 use record_read::Installed;
 use std::alloc::{AllocError, Global};
 use tree_mem::MemTree;
@@ -52,6 +52,15 @@ fn nested(alloc: Global, path: &Path, below: &Path) -> Result<String, AllocError
     at_path(alloc, first.as_str(), below)
 }
 
+/// What there is too much of.
+fn limit_of(quantity: Quantity) -> &'static str {
+    match quantity {
+        Quantity::Packages => "too many packages",
+        Quantity::Paths => "too many paths",
+        _ => "too much",
+    }
+}
+
 fn fault_text(alloc: Global, fault: &DatabaseFault) -> Result<String, AllocError> {
     match fault {
         DatabaseFault::Name { path } => at_path(alloc, "name", path),
@@ -59,6 +68,7 @@ fn fault_text(alloc: Global, fault: &DatabaseFault) -> Result<String, AllocError
         DatabaseFault::Eapi { path } => at_path(alloc, "eapi", path),
         DatabaseFault::Text { path, line } => in_line(alloc, path, *line),
         DatabaseFault::Dep { path, at } => in_value(alloc, path, *at),
+        DatabaseFault::Limit { quantity } => String::from_str(alloc, limit_of(*quantity)),
         DatabaseFault::OwnedTwice { path } => at_path(alloc, "twice", path),
         DatabaseFault::Nested { path, below } => nested(alloc, path, below),
         DatabaseFault::Failed => String::from_str(alloc, "failed"),

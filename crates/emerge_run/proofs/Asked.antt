@@ -9,9 +9,9 @@ use Rattle.image_fit.specs.declared.limits.TheConstants.{MOST_ENTRIES}
 use Rattle.emerge_run.specs.Images.{HasMany, IsTold}
 use Rattle.emerge_run.specs.Answers.{Asks}
 use Rattle.emerge_run.specs.Words.{EndsAtWords}
-use Rattle.emerge_run.specs.declared.status.Part.TheVariants as part
-use Rattle.emerge_run.specs.declared.status.Status.{Status}
-use Rattle.emerge_run.specs.declared.status.Status.TheVariants as status
+use Rattle.run_status.specs.declared.status.Part.TheVariants as part
+use Rattle.run_status.specs.declared.status.Status.{Status}
+use Rattle.run_status.specs.declared.status.Status.TheVariants as status
 
 -- what is known of the image that a builder made, or of one that has too many entries
 abbrev pub HasSeen : Bool → List Entry → Option (Vec Entry Global) → Type 0

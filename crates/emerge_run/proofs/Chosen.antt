@@ -23,16 +23,17 @@ use Rattle.emerge_run.specs.Images.{AreTold}
 use Rattle.run_law.specs.Ends.{IsKept}
 use Rattle.emerge_run.specs.Outcomes.{BuildEnds, HasChosen, IsEarly, IsNamed, OfSomeBuilder, Outcome}
 use Rattle.emerge_run.specs.Package.{IsTask, order_of}
-use Rattle.emerge_run.specs.Refusals.{status_of, status_of_recovery}
+use Rattle.emerge_run.specs.Refusals.{status_of}
+use Rattle.run_status.specs.Faults.{status_of_recovery}
 use Rattle.emerge_run.specs.Words.{EndsAtWords, IsOfWords, IsRequest}
 use Rattle.recovery.specs.declared.fault.RecoverFault.{RecoverFault}
 use Rattle.recovery.specs.declared.fault.RecoverFault.TheVariants as recovery
 use Rattle.emerge_run.specs.declared.choosing.Chosen.{Chosen}
 use Rattle.emerge_run.specs.declared.refusal.Refusal.{Refusal}
 use Rattle.emerge_run.specs.declared.refusal.Refusal.TheVariants as refusals
-use Rattle.emerge_run.specs.declared.status.Part.TheVariants as part
-use Rattle.emerge_run.specs.declared.status.Status.{Status}
-use Rattle.emerge_run.specs.declared.status.Status.TheVariants as status
+use Rattle.run_status.specs.declared.status.Part.TheVariants as part
+use Rattle.run_status.specs.declared.status.Status.{Status}
+use Rattle.run_status.specs.declared.status.Status.TheVariants as status
 use Rattle.emerge_run.proofs.Asked.{many_seen}
 use Rattle.emerge_run.proofs.Endings.{build_asks, named_of, outcome_over, seen_only}
 
@@ -63,6 +64,7 @@ pub early_tree : (r : Refusal) → IsEarly (status_of r)
 early_tree refusals.OddEntry = tt
 early_tree (refusals.BadDatabase fault) = tt
 early_tree (refusals.Inconsistent fault packages) = tt
+early_tree (refusals.Limit quantity) = tt
 early_tree refusals.Failed = tt
 early_tree refusals.Memory = tt
 
@@ -96,6 +98,7 @@ pub usage_tree : (r : Refusal) (f : WordFault) → status_of r ≡ status.Usage 
 usage_tree refusals.OddEntry f e = absurd (cc e)
 usage_tree (refusals.BadDatabase fault) f e = absurd (cc e)
 usage_tree (refusals.Inconsistent fault packages) f e = absurd (cc e)
+usage_tree (refusals.Limit quantity) f e = absurd (cc e)
 usage_tree refusals.Failed f e = absurd (cc e)
 usage_tree refusals.Memory f e = absurd (cc e)
 

@@ -4,6 +4,7 @@ use Rattle.std.specs.Prelude.{Contains, IsTrue, if◌then◌else◌}
 use Rattle.file_tree.specs.Disk.{Map, Story}
 use Rattle.file_tree.specs.Moments.{Since}
 use Rattle.file_tree.specs.Paths.{is_below}
+use Rattle.file_tree.specs.declared.limits.Quantity.{Quantity}
 use Rattle.file_tree.specs.declared.limits.Quantity.TheVariants.{Candidates, Groups, Packages, Paths, RecordBytes}
 use Rattle.file_tree.proofs.Moments.{since_same, since_start, since_then, since_weaker}
 use Rattle.file_tree.specs.declared.objects.Entry.{Entry}
@@ -22,7 +23,7 @@ use Rattle.recovery.specs.Promise.{IsFaultOf}
 use Rattle.recovery.specs.declared.fault.RecoverFault.{RecoverFault}
 use Rattle.recovery.specs.declared.fault.RecoverFault.TheVariants as recovery
 use Rattle.group_run.specs.Applied.{Recovers}
-use Rattle.emerge_run.specs.Answers.{Asks, AsksFor, AsksMerge, IsReady}
+use Rattle.emerge_run.specs.Answers.{Asks, AsksFor, AsksMerge, HasTooMuch, IsReady}
 use Rattle.emerge_run.specs.Images as images
 use Rattle.image_fit.specs.declared.limits.TheConstants.{MOST_ENTRIES}
 use Rattle.run_law.specs.Ends.{IsKept}
@@ -31,14 +32,15 @@ use Rattle.exchange_law.specs.Ends.{IsGroupOf, IsReached, Merge}
 use Rattle.atom_plan.specs.Plans.{group_for, removals_for}
 use Rattle.emerge_run.specs.Outcomes.{BuildEnds, HasChosen, IsChoice, IsNamed, IsOfTree, MergedTo, OfSomeBuilder, Outcome}
 use Rattle.emerge_run.specs.Package.{IsGroupMade, Making, order_of}
-use Rattle.emerge_run.specs.Refusals.{TreeRefuses, status_of, status_of_recovery}
+use Rattle.emerge_run.specs.Refusals.{TreeRefuses, status_of}
+use Rattle.run_status.specs.Faults.{status_of_recovery}
 use Rattle.emerge_words.specs.declared.request.WordFault.{WordFault}
 use Rattle.emerge_run.specs.Words.{AskForPackage, EndsAtWords, IsOfWords, IsRequest}
 use Rattle.emerge_run.specs.declared.refusal.Refusal.{Refusal}
 use Rattle.emerge_run.specs.declared.refusal.Refusal.TheVariants as refusals
-use Rattle.emerge_run.specs.declared.status.Part.TheVariants.{Command, Repository, Result}
-use Rattle.emerge_run.specs.declared.status.Status.{Status}
-use Rattle.emerge_run.specs.declared.status.Status.TheVariants as status
+use Rattle.run_status.specs.declared.status.Part.TheVariants.{Command, Repository, Result}
+use Rattle.run_status.specs.declared.status.Status.{Status}
+use Rattle.run_status.specs.declared.status.Status.TheVariants as status
 use Rattle.emerge_run.proofs.Merged.{has_weaker, leaves_weaker, recovers_weaker}
 
 -- the whole image function that agrees with what was seen at one order
@@ -58,7 +60,7 @@ many_asks : (tells : Bool) (told : Order → List Entry) (m : Map) (a : AtomValu
     → (image : Order → List Entry) × (IsTrue tells → image ≡ told) × AsksFor a m image (status.Limit Paths)
 many_asks tells told m a ps f ready (seen, many, is) =
     let k = seen_image tells told (order_of f) seen is in
-    (k.0, k.1, inl (ps, f, ready, subst (λ (x : List Entry). MOST_ENTRIES < length x) (sym k.2) many))
+    (k.0, k.1, inr (inl (ps, f, ready, subst (λ (x : List Entry). MOST_ENTRIES < length x) (sym k.2) many)))
 
 -- what building the image answered is what the run is asked for
 pub build_asks : (tells : Bool) (told : Order → List Entry) (m : Map) (a : AtomValue) (ps : List Installed) (f : Facts) (s : Status) → IsReady m a ps f
@@ -84,11 +86,20 @@ build_asks tells told m a ps f (status.Usage fault) ready seen h = absurd h
 build_asks tells told m a ps f (status.NoCandidate atom reasons) ready seen h = absurd h
 build_asks tells told m a ps f (status.Ok groups) ready seen h = absurd h
 
+-- what a database that has too much asks for
+much_asks : (a : AtomValue) (m : Map) (image : Order → List Entry) (q : Quantity) → HasTooMuch m a q → AsksFor a m image (status.Limit q)
+much_asks a m image Paths much = inl much
+much_asks a m image Packages much = inl much
+much_asks a m image Groups much = inl much
+much_asks a m image Candidates much = inl much
+much_asks a m image RecordBytes much = inl much
+
 -- what a refused tree asks for
 pub tree_asks : (a : AtomValue) (m : Map) (image : Order → List Entry) (r : Refusal) → TreeRefuses m a r → AsksFor a m image (status_of r)
 tree_asks a m image refusals.OddEntry refuses = refuses
 tree_asks a m image (refusals.BadDatabase fault) refuses = refuses
 tree_asks a m image (refusals.Inconsistent fault packages) refuses = record { entries = refuses.entries; packages = packages.items; broken = refuses.broken }
+tree_asks a m image (refusals.Limit quantity) refuses = much_asks a m image quantity refuses
 tree_asks a m image refusals.Failed refuses = tt
 tree_asks a m image refusals.Memory refuses = tt
 
@@ -161,9 +172,9 @@ asks_after words a opening m image (status.BadDatabase fault) asked is asks = (a
 asks_after words a opening m image (status.BadJournal fault) asked is asks = absurd asks
 asks_after words a opening m image (status.Inconsistent fault) asked is asks = (a, asked, (m, is, asks))
 asks_after words a opening m image (status.Limit Paths) asked is asks = (a, asked, (m, is, asks))
-asks_after words a opening m image (status.Limit Groups) asked is asks = absurd asks.3
-asks_after words a opening m image (status.Limit Packages) asked is asks = absurd asks.3
-asks_after words a opening m image (status.Limit Candidates) asked is asks = absurd asks.3
+asks_after words a opening m image (status.Limit Packages) asked is asks = (a, asked, (m, is, asks))
+asks_after words a opening m image (status.Limit Groups) asked is asks = absurd (elim asks [ inl much ↦ much.much.2 | inr merge ↦ merge.3 ])
+asks_after words a opening m image (status.Limit Candidates) asked is asks = absurd (elim asks [ inl much ↦ much.much.2 | inr merge ↦ merge.3 ])
 asks_after words a opening m image (status.Limit RecordBytes) asked is asks = (a, asked, (m, is, asks))
 asks_after words a opening m image (status.Collision c) asked is asks = (a, asked, (m, is, asks))
 asks_after words a opening m image (status.BadImage b) asked is asks = (a, asked, (m, is, asks))
@@ -197,11 +208,11 @@ outcome_over words a image old mid new s asked since is rest same asks = subst (
 -- the answer of a merge is one of the run
 merge_asks : (a : AtomValue) (ps : List Installed) (f : Facts) (m : Map) (image : Order → List Entry) (s : Status) → IsReady m a ps f → AsksMerge ps (group_for f ps) (image (order_of f) ∷ []) m s → AsksFor a m image s
 merge_asks a ps f m image (status.Ok groups) ready asks = inl (ps, f, ready, asks)
-merge_asks a ps f m image (status.Limit Paths) ready asks = inr (ps, f, ready, asks)
+merge_asks a ps f m image (status.Limit Paths) ready asks = inr (inr (ps, f, ready, asks))
 merge_asks a ps f m image (status.Limit Groups) ready asks = absurd asks
 merge_asks a ps f m image (status.Limit Packages) ready asks = absurd asks
 merge_asks a ps f m image (status.Limit Candidates) ready asks = absurd asks
-merge_asks a ps f m image (status.Limit RecordBytes) ready asks = (ps, f, ready, asks)
+merge_asks a ps f m image (status.Limit RecordBytes) ready asks = inr (ps, f, ready, asks)
 merge_asks a ps f m image (status.Collision c) ready asks = (ps, f, ready, asks)
 merge_asks a ps f m image (status.BadImage b) ready asks = (ps, f, ready, asks)
 merge_asks a ps f m image status.DeviceFault ready asks = tt

@@ -3,12 +3,13 @@ use Rattle.std.proofs.Common.{◌≡◌, ◌⊎◌, ℕ, List, [], ◌∷◌, �
 use Rattle.std.specs.List.{AllByRecursion, flat_map}
 use Rattle.dep_atom.specs.declared.package.PackageId.{PackageId}
 use Rattle.group_run.specs.Lines.{AreLines, IsBeginning, Wrote}
-use Rattle.package_run.specs.Packages.{GROUP, only_line}
+use Rattle.exchange_make.specs.Made.{GROUP, only_line}
 use Rattle.plan_law.specs.Plans.{Removal}
-use Rattle.emerge_run.specs.Output.{IsEnd, IsLast, IsLineOf, IsLines, IsOutput, unwritten}
-use Rattle.emerge_run.specs.Texts.{done_line, last_line}
-use Rattle.emerge_run.specs.declared.status.Status.{Status}
-use Rattle.emerge_run.specs.declared.status.Status.TheVariants as status
+use Rattle.emerge_run.specs.Output.{IsLineOf, IsLines, IsOutput}
+use Rattle.run_status.specs.Last.{IsEnd}
+use Rattle.run_status.specs.Texts.{done_line}
+use Rattle.run_status.specs.declared.status.Status.{Status}
+use Rattle.run_status.specs.declared.status.Status.TheVariants as status
 
 -- before a group there is no line
 pub no_group : (line : ℕ → List ℕ) → AreLines line [] [] []
@@ -60,25 +61,6 @@ pub wrote_nothing : (P : List Removal → PackageId → Type 0) (history acknowl
 wrote_nothing P history acknowledged old new none none' same =
     let empty = wrote_none (λ _. []) history acknowledged old new none none' same in
     (empty.0, record { line = λ _. []; named = subst (λ (h : List ℕ). AllByRecursion (λ g. IsLineOf P [] g) h) (sym none) tt; lines = empty.1 }, empty.2)
-
--- only a device's fault stays where its last line can't be written
-pub unwritten_other : (s : Status) → (s ≡ status.DeviceFault → ⊥) → unwritten s ≡ status.OutputFault
-unwritten_other status.DeviceFault other = absurd (other refl)
-unwritten_other s other = refl
-
--- the last line, whole
-pub last_whole : (s : Status) (line old new : List ℕ) → line ≡ last_line s → new ≡ old ++ line → Wrote (IsLast s s) old new
-last_whole s line old new is wrote = (line, inl (refl, is), wrote)
-
--- the last line could not be written
-pub last_cut : (came s : Status) (line old new : List ℕ) → line ≡ last_line came → s ≡ unwritten came → ((n : ℕ) × (new ≡ old ++ take n line)) → Wrote (IsLast came s) old new
-last_cut came s line old new is falls (n, wrote) = (take n line, inr (falls, (n, ap (take n) is)), wrote)
-
-pub end_itself : (came s : Status) (old new : List ℕ) → Wrote (IsLast came s) old new → Wrote (IsEnd came s) old new
-end_itself came s old new (text, last, e) = (text, inl last, e)
-
-pub end_memory : (came s : Status) (old new : List ℕ) → Wrote (IsLast status.Memory s) old new → Wrote (IsEnd came s) old new
-end_memory came s old new (text, last, e) = (text, inr last, e)
 
 -- the lines and then the last line
 pub wrote_all : (P : List Removal → PackageId → Type 0) (IsAnswer : Status → Type 0) (history acknowledged : List ℕ) (came s : Status) (old mid new : List ℕ) → IsAnswer came → IsAnswer status.Memory

@@ -3,7 +3,7 @@ use Rattle.std.specs.Prelude.{◌≡◌, ◌⊎◌, ◌<◌, ℕ, true, false, L
 use Rattle.std.specs.List.{AllByRecursion}
 use Rattle.file_tree.specs.Disk.{Map}
 use Rattle.file_tree.specs.declared.limits.Quantity.{Quantity}
-use Rattle.file_tree.specs.declared.limits.Quantity.TheVariants.{Groups, Paths, RecordBytes}
+use Rattle.file_tree.specs.declared.limits.Quantity.TheVariants.{Groups, Packages, Paths, RecordBytes}
 use Rattle.file_tree.specs.declared.objects.Entry.{Entry}
 use Rattle.dep_atom.specs.Match.{value_matches}
 use Rattle.dep_atom.specs.Values.{AtomValue, atom_value}
@@ -15,38 +15,43 @@ use Rattle.journal.specs.Group as journal
 use Rattle.merge_site.specs.declared.fault.ClaimStop.TheVariants as claims
 use Rattle.group_run.specs.declared.stop.Stop.TheVariants as stops
 use Rattle.merge_record.specs.Recovered.{IsRecovered}
+use Rattle.owner_book.specs.declared.fault.Collision as books
 use Rattle.recovery.specs.Found.{HasTooManyGates}
 use Rattle.recovery.specs.Promise.{IsFaultOf}
 use Rattle.recovery.specs.declared.fault.RecoverFault.{RecoverFault}
 use Rattle.recovery.specs.declared.fault.RecoverFault.TheVariants as recovery
 use Rattle.database_law.specs.Packages.{Installed}
+use Rattle.database_read.specs.Limits.{AreWithin}
 use Rattle.database_read.specs.declared.fault.DatabaseFault.{DatabaseFault}
 use Rattle.pkg_state.specs.declared.broken.Broken.{Broken}
 use Rattle.plan_law.specs.Plans.{Group}
 use Rattle.run_law.specs.Openings.{HasOpening}
+use Rattle.opening.specs.Faults as openings
 use Rattle.opening.specs.Faults.{IsBadDatabase, IsInconsistent}
 use Rattle.opening.specs.Matched.{is_matched}
 use Rattle.visible_set.specs.Candidates.{AreOffers, HasOddEntry, IsChosen}
 use Rattle.exchange_run.specs.Runs.{IsOfMade}
 use Rattle.exchange_law.specs.Ends.{IsPlan}
 use Rattle.atom_plan.specs.Plans.{group_for}
+use Rattle.emerge_run.specs.Collisions.{status_of_collision}
 use Rattle.emerge_run.specs.Package.{Making, StopsAt, order_of}
 use Rattle.emerge_run.specs.Words.{AskForOther, AskForPackage, IsRequest, IsUsage}
 use Rattle.emerge_run.specs.declared.judge.Standing.{Standing}
 use Rattle.emerge_run.specs.declared.judge.Standing.TheVariants.{Barred, Chosen, Met, Unmatched}
-use Rattle.emerge_run.specs.declared.status.Part.{Part}
-use Rattle.emerge_run.specs.declared.status.Part.TheVariants.{Command, Repository, Result}
-use Rattle.emerge_run.specs.declared.status.Reason.{Reason}
-use Rattle.emerge_run.specs.declared.status.Reason.TheVariants.{NotMatched}
-use Rattle.emerge_run.specs.declared.status.Status.{Status}
-use Rattle.emerge_run.specs.declared.status.Status.TheVariants as status
+use Rattle.run_status.specs.declared.status.Part.{Part}
+use Rattle.run_status.specs.declared.status.Part.TheVariants.{Command, Repository, Result}
+use Rattle.run_status.specs.declared.status.Reason.{Reason}
+use Rattle.run_status.specs.declared.status.Reason.TheVariants.{NotMatched}
+use Rattle.run_status.specs.declared.status.Status.{Status}
+use Rattle.run_status.specs.declared.status.Status.TheVariants as status
 
 -- each candidate of the atom's name has its entry in the one form that is read, and these are the
--- installed packages, which go together, and no other list tells them
+-- installed packages, within the limits, which go together, and no other list tells them
 pub record IsRead (m : Map) (a : AtomValue) (ps : List Installed) : Type 0 where
   pub entries : ¬ HasOddEntry m a.name
-  pub opening : HasOpening m ps
-  pub only : (qs : List Installed) → HasOpening m qs → ps ≡ qs
+  pub opening : HasOpening [] m ps
+  pub within : AreWithin ps
+  pub only : (qs : List Installed) → HasOpening [] m qs → ps ≡ qs
 
 -- the atom matches one of the installed packages
 abbrev pub IsMet : Map → AtomValue → Type 0
@@ -62,7 +67,7 @@ pub record IsOpen (m : Map) (a : AtomValue) (ps : List Installed) : Type 0 where
 pub record IsReady (m : Map) (a : AtomValue) (ps : List Installed) (f : Facts) : Type 0 where
   pub open_to : IsOpen m a ps
   pub chosen : IsChosen m a f
-  pub plan : IsPlan ps (group_for f ps)
+  pub plan : IsPlan [] ps (group_for f ps)
 
 -- why the atom doesn't choose a candidate that could be read
 abbrev pub not_matched : Facts → PackageId × Reason
@@ -84,7 +89,7 @@ pub record IsBarred (m : Map) (a : AtomValue) : Type 0 where
   pub open_to : IsOpen m a packages
   pub facts : Facts
   pub chosen : IsChosen m a facts
-  pub barred : ¬ IsPlan packages (group_for facts packages)
+  pub barred : ¬ IsPlan [] packages (group_for facts packages)
 
 -- how a recovered tree with these packages stands to an atom
 abbrev pub Stands : Map → AtomValue → List Installed → Standing → Type 0
@@ -105,11 +110,16 @@ pub record HasBadDatabase (m : Map) (a : AtomValue) (fault : DatabaseFault) : Ty
   pub entries : ¬ HasOddEntry m a.name
   pub first : IsBadDatabase m fault
 
+-- the entries are in form, and the database has more of the quantity than may be
+pub record HasTooMuch (m : Map) (a : AtomValue) (quantity : Quantity) : Type 0 where
+  pub entries : ¬ HasOddEntry m a.name
+  pub much : openings.HasTooMuch m quantity
+
 -- the entries are in form, and this is first wrong with the installed packages
 pub record HasBroken (m : Map) (a : AtomValue) (fault : Broken) : Type 0 where
   pub entries : ¬ HasOddEntry m a.name
   pub packages : List Installed
-  pub broken : IsInconsistent m packages fault
+  pub broken : IsInconsistent [] m packages fault
 
 -- which part is missing for a recovered tree
 abbrev pub Refuses : Map → AtomValue → Part → Type 0
@@ -127,7 +137,8 @@ MayCome ps g images m =
 abbrev pub AsksMerge : List Installed → Group → List (List Entry) → Map → Status → Type 0
 AsksMerge ps g images m (status.Ok groups) = MayCome ps g images m × (groups ≡ 1)
 AsksMerge ps g images m (status.Collision c) =
-    StopsAt ps g images m (stops.Claim (claims.Collision c))
+    (k : books.Collision) × (status_of_collision ps k ≡ status.Collision c)
+    × StopsAt ps g images m (stops.Claim (claims.Collision k))
 AsksMerge ps g images m (status.BadImage b) =
     StopsAt ps g images m (stops.Image b) ⊎ StopsAt ps g images m (stops.Claim (claims.Image b))
 AsksMerge ps g images m (status.Limit Paths) = StopsAt ps g images m (stops.Claim claims.Limit)
@@ -161,8 +172,9 @@ AsksFor a m image (status.BadDatabase fault) = HasBadDatabase m a fault
 AsksFor a m image (status.BadJournal fault) = ⊥
 AsksFor a m image (status.Inconsistent fault) = HasBroken m a fault
 AsksFor a m image (status.Limit Paths) =
-    HasMany a m image ⊎ AsksPackage a m image (status.Limit Paths)
-AsksFor a m image (status.Limit quantity) = AsksPackage a m image (status.Limit quantity)
+    HasTooMuch m a Paths ⊎ (HasMany a m image ⊎ AsksPackage a m image (status.Limit Paths))
+AsksFor a m image (status.Limit quantity) =
+    HasTooMuch m a quantity ⊎ AsksPackage a m image (status.Limit quantity)
 AsksFor a m image (status.Collision c) = AsksPackage a m image (status.Collision c)
 AsksFor a m image (status.BadImage b) = AsksPackage a m image (status.BadImage b)
 AsksFor a m image (status.NotBuilt Repository) = Refuses m a Repository
@@ -204,6 +216,8 @@ Asks words opening image (status.Inconsistent fault) =
     AsksAfter words opening image (status.Inconsistent fault)
 Asks words opening image (status.BadJournal fault) = AskForPackage words × IsBroken fault opening
 Asks words opening image (status.Limit Paths) = AsksAfter words opening image (status.Limit Paths)
+Asks words opening image (status.Limit Packages) =
+    AsksAfter words opening image (status.Limit Packages)
 Asks words opening image (status.Limit RecordBytes) =
     AsksAfter words opening image (status.Limit RecordBytes)
 Asks words opening image (status.Limit quantity) = AskForPackage words × HasTooMany quantity opening

@@ -1,4 +1,5 @@
 pub mod Answers
+pub mod Collisions
 pub mod Headline
 pub mod Images
 pub mod Openings
@@ -6,5 +7,4 @@ pub mod Outcomes
 pub mod Output
 pub mod Package
 pub mod Refusals
-pub mod Texts
 pub mod Words

@@ -1,13 +1,15 @@
 -- The installed packages that a run gives back.
 use Rattle.std.specs.Prelude.{◌≡◌, ◌⊎◌, List, [], ⊤}
 use Rattle.file_tree.specs.Disk.{Map}
-use Rattle.file_tree.specs.declared.limits.Quantity.TheVariants.{Groups}
+use Rattle.file_tree.specs.declared.limits.Quantity.{Quantity}
+use Rattle.file_tree.specs.declared.limits.Quantity.TheVariants.{Groups, Packages, Paths}
 use Rattle.database_law.specs.Database.{IsDatabase, IsTidy}
 use Rattle.database_law.specs.Packages.{Installed}
 use Rattle.merge_record.specs.Recovered.{IsRecovered}
-use Rattle.emerge_run.specs.declared.status.Part.TheVariants.{Command, Repository, Result}
-use Rattle.emerge_run.specs.declared.status.Status.{Status}
-use Rattle.emerge_run.specs.declared.status.Status.TheVariants as status
+use Rattle.opening.specs.Faults.{HasTooMuch}
+use Rattle.run_status.specs.declared.status.Part.TheVariants.{Command, Repository, Result}
+use Rattle.run_status.specs.declared.status.Status.{Status}
+use Rattle.run_status.specs.declared.status.Status.TheVariants as status
 
 -- these packages are installed in a map, and apart
 pub record AreInstalled (m : Map) (ps : List Installed) : Type 0 where
@@ -18,17 +20,22 @@ pub record AreInstalled (m : Map) (ps : List Installed) : Type 0 where
 abbrev pub AreInstalledAfter : Map → List Installed → Type 0
 AreInstalledAfter opening ps = (m : Map) × IsRecovered opening m × AreInstalled m ps
 
+-- the database of what a map recovers to has more of the quantity than may be
+abbrev pub HasTooMuchAfter : Map → Quantity → Type 0
+HasTooMuchAfter opening quantity = (m : Map) × IsRecovered opening m × HasTooMuch m quantity
+
 -- a run that answers so ended before it had read the database
 abbrev pub IsUnread : Status → Type 0
 IsUnread (status.Usage fault) = ⊤
 IsUnread (status.BadDatabase fault) = ⊤
 IsUnread (status.BadJournal fault) = ⊤
 IsUnread (status.Limit Groups) = ⊤
+IsUnread (status.Limit Packages) = ⊤
 IsUnread (status.NotBuilt Command) = ⊤
 IsUnread (status.NotBuilt Repository) = ⊤
 IsUnread s = ⊥
 
--- one that answers so has read it
+-- one that answers so has read it; too many paths a database may have, too, and then it isn't read
 abbrev pub HasRead : Status → Type 0
 HasRead (status.Ok groups) = ⊤
 HasRead (status.Inconsistent fault) = ⊤
@@ -37,13 +44,16 @@ HasRead (status.Collision c) = ⊤
 HasRead (status.BadImage b) = ⊤
 HasRead (status.BuildFailed id) = ⊤
 HasRead (status.Limit Groups) = ⊥
+HasRead (status.Limit Packages) = ⊥
+HasRead (status.Limit Paths) = ⊥
 HasRead (status.Limit quantity) = ⊤
 HasRead (status.NotBuilt Result) = ⊤
 HasRead s = ⊥
 
--- the packages that a run with this answer gives back are such: where it has read the database, and
--- else they are such or none
-pub record GivesBack (Such : List Installed → Type 0) (s : Status)
+-- the packages that a run with this answer gives back are such, where it has read the database, and
+-- else they are such or none; where there are too many paths none come only of such a database
+pub record GivesBack (Such : List Installed → Type 0) (TooMuch : Quantity → Type 0) (s : Status)
     (ps : List Installed) : Type 0 where
   pub read : HasRead s → Such ps
+  pub paths : s ≡ status.Limit Paths → Such ps ⊎ ((ps ≡ []) × TooMuch Paths)
   pub whole : (ps ≡ []) ⊎ Such ps

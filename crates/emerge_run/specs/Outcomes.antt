@@ -22,9 +22,9 @@ use Rattle.exchange_law.specs.Ends.{HasGroups, IsReached, LeavesGroups}
 use Rattle.atom_plan.specs.Plans.{group_for, removals_for}
 use Rattle.emerge_run.specs.Package.{IsGroupMade, Making, order_of}
 use Rattle.emerge_run.specs.Words.{IsRequest}
-use Rattle.emerge_run.specs.declared.status.Part.TheVariants.{Command, Result}
-use Rattle.emerge_run.specs.declared.status.Status.{Status}
-use Rattle.emerge_run.specs.declared.status.Status.TheVariants as status
+use Rattle.run_status.specs.declared.status.Part.TheVariants.{Command, Result}
+use Rattle.run_status.specs.declared.status.Status.{Status}
+use Rattle.run_status.specs.declared.status.Status.TheVariants as status
 
 -- How the merge of a group of a plan over a tree at rest ended: with the answer that it asks for,
 -- and with what was made for it, if memory and the device let it; each crash image of each moment

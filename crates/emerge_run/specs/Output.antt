@@ -1,12 +1,12 @@
 -- What a run writes: the lines of its groups, and its last line.
-use Rattle.std.specs.Prelude.{◌≡◌, ◌⊎◌, ℕ, List, ◌++◌}
+use Rattle.std.specs.Prelude.{◌≡◌, ℕ, List, ◌++◌}
 use Rattle.std.specs.List.{AllByRecursion}
 use Rattle.dep_atom.specs.declared.package.PackageId.{PackageId}
-use Rattle.group_run.specs.Lines.{AreLines, IsBeginning}
+use Rattle.group_run.specs.Lines.{AreLines}
 use Rattle.plan_law.specs.Plans.{Removal}
-use Rattle.emerge_run.specs.Texts.{done_line, last_line}
-use Rattle.emerge_run.specs.declared.status.Status.{Status}
-use Rattle.emerge_run.specs.declared.status.Status.TheVariants as status
+use Rattle.run_status.specs.Last.{IsLast}
+use Rattle.run_status.specs.Texts.{done_line}
+use Rattle.run_status.specs.declared.status.Status.{Status}
 
 -- the line of a group that takes packages away and adds one, of which P holds
 abbrev pub IsLineOf : (List Removal → PackageId → Type 0) → List ℕ → ℕ → Type 0
@@ -19,21 +19,6 @@ pub record IsLines (P : List Removal → PackageId → Type 0) (history acknowle
   pub line : ℕ → List ℕ
   pub named : AllByRecursion (λ g. IsLineOf P (line g) g) history
   pub lines : AreLines line history acknowledged text
-
--- what a status becomes where its last line can't be written
-abbrev pub unwritten : Status → Status
-unwritten status.DeviceFault = status.DeviceFault
-unwritten _ = status.OutputFault
-
--- a run that came to one status ends with it, and its last line is there; or it ends as one whose
--- last line can't be written, and some beginning of that line is there
-abbrev pub IsLast : Status → Status → List ℕ → Type 0
-IsLast came s text = ((s ≡ came) × (text ≡ last_line came))
-    ⊎ ((s ≡ unwritten came) × IsBeginning (last_line came) text)
-
--- the same, where want of memory may come in place of the status
-abbrev pub IsEnd : Status → Status → List ℕ → Type 0
-IsEnd came s text = IsLast came s text ⊎ IsLast status.Memory s text
 
 -- what a run with these answers wrote: its lines, and then the last line of one of the answers
 pub record IsOutput (P : List Removal → PackageId → Type 0) (IsAnswer : Status → Type 0)

@@ -10,15 +10,14 @@ use Rattle.run_law.specs.Openings.{AreOwners}
 use Rattle.journal.specs.Group as journal
 use Rattle.owner_book.specs.Book.{Book}
 use Rattle.group_run.specs.declared.stop.Stop.{Stop}
-use Rattle.package_run.specs.Packages.{GROUP}
 use Rattle.plan_law.specs.Plans.{Group}
-use Rattle.exchange_make.specs.Made.{package_of}
+use Rattle.exchange_make.specs.Made.{GROUP, package_of}
 use Rattle.exchange_make.specs.declared.made.Made.{Made}
 use Rattle.exchange_make.specs.declared.newcomer.Newcomer.{Newcomer}
 use Rattle.exchange_run.specs.Runs.{IsOfMade, StopsMerge}
 use Rattle.exchange_law.specs.Ends.{IsMerge, image_of}
 use Rattle.atom_plan.specs.Plans.{removals_for}
-use Rattle.emerge_run.specs.Texts.{done_line}
+use Rattle.run_status.specs.Texts.{done_line}
 use Rattle.emerge_run.specs.declared.choosing.Chosen.{Chosen}
 
 -- what a builder is asked for, for this package

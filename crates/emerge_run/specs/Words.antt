@@ -8,9 +8,9 @@ use Rattle.emerge_words.specs.declared.request.Command.TheVariants.{Merge, PlanF
 use Rattle.emerge_words.specs.declared.request.Request.{Request}
 use Rattle.emerge_words.specs.declared.request.WordFault.{WordFault}
 use Rattle.emerge_words.specs.declared.request.WordFault.TheVariants.{Memory}
-use Rattle.emerge_run.specs.declared.status.Part.TheVariants as part
-use Rattle.emerge_run.specs.declared.status.Status.{Status}
-use Rattle.emerge_run.specs.declared.status.Status.TheVariants as status
+use Rattle.run_status.specs.declared.status.Part.TheVariants as part
+use Rattle.run_status.specs.declared.status.Status.{Status}
+use Rattle.run_status.specs.declared.status.Status.TheVariants as status
 
 -- the command merges what this one atom matches, and asks for nothing else: no update, no repair,
 -- no world, no change of a flag

@@ -10,7 +10,9 @@ ghost use Rattle.visible_set.specs.Candidates.{AreOffers};
 ghost use Rattle.exchange_law.specs.Ends.{image_of};
 ghost use Rattle.emerge_run.specs.Answers.{AsksFor, IsRead, IsReady};
 ghost use Rattle.emerge_run.specs.Images.{AreTold};
-ghost use Rattle.emerge_run.specs.Openings.{AreInstalled, AreInstalledAfter, GivesBack, IsUnread};
+ghost use Rattle.opening.specs.Faults.{HasTooMuch};
+ghost use Rattle.emerge_run.specs.Openings.{AreInstalled, AreInstalledAfter, GivesBack};
+ghost use Rattle.emerge_run.specs.Openings.{HasTooMuchAfter, IsUnread};
 ghost use Rattle.emerge_run.specs.Outcomes.{BuildEnds, HasChosen, IsEarly, IsNamed, IsUnmerged};
 ghost use Rattle.emerge_run.specs.Outcomes.{OfSomeBuilder, Outcome};
 ghost use Rattle.emerge_run.specs.Package.{IsTask, order_of};
@@ -21,7 +23,6 @@ ghost use Rattle.emerge_words.specs.declared.request.WordFault.{WordFault};
 use crate::judge::{Read, Standing, read_tree, standing_of};
 use crate::prepare::{chosen_with, find_image};
 use crate::refusal::Refusal;
-use crate::status::{Part, Status};
 use crate::words::read_request;
 use build_pool::{BuildPool, Builder};
 use dep_atom::{Atom, Facts};
@@ -31,6 +32,7 @@ use owner_book::OwnerBook;
 use plan_check::Removal;
 use record_read::Installed;
 use recovery::recover;
+use run_status::{Part, Status};
 use std::alloc::Global;
 
 /// What a run finds before it merges anything.
@@ -72,7 +74,8 @@ pub fn choose<T: Tree, B: Builder>(
         OfSomeBuilder B.tells B.told pool.old.resting (λ image.
         Outcome (map string_bytes words.now) image (T.story tree.old) (T.story tree.new) [] s)) }
     ensures opening { IsTrue T.tells → IfErr result.answer (λ s.
-        GivesBack (AreInstalledAfter (T.story tree.old).now.holds) s result.opening.items) }
+        GivesBack (AreInstalledAfter (T.story tree.old).now.holds)
+        (HasTooMuchAfter (T.story tree.old).now.holds) s result.opening.items) }
     ensures unread { IfErr result.answer (λ s. IsUnread s → result.opening.items ≡ []) }
     ensures early { IfErr result.answer IsEarly }
     ensures unchanged { IsTrue T.tells → IfErr result.answer (λ s. IsOfWords s →
@@ -127,7 +130,8 @@ fn find_package<T: Tree, B: Builder>(
         OfSomeBuilder B.tells B.told pool.old.resting
         (λ image. AsksFor (atom_value atom) (T.story tree.old).now.holds image s)) }
     ensures opening { IsTrue T.tells → IfErr result.answer (λ s.
-        GivesBack (AreInstalled (T.story tree.old).now.holds) s result.opening.items) }
+        GivesBack (AreInstalled (T.story tree.old).now.holds)
+        (HasTooMuch (T.story tree.old).now.holds) s result.opening.items) }
     ensures unread { IfErr result.answer (λ s. IsUnread s → result.opening.items ≡ []) }
     ensures early { IfErr result.answer IsEarly }
     ensures no_usage { (f : WordFault) → ¬ IsErrOf result.answer (Status.Usage f) }
@@ -173,6 +177,7 @@ fn refused(alloc: Global, refusal: Refusal) -> Found
             opening: packages,
             answer: Err(Status::Inconsistent(fault)),
         },
+        Refusal::Limit { quantity } => ended(alloc, Status::Limit { quantity }),
         Refusal::Failed => ended(alloc, Status::DeviceFault),
         Refusal::Memory => ended(alloc, Status::Memory),
     }

@@ -9,13 +9,14 @@ ghost use Rattle.emerge_run.specs.Refusals.{TreeRefuses};
 ghost use Rattle.visible_set.specs.Candidates.{AreOffers};
 
 use crate::refusal::Refusal;
-use crate::status::Reason;
 use atom_plan::is_accepted;
 use dep_atom::{Atom, Facts, PackageId};
 use file_tree::Tree;
 use opening::{Opening, is_matched, read_opening};
 use owner_book::OwnerBook;
+use pms_names::Flags;
 use record_read::Installed;
+use run_status::Reason;
 use std::alloc::{AllocError, Global};
 use visible_set::{candidates, choose};
 
@@ -59,7 +60,8 @@ pub fn read_tree<T: Tree>(alloc: Global, tree: &mut T, atom: &Atom) -> Result<Re
         (T.faults tree.new) }
 {
     let offers = candidates(alloc, tree, &atom.name)?;
-    let opening = read_opening(alloc, tree)?;
+    let implicit = Flags::new(alloc);
+    let opening = read_opening(alloc, tree, &implicit)?;
     let Opening { packages, book } = opening;
     Ok(Read {
         offers,

@@ -21,16 +21,12 @@
 #![tactic(auto)]
 
 mod choosing;
-mod ending;
 mod images;
 mod judge;
 mod merging;
 mod prepare;
 mod refusal;
 mod run;
-mod status;
-mod texts;
 mod words;
 
 pub use run::{Ended, emerge};
-pub use status::{Part, Reason, Status};

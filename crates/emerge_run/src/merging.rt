@@ -1,4 +1,5 @@
 ghost use Rattle.std.specs.Prelude.{◌≡◌, ◌⊎◌, [], ℕ, IsTrue, MatchOption, length, map};
+ghost use Rattle.std.specs.Option.{option_copied};
 ghost use Rattle.file_tree.specs.Disk.{CountsFault};
 ghost use Rattle.group_run.specs.Applied.{number};
 ghost use Rattle.group_run.specs.Lines.{AreLines, Wrote};
@@ -7,17 +8,19 @@ ghost use Rattle.exchange_law.specs.Ends.{image_of};
 ghost use Rattle.atom_plan.specs.Plans.{group_for};
 ghost use Rattle.emerge_run.specs.Outcomes.{IsOfMerge, IsRefusal, MergedTo};
 ghost use Rattle.emerge_run.specs.Package.{IsTask};
-ghost use Rattle.emerge_run.specs.Refusals.{status_of_claim, status_of_end, status_of_stop};
-ghost use Rattle.emerge_run.specs.Texts.{done_line};
+ghost use Rattle.emerge_run.specs.Collisions.{owned_by, status_of_collision};
+ghost use Rattle.emerge_run.specs.Refusals.{Collides, CollidesAt, IsOrNameless, IsStatusOf};
+ghost use Rattle.emerge_run.specs.Refusals.{status_of_claim, status_of_stop};
+ghost use Rattle.run_status.specs.Texts.{done_line};
 
 use crate::choosing::Chosen;
 use crate::run::Reached;
-use crate::status::Status;
 use exchange_run::merge_exchange;
-use file_tree::{Quantity, Sink, Tree};
+use file_tree::{Path, Quantity, Sink, Tree};
 use group_run::{Merged, Stop};
 use merge_site::ClaimStop;
 use record_read::Installed;
+use run_status::{Collision, Status};
 use std::alloc::Global;
 
 /// Merges the package that was chosen, and tells how that ended.
@@ -64,7 +67,7 @@ pub fn merge_chosen<T: Tree, S: Sink>(
         history,
         acknowledged,
     } = merge_exchange(alloc, tree, out, &opening, &removals, additions);
-    let status = status_of_end(end, history.len() as u32);
+    let status = status_of_end(&opening, end, history.len() as u32);
     Reached {
         status,
         tree,
@@ -76,24 +79,24 @@ pub fn merge_chosen<T: Tree, S: Sink>(
     }
 }
 
-/// The status of a merge that ended so, with so many groups.
-fn status_of_end(end: Result<(), Stop>, groups: u32) -> Status
-    ensures { result ≡ status_of_end groups end }
+/// The status of a merge over these packages that ended so, with so many groups.
+fn status_of_end(packages: &[Installed], end: Result<(), Stop>, groups: u32) -> Status
+    ensures { IsStatusOf packages.now groups end result }
 {
     match end {
         Ok(()) => Status::Ok { groups },
-        Err(stop) => status_of_stop(stop),
+        Err(stop) => status_of_stop(packages, stop),
     }
 }
 
-fn status_of_stop(stop: Stop) -> Status
-    ensures { result ≡ status_of_stop stop }
+fn status_of_stop(packages: &[Installed], stop: Stop) -> Status
+    ensures { IsOrNameless (status_of_stop packages.now stop) (CollidesAt stop) result }
 {
     match stop {
         Stop::Device => Status::DeviceFault,
         Stop::Output => Status::OutputFault,
         Stop::Image(bad) => Status::BadImage(bad),
-        Stop::Claim(claim) => status_of_claim(claim),
+        Stop::Claim(claim) => status_of_claim(packages, claim),
         Stop::Limit => Status::Limit {
             quantity: Quantity::RecordBytes,
         },
@@ -103,16 +106,49 @@ fn status_of_stop(stop: Stop) -> Status
 
 /// The status of a claim that was stopped so. What is removed is owned, and each path comes once, as
 /// far as the tree tells: one that tells otherwise from look to look is told as want of memory.
-fn status_of_claim(claim: ClaimStop) -> Status
-    ensures { result ≡ status_of_claim claim }
+fn status_of_claim(packages: &[Installed], claim: ClaimStop) -> Status
+    ensures { IsOrNameless (status_of_claim packages.now claim) (Collides claim) result }
 {
     match claim {
         ClaimStop::Device => Status::DeviceFault,
-        ClaimStop::Collision(collision) => Status::Collision(collision),
+        ClaimStop::Collision(collision) => status_of_collision(packages, collision),
         ClaimStop::Image(bad) => Status::BadImage(bad),
         ClaimStop::Limit => Status::Limit {
             quantity: Quantity::Paths,
         },
         ClaimStop::Removal { .. } | ClaimStop::Overlap | ClaimStop::Memory => Status::Memory,
+    }
+}
+
+/// The status of a collision in the book, whose keys are the places of these packages.
+fn status_of_collision(packages: &[Installed], collision: owner_book::Collision) -> Status
+    ensures { (result ≡ status_of_collision packages.now collision) ⊎ (result ≡ Status.Memory) }
+{
+    match collision {
+        owner_book::Collision::Owned { path, owner } => owned_by(
+            path,
+            packages.get(owner.number as usize),
+        ),
+        owner_book::Collision::Claimed { path, group } => {
+            Status::Collision(Collision::Claimed { path, group })
+        }
+        owner_book::Collision::Ancestor { path, other } => {
+            Status::Collision(Collision::Ancestor { path, other })
+        }
+        owner_book::Collision::Unowned { path } => Status::Collision(Collision::Unowned { path }),
+    }
+}
+
+/// The status of a path that the package owns.
+fn owned_by(path: Path, owner: Option<&Installed>) -> Status
+    ensures { (result ≡ owned_by path (option_copied owner.entry))
+        ⊎ (result ≡ Status.Memory) }
+{
+    let Some(package) = owner else {
+        return Status::Memory;
+    };
+    match package.pkg.facts.id.try_clone() {
+        Ok(owner) => Status::Collision(Collision::Owned { path, owner }),
+        Err(_) => Status::Memory,
     }
 }

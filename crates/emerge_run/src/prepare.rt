@@ -11,8 +11,6 @@ ghost use Rattle.emerge_run.specs.Package.{IsTask, order_of};
 
 use crate::choosing::Chosen;
 use crate::images::built_image;
-use crate::status::Status;
-use crate::texts::line_of_group;
 use atom_plan::{needing_nothing, removals_for};
 use build_pool::{BuildPool, BuildStop, Builder, Order};
 use dep_atom::Facts;
@@ -21,6 +19,7 @@ use exchange_run::Additions;
 use file_tree::{Entry, Quantity};
 use owner_book::OwnerBook;
 use record_read::Installed;
+use run_status::{Status, line_of_group};
 use std::alloc::{AllocError, Global};
 
 /// Has the image of a package built.

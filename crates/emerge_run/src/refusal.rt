@@ -1,12 +1,8 @@
-use crate::status::Status;
 use database_read::DatabaseFault;
-use emerge_words::WordFault;
-use file_tree::{Failed, Quantity, TreeFault};
+use file_tree::Quantity;
 use opening::OpeningFault;
 use pkg_state::Broken;
 use record_read::Installed;
-use recovery::RecoverFault;
-use std::alloc::AllocError;
 use visible_set::CandidateFault;
 
 /// Why a look at the tree ends the run.
@@ -19,6 +15,10 @@ pub enum Refusal {
     Inconsistent {
         fault: Broken,
         packages: Vec<Installed>,
+    },
+    /// The database has more of the quantity than may be.
+    Limit {
+        quantity: Quantity,
     },
     Failed,
     Memory,
@@ -36,6 +36,7 @@ impl From<OpeningFault> for Refusal {
             OpeningFault::Inconsistent { fault, packages } => {
                 Refusal::Inconsistent { fault, packages }
             }
+            OpeningFault::Limit { quantity } => Refusal::Limit { quantity },
             OpeningFault::Failed => Refusal::Failed,
             OpeningFault::Memory => Refusal::Memory,
         }
@@ -54,67 +55,5 @@ impl From<CandidateFault> for Refusal {
             CandidateFault::Failed => Refusal::Failed,
             CandidateFault::Memory => Refusal::Memory,
         }
-    }
-}
-
-impl From<TreeFault> for Status {
-    ghost use Rattle.std.specs.Prelude.{◌≡◌};
-    ghost use Rattle.emerge_run.specs.Refusals.{status_of_tree};
-
-    ghost from_gives = { λ f s. s ≡ status_of_tree f };
-
-    fn from(fault: TreeFault) -> Status {
-        match fault {
-            TreeFault::Failed => Status::DeviceFault,
-            TreeFault::Memory => Status::Memory,
-        }
-    }
-}
-
-impl From<RecoverFault> for Status {
-    ghost use Rattle.std.specs.Prelude.{◌≡◌};
-    ghost use Rattle.emerge_run.specs.Refusals.{status_of_recovery};
-
-    ghost from_gives = { λ f s. s ≡ status_of_recovery f };
-
-    fn from(fault: RecoverFault) -> Status {
-        match fault {
-            RecoverFault::BadRecord { group } => {
-                Status::BadJournal(RecoverFault::BadRecord { group })
-            }
-            RecoverFault::BadStage { group, index } => {
-                Status::BadJournal(RecoverFault::BadStage { group, index })
-            }
-            RecoverFault::Limit => Status::Limit {
-                quantity: Quantity::Groups,
-            },
-            RecoverFault::Failed => Status::DeviceFault,
-            RecoverFault::Memory => Status::Memory,
-        }
-    }
-}
-
-impl From<WordFault> for Status {
-    ghost use Rattle.std.specs.Prelude.{◌≡◌};
-    ghost use Rattle.emerge_run.specs.Refusals.{status_of_word};
-
-    ghost from_gives = { λ f s. s ≡ status_of_word f };
-
-    fn from(fault: WordFault) -> Status {
-        match fault {
-            WordFault::Memory => Status::Memory,
-            fault => Status::Usage { fault },
-        }
-    }
-}
-
-impl From<AllocError> for Status {
-    ghost use Rattle.std.specs.Prelude.{◌≡◌};
-    ghost use Rattle.emerge_run.specs.declared.status.Status.TheVariants as status;
-
-    ghost from_gives = { λ _ s. s ≡ status.Memory };
-
-    fn from(_: AllocError) -> Status {
-        Status::Memory
     }
 }

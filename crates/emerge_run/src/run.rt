@@ -3,7 +3,7 @@ ghost use Rattle.std.specs.Prelude.{List, None, string_bytes};
 ghost use Rattle.file_tree.specs.Disk.{Map, Rose};
 ghost use Rattle.build_pool.specs.Pool.{PoolRose, SameIds};
 ghost use Rattle.dep_atom.specs.declared.package.PackageId.{PackageId};
-ghost use Rattle.emerge_run.specs.Openings.{AreInstalledAfter, GivesBack, IsUnread};
+ghost use Rattle.emerge_run.specs.Openings.{AreInstalledAfter, GivesBack, HasTooMuchAfter, IsUnread};
 ghost use Rattle.database_law.specs.Packages.{Installed};
 ghost use Rattle.run_law.specs.Ends.{BeginsWith};
 ghost use Rattle.emerge_run.specs.Headline.{Headline};
@@ -15,13 +15,12 @@ ghost use Rattle.emerge_run.specs.Words.{AskForPackage, IsOfWords, IsUsage};
 ghost use Rattle.emerge_words.specs.declared.request.WordFault.{WordFault};
 
 use crate::choosing::{Found, choose};
-use crate::ending::finish;
 use crate::merging::merge_chosen;
-use crate::status::Status;
 use build_pool::{BuildPool, Builder};
 use file_tree::{Sink, Tree};
 use merge_core::Core;
 use record_read::Installed;
+use run_status::{Status, finish};
 use std::alloc::Global;
 
 /// What a run gives back: how it ended, what it was lent, and its groups.
@@ -85,14 +84,14 @@ pub fn emerge<T: Tree + Send, S: Sink + Send, B: Builder + Send>(
     ensures begun { IsTrue T.tells → (result.machine ≡ None) ⊎
         AreInstalledAfter (T.story tree).now.holds result.opening.items }
     ensures opening { IsTrue T.tells → GivesBack (AreInstalledAfter (T.story tree).now.holds)
-        result.status result.opening.items }
+        (HasTooMuchAfter (T.story tree).now.holds) result.status result.opening.items }
     ensures unread { IsUnread result.status → result.opening.items ≡ [] }
 
     // From a disk whose packages go together, and which keeps what they recorded, a crash at any
     // moment recovers to such a tree: with the same packages, or with those after the group by which
     // the chosen one comes, and what stands on its line goes.
     ensures headline { IsTrue T.tells → (m : Map) (ps : List Installed) →
-        BeginsWith (T.story tree).now m ps → Headline (map string_bytes words.now) m ps
+        BeginsWith [] (T.story tree).now m ps → Headline (map string_bytes words.now) m ps
         (T.story tree) (T.story result.tree) result.history.items result.status }
 
     // The history is the order of the machine, and its beginning is acknowledged.
@@ -170,7 +169,7 @@ fn attempt<T: Tree, S: Sink, B: Builder>(
     ensures begun { IsTrue T.tells → (result.machine ≡ None) ⊎
         AreInstalledAfter (T.story tree).now.holds result.opening.items }
     ensures opening { IsTrue T.tells → GivesBack (AreInstalledAfter (T.story tree).now.holds)
-        result.status result.opening.items }
+        (HasTooMuchAfter (T.story tree).now.holds) result.status result.opening.items }
     ensures unread { IsUnread result.status → result.opening.items ≡ [] }
     ensures machine { MatchOption result.machine (result.history.items ≡ [])
         (λ k. result.history.items ≡ map number k.order) }

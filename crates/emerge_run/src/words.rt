@@ -2,9 +2,9 @@ ghost use Rattle.std.specs.Prelude.{◌≡◌, ◌∷◌, [], IfErr, IfOk, Match
 ghost use Rattle.dep_atom.specs.Values.{AtomValue, atom_value};
 ghost use Rattle.emerge_run.specs.Words.{EndsAtWords, IsMergeOf, IsPlain, IsRequest};
 
-use crate::status::{Part, Status};
 use dep_atom::Atom;
 use emerge_words::{Command, Request, read};
+use run_status::{Part, Status};
 use std::alloc::Global;
 
 /// Reads the words of a run as the atom that it merges.

@@ -1,10 +1,9 @@
 -- What a package owns, by what is listed below its folder.
-use Rattle.std.proofs.Common.{◌≡◌, ◌∙◌, ℕ, true, List, ◌∷◌, ◌++◌, drop, map, inl, inr, refl, ap, sym, subst, append_assoc}
+use Rattle.std.proofs.Common.{◌≡◌, ◌∙◌, ℕ, true, List, ◌∷◌, ◌++◌, drop, inl, inr, refl, ap, sym, subst, append_assoc}
 use Rattle.std.specs.Prelude.{◌↔◌, codes}
 use Rattle.std.proofs.lemmas.List.{append_cancel_left}
 use Rattle.basics.specs.Members.{Has}
 use Rattle.basics.proofs.Membership.{contains-from_has, has-append_cases, has-append_left, has-append_right, has-from_contains}
-use Rattle.contents_text.specs.Contents.{path_of}
 use Rattle.dep_atom.specs.Ids.{IsId, id_text, name_and_version}
 use Rattle.dep_atom.proofs.Cuts.{cut_once}
 use Rattle.dep_atom.specs.declared.package.PackageId.{PackageId}

@@ -1,8 +1,7 @@
 -- Packages that change their places stay as consistent as they are.
-use Rattle.std.proofs.Common.{◌≡◌, ◌∙◌, ◌<◌, ◌+◌, ◌||◌, ℕ, zero, suc, Bool, true, false, List, [], ◌∷◌, length, get_or, map, refl, ap, sym, subst, arith}
+use Rattle.std.proofs.Common.{◌≡◌, ◌∙◌, ◌<◌, ◌+◌, ◌||◌, ℕ, zero, suc, Bool, false, List, [], ◌∷◌, length, get_or, is_lt, map, refl, ap, sym, subst, arith}
 use Rattle.std.specs.Cmp.{IsTotalOrder}
-use Rattle.std.specs.List.{list_any}
-use Rattle.std.specs.List.Sorted.{IsPermutation, IsSortedBy}
+use Rattle.std.specs.List.Sorted.{IsPermutation, IsSorted, IsSortedBy}
 use Rattle.std.proofs.lemmas.Cmp.{nat_list_cmp_total, on_total, then_total}
 use Rattle.std.proofs.lemmas.List.{length-map}
 use Rattle.std.proofs.lemmas.List.Sorted.{IsPermutation-map, IsPermutation-sym, list_any-IsPermutation}
@@ -12,15 +11,16 @@ use Rattle.basics.proofs.Permutations.{distinct-moved, has-moved}
 use Rattle.pms_names.specs.Flags.{has}
 use Rattle.dep_atom.specs.Match.{value_matches}
 use Rattle.dep_atom.specs.Values.{AtomValue}
-use Rattle.dep_atom.specs.declared.package.Facts.{Facts}
 use Rattle.dep_group.specs.Trees.{all_hold}
 use Rattle.dep_tree.specs.Grammar.{is_block}
 use Rattle.dep_tree.specs.Truth.{is_fact, kind}
 use Rattle.pkg_state.specs.Consistent.{AreConsistent, facts_of, is_met}
 use Rattle.pkg_state.specs.Package.{Package, line_of, lines_of, tree_of}
-use Rattle.pkg_state.specs.declared.class.Class.{Class}
 use Rattle.pkg_state.specs.declared.class.Class.TheVariants.{Rdepend}
-use Rattle.opening.specs.Order.{line_cmp}
+use Rattle.database_law.specs.Packages.{Installed}
+use Rattle.commit_law.specs.Lit.{lit, packages_of}
+use Rattle.opening.specs.Order.{AreInLineOrder, line_cmp, recorded_of}
+use Rattle.opening.specs.declared.order.Lined.{Lined}
 
 -- the order of lines is total
 pub line_total : IsTotalOrder line_cmp
@@ -40,6 +40,23 @@ sorted_through {A} {B} f lt (x ∷ xs) sorted k d low less =
     read_through [] i e y lt' = absurd (omega (arith, lt'))
     read_through (z ∷ ys) zero e y lt' = refl
     read_through (z ∷ ys) (suc i) e y lt' = read_through ys i e y (omega (arith, lt'))
+
+lit_packages : (flags : List (List ℕ)) (ps : List Installed) → map (lit flags) (recorded_of ps) ≡ packages_of flags ps
+lit_packages flags [] = refl
+lit_packages flags (p ∷ ps) = ap (λ (l : List Package). lit flags p.package_is ∷ l) (lit_packages flags ps)
+
+lit_lined : (flags : List (List ℕ)) (ls : List Lined) → map (lit flags) (map (λ (l : Lined). l.pkg.now) ls) ≡ map (λ (l : Lined). lit flags l.pkg.now) ls
+lit_lined flags [] = refl
+lit_lined flags (l ∷ ls) = ap (λ (ps : List Package). lit flags l.pkg.now ∷ ps) (lit_lined flags ls)
+
+-- flags that are on beside their own leave packages in line order
+pub lit_order : (flags : List (List ℕ)) (ps : List Installed) (ls : List Lined) → AreInLineOrder (recorded_of ps) (map (λ (l : Lined). l.pkg.now) ls) → AreInLineOrder (packages_of flags ps) (map (λ (l : Lined). lit flags l.pkg.now) ls)
+lit_order flags ps ls order = record {
+  moved = subst (λ (xs : List Package). IsPermutation xs (map (λ (l : Lined). lit flags l.pkg.now) ls)) (lit_packages flags ps)
+      (subst (λ (ys : List Package). IsPermutation (map (lit flags) (recorded_of ps)) ys) (lit_lined flags ls) (IsPermutation-map (lit flags) (recorded_of ps) (map (λ (l : Lined). l.pkg.now) ls) order.moved));
+  sorted = subst (λ (ys : List Package). IsSorted line_cmp ys) (lit_lined flags ls)
+      (sorted_through (lit flags) (λ p q. is_lt (line_cmp p q)) (map (λ (l : Lined). l.pkg.now) ls) order.sorted);
+}
 
 module _ (ps qs : List Package) (perm : IsPermutation ps qs) where
   same_fact : (asker : List (List ℕ)) (a : AtomValue) → is_fact (facts_of ps) asker a ≡ is_fact (facts_of qs) asker a

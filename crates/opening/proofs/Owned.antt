@@ -1,15 +1,13 @@
 -- The owners that a book of packages has.
-use Rattle.std.proofs.Common.{◌≡◌, ◌∙◌, ◌+◌, ◌<◌, ℕ, zero, suc, Bool, true, false, List, [], ◌∷◌, ◌++◌, Option, Some, None, Vec, Global, length, take, get_or, inl, inr, map, refl, ap, arith, subst, sym}
+use Rattle.std.proofs.Common.{◌≡◌, ◌∙◌, ◌+◌, ◌<◌, ℕ, zero, suc, Bool, List, [], ◌∷◌, ◌++◌, Option, Some, Vec, Global, length, take, get_or, inl, inr, map, refl, ap, arith, subst, sym}
 use Rattle.std.specs.Prelude.{IsSome, bytes_eq, if◌then◌else◌, is_some, slice_get}
 use Rattle.std.specs.List.Sorted.{IsStrictlySortedBy}
-use Rattle.std.specs.declared.cmp.Ordering.TheVariants.{Less}
 use Rattle.std.proofs.lemmas.Bool.{cases_Bool, cond-false, cond-true}
 use Rattle.std.proofs.lemmas.List.{length-take, take_more}
-use Rattle.std.proofs.lemmas.Slice.Eq.{bytes_eq-Decides}
 use Rattle.basics.specs.Members.{Has}
 use Rattle.basics.proofs.Texts.{bytes_eq-apart, bytes_eq-same, not_less}
 use Rattle.basics.proofs.Tests.{none_is_not_some}
-use Rattle.pms_names.specs.Flags.{IsRising, byte_order}
+use Rattle.pms_names.specs.Flags.{IsRising}
 use Rattle.file_tree.specs.Disk.{Map}
 use Rattle.merge_record.specs.Judging.{is_in}
 use Rattle.merge_record.specs.declared.record.OwnerKey.{OwnerKey}

@@ -1,25 +1,28 @@
 -- What a tree is refused for, where a run would begin with it.
-use Rattle.std.specs.Prelude.{◌≡◌, List, Option, Some, Vec, ⊤}
+use Rattle.std.specs.Prelude.{◌≡◌, ℕ, List, Some, Vec, ⊤}
 use Rattle.std.specs.Global.{Global}
 use Rattle.file_tree.specs.Disk.{Map}
 use Rattle.file_tree.specs.declared.fault.TreeFault.{TreeFault}
 use Rattle.file_tree.specs.declared.fault.TreeFault.TheVariants as trees
+use Rattle.file_tree.specs.declared.limits.Quantity.{Quantity}
 use Rattle.pkg_state.specs.Fault.{Fault, told}
 use Rattle.pkg_state.specs.declared.broken.Broken.{Broken}
 use Rattle.pkg_state.specs.declared.broken.Broken.TheVariants as broken
 use Rattle.database_law.specs.Database.{IsDatabase, IsTidy}
 use Rattle.database_law.specs.Packages.{Installed}
 use Rattle.database_read.specs.Faults.{FirstFault}
+use Rattle.database_read.specs.Limits.{AreMany, AreWithin}
 use Rattle.database_read.specs.declared.fault.DatabaseFault.{DatabaseFault}
 use Rattle.database_read.specs.declared.fault.DatabaseFault.TheVariants as databases
-use Rattle.run_law.specs.Openings.{packages_of}
+use Rattle.commit_law.specs.Lit.{packages_of}
 use Rattle.opening.specs.Order.{IsFirstInOrder}
 use Rattle.opening.specs.declared.fault.OpeningFault.{OpeningFault}
-use Rattle.opening.specs.declared.fault.OpeningFault.TheVariants.{Database, Inconsistent, Failed, Memory}
+use Rattle.opening.specs.declared.fault.OpeningFault.TheVariants.{Database, Inconsistent, Limit, Failed, Memory}
 
 abbrev pub fault_of : DatabaseFault → OpeningFault
 fault_of databases.Failed = Failed
 fault_of databases.Memory = Memory
+fault_of (databases.Limit quantity) = Limit quantity
 fault_of fault = Database fault
 
 abbrev pub fault_of_tree : TreeFault → OpeningFault
@@ -40,29 +43,45 @@ IsOfMachine fault = ⊥
 abbrev pub IsBadDatabase : Map → DatabaseFault → Type 0
 IsBadDatabase m databases.Failed = ⊥
 IsBadDatabase m databases.Memory = ⊥
+IsBadDatabase m (databases.Limit quantity) = ⊥
 IsBadDatabase m fault = FirstFault m fault
 
--- the packages don't go together, and this is first wrong with them in line order
-pub record AreBroken (ps : List Installed) (fault : Broken) : Type 0 where
+-- the map has a database with more of the quantity than may be
+abbrev pub HasTooMuch : Map → Quantity → Type 0
+HasTooMuch m quantity = (ps : List Installed) × IsDatabase m ps × AreMany ps quantity
+
+-- the fault tells what there is too much of with these packages
+abbrev pub ArePast : List Installed → OpeningFault → Type 0
+ArePast ps (Limit quantity) = AreMany ps quantity
+ArePast ps fault = ⊥
+
+-- the packages don't go together with these flags on, and this is first wrong with them in line
+-- order
+pub record AreBroken (flags : List (List ℕ)) (ps : List Installed) (fault : Broken) :
+    Type 0 where
   pub says : Fault
   pub is : told fault ≡ Some says
-  pub first : IsFirstInOrder (packages_of ps) says
+  pub first : IsFirstInOrder (packages_of flags ps) says
 
--- the map's database has these packages, which are apart, and don't go together
-pub record IsInconsistent (m : Map) (ps : List Installed) (fault : Broken) : Type 0 where
+-- the map's database has these packages, within the limits, which are apart and don't go together
+-- with these flags on
+pub record IsInconsistent (flags : List (List ℕ)) (m : Map) (ps : List Installed)
+    (fault : Broken) : Type 0 where
   pub database : IsDatabase m ps
+  pub within : AreWithin ps
   pub tidy : IsTidy ps
-  pub broken : AreBroken ps fault
+  pub broken : AreBroken flags ps fault
 
 -- what is told of packages that don't go together
-abbrev pub IsUnfit : List Installed → OpeningFault → Type 0
-IsUnfit ps (Inconsistent fault packages) = (packages.items ≡ ps) × AreBroken ps fault
-IsUnfit ps Memory = ⊤
-IsUnfit ps fault = ⊥
+abbrev pub IsUnfit : List (List ℕ) → List Installed → OpeningFault → Type 0
+IsUnfit flags ps (Inconsistent fault packages) = (packages.items ≡ ps) × AreBroken flags ps fault
+IsUnfit flags ps Memory = ⊤
+IsUnfit flags ps fault = ⊥
 
 -- what the tree is refused for; a failure and want of memory say nothing of it
-abbrev pub Refuses : Map → OpeningFault → Type 0
-Refuses m (Database fault) = IsBadDatabase m fault
-Refuses m (Inconsistent fault packages) = IsInconsistent m packages.items fault
-Refuses m Failed = ⊤
-Refuses m Memory = ⊤
+abbrev pub Refuses : List (List ℕ) → Map → OpeningFault → Type 0
+Refuses flags m (Database fault) = IsBadDatabase m fault
+Refuses flags m (Inconsistent fault packages) = IsInconsistent flags m packages.items fault
+Refuses flags m (Limit quantity) = HasTooMuch m quantity
+Refuses flags m Failed = ⊤
+Refuses flags m Memory = ⊤

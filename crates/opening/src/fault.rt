@@ -1,5 +1,5 @@
 use database_read::DatabaseFault;
-use file_tree::TreeFault;
+use file_tree::{Quantity, TreeFault};
 use pkg_state::Broken;
 use record_read::Installed;
 use std::alloc::{AllocError, AllocFailed};
@@ -17,6 +17,11 @@ pub enum OpeningFault {
         fault: Broken,
         packages: Vec<Installed>,
     },
+    /// More packages are installed than may be, or they own more paths.
+    #[error("the database has too much of a quantity")]
+    Limit {
+        quantity: Quantity,
+    },
     #[error("the device failed")]
     Failed,
     #[error("out of memory")]
@@ -33,6 +38,7 @@ impl From<DatabaseFault> for OpeningFault {
         match fault {
             DatabaseFault::Failed => OpeningFault::Failed,
             DatabaseFault::Memory => OpeningFault::Memory,
+            DatabaseFault::Limit { quantity } => OpeningFault::Limit { quantity },
             fault => OpeningFault::Database(fault),
         }
     }

@@ -2,7 +2,7 @@ ghost use Rattle.std.specs.Prelude.{◌≡◌, IfErr, IfOk, IfSome, OnOk};
 ghost use Rattle.pkg_state.specs.Consistent.{AreConsistent};
 ghost use Rattle.pkg_state.specs.Fault.{told};
 ghost use Rattle.pkg_state.specs.declared.broken.Broken.TheVariants.{Memory};
-ghost use Rattle.run_law.specs.Openings.{packages_of};
+ghost use Rattle.commit_law.specs.Lit.{packages_of};
 ghost use Rattle.opening.specs.Faults.{IsUnfit, refusal_of};
 ghost use Rattle.opening.specs.Order.{IsFirstInOrder};
 ghost use Rattle.opening.specs.declared.fault.OpeningFault.TheVariants as faults;
@@ -10,34 +10,37 @@ ghost use Rattle.opening.specs.declared.fault.OpeningFault.TheVariants as faults
 use crate::fault::OpeningFault;
 use crate::order::in_line_order;
 use pkg_state::{Broken, consistent};
+use pms_names::Flags;
 use record_read::Installed;
 use std::alloc::Global;
 
-/// The packages, if they go together.
+/// The packages, if they go together with these flags on beside their own.
 pub(crate) fn judged(
     alloc: Global,
     packages: Vec<Installed>,
+    implicit: &Flags,
 ) -> Result<Vec<Installed>, OpeningFault>
     ensures same { IfOk result (λ v. v.items ≡ packages.items) }
-    ensures consistent { IfOk result (λ v. AreConsistent (packages_of v.items)) }
-    ensures unfit { IfErr result (IsUnfit packages.items) }
-    ensures fine { AreConsistent (packages_of packages.items) →
+    ensures consistent { IfOk result (λ v. AreConsistent (packages_of implicit.now v.items)) }
+    ensures unfit { IfErr result (IsUnfit implicit.now packages.items) }
+    ensures fine { AreConsistent (packages_of implicit.now packages.items) →
         IfErr result (λ e. e ≡ faults.Memory) }
 {
-    match judge(alloc, &packages) {
+    match judge(alloc, &packages, implicit) {
         Ok(()) => Ok(packages),
         Err(fault) => Err(refusal_of(fault, packages)),
     }
 }
 
 /// Judges the packages in line order.
-fn judge(alloc: Global, packages: &[Installed]) -> Result<(), Broken>
-    ensures ok { OnOk result (AreConsistent (packages_of packages.now)) }
+fn judge(alloc: Global, packages: &[Installed], implicit: &Flags) -> Result<(), Broken>
+    ensures ok { OnOk result (AreConsistent (packages_of implicit.now packages.now)) }
     ensures fault { IfErr result
-        (λ e. IfSome (told e) (IsFirstInOrder (packages_of packages.now))) }
-    ensures fine { AreConsistent (packages_of packages.now) → IfErr result (λ e. e ≡ Memory) }
+        (λ e. IfSome (told e) (IsFirstInOrder (packages_of implicit.now packages.now))) }
+    ensures fine { AreConsistent (packages_of implicit.now packages.now) →
+        IfErr result (λ e. e ≡ Memory) }
 {
-    let ordered = in_line_order(alloc, packages)?;
+    let ordered = in_line_order(alloc, packages, implicit)?;
     consistent(alloc, &ordered)
 }
 

@@ -1,24 +1,25 @@
-//! The installed packages that a run begins with, and what may come beside them.
+//! The installed packages that a run begins with.
 //!
-//! **A contract sees** a tree as its story, and an installed package as plain data.
+//! **A contract sees** a tree as its story, an installed package as plain data, and flags as the list
+//! of their texts.
 //!
 //! **Proved**: the packages of a tree are read exactly where it has a database, no two of its
-//! packages are in each other's way, and they go together; else the first fault is told. The
-//! ownership book has them as the owners of what they recorded and of their own folders. Which of
-//! them an atom matches, and whether one more package may come beside them, is answered exactly.
+//! packages are in each other's way, and they go together with the flags on that the run has on for
+//! every package; else the first fault is told. They come back as they are recorded. The ownership
+//! book has them as the owners of what they recorded and of their own folders. Whether an atom
+//! matches one of them is answered exactly.
 //!
 //! **Only tested**: nothing yet.
 //!
 //! ```
-//! let opening = read_opening(alloc, &mut tree)?;
-//! let joins = may_join(alloc, &facts, &opening.packages)?;
+//! let opening = read_opening(alloc, &mut tree, &implicit)?;
+//! let there = is_matched(alloc, &atom, &opening.packages);
 //! ```
 #![tactic(auto)]
 
-mod copies;
 mod fault;
-mod joining;
 mod judging;
+mod lighting;
 mod opened;
 mod order;
 mod owners;
@@ -26,7 +27,8 @@ mod places;
 mod reading;
 
 pub use fault::OpeningFault;
-pub use joining::may_join;
+pub use lighting::lit;
 pub use opened::Opening;
+pub use owners::paths_of;
 pub use places::is_matched;
 pub use reading::read_opening;

@@ -1,9 +1,11 @@
 ghost use Rattle.std.specs.Prelude.{◌≡◌, IfOk, map};
 ghost use Rattle.pkg_state.specs.Package.{line_of};
-ghost use Rattle.run_law.specs.Openings.{packages_of};
-ghost use Rattle.opening.specs.Order.{AreInLineOrder, line_cmp};
+ghost use Rattle.commit_law.specs.Lit.{packages_of};
+ghost use Rattle.opening.specs.Order.{AreInLineOrder, line_cmp, recorded_of};
 
-use pkg_state::{LineName, Pkg, copy_package};
+use crate::lighting::lit;
+use pkg_state::{LineName, Pkg};
+use pms_names::Flags;
 use record_read::Installed;
 use std::alloc::{AllocError, Global};
 use std::cmp::Ordering;
@@ -16,20 +18,24 @@ struct Lined<'a> {
     ghost own: { line ≡ line_of pkg.now.facts },
 }
 
-/// Copies of the packages, in line order.
-pub(crate) fn in_line_order(alloc: Global, packages: &[Installed]) -> Result<Vec<Pkg>, AllocError>
-    ensures { IfOk result (λ v. AreInLineOrder (packages_of packages.now) v.items) }
+/// Copies of the packages with these flags on, in line order.
+pub(crate) fn in_line_order(
+    alloc: Global,
+    packages: &[Installed],
+    implicit: &Flags,
+) -> Result<Vec<Pkg>, AllocError>
+    ensures { IfOk result (λ v. AreInLineOrder (packages_of implicit.now packages.now) v.items) }
 {
     let lined = sorted(alloc, packages)?;
     let mut copies = Vec::with_capacity(alloc, lined.len())?;
     for one in &lined {
-        copies.push(copy_package(one.pkg)?)?;
+        copies.push(lit(one.pkg, implicit)?)?;
     }
     Ok(copies)
 }
 
 fn sorted(alloc: Global, packages: &[Installed]) -> Result<Vec<Lined<'_>>, AllocError>
-    ensures { IfOk result (λ v. AreInLineOrder (packages_of packages.now)
+    ensures { IfOk result (λ v. AreInLineOrder (recorded_of packages.now)
         (map (λ l. l.pkg.now) v.items)) }
 {
     let mut lined = all_lined(alloc, packages)?;
@@ -38,7 +44,7 @@ fn sorted(alloc: Global, packages: &[Installed]) -> Result<Vec<Lined<'_>>, Alloc
 }
 
 fn all_lined(alloc: Global, packages: &[Installed]) -> Result<Vec<Lined<'_>>, AllocError>
-    ensures { IfOk result (λ v. map (λ l. l.pkg.now) v.items ≡ packages_of packages.now) }
+    ensures { IfOk result (λ v. map (λ l. l.pkg.now) v.items ≡ recorded_of packages.now) }
 {
     let mut lined = Vec::with_capacity(alloc, packages.len())?;
     for package in packages {

@@ -57,8 +57,9 @@ fn rows_of<T: Tree>(
     Ok(rows)
 }
 
-/// The paths that a package owns.
-fn paths_of<T: Tree>(
+/// The paths that a package owns: those in its own folder of the tree's database, and then those that
+/// it recorded.
+pub fn paths_of<T: Tree>(
     alloc: Global,
     tree: &mut T,
     package: &Installed,

@@ -6,24 +6,26 @@ use Rattle.database_law.specs.Packages.{Installed}
 use Rattle.path_overlap.specs.Overlaps.{IsFirstOverlap}
 use Rattle.path_overlap.specs.declared.overlap.Overlap.{Overlap}
 use Rattle.database_read.specs.Faults.{FirstFault, Overlaps, overlap_fault}
+use Rattle.database_read.specs.Limits.{AreWithin}
 use Rattle.database_read.specs.Machine.{IsOfMachine}
 use Rattle.database_read.specs.Owned.{all_paths}
 use Rattle.database_read.specs.declared.fault.DatabaseFault.TheVariants.{Memory}
 use Rattle.database_read.proofs.Tidy.{overlaps_of, tidy_only}
 use Rattle.database_read.proofs.database.read_database.Goals as goal
 
-pub returns-clause-only : goal.returns-clause-only
-returns-clause-only g c t ps db tidy =
+pub returns-in-None-clause-only : goal.returns-in-None-clause-only
+returns-in-None-clause-only g c t ps db tidy =
     tidy_only (λ v. v.items) c.tidy.result c.in_ok-packages.packages.items ps (g.T.Tree.story c.args.tree.now).now.holds db tidy (c.in_ok-packages.ensures.only t ps db) c.tidy.ensures.same c.tidy.ensures.fault
 
-pub returns-clause-fault : goal.returns-clause-fault
-returns-clause-fault g c t =
+pub returns-in-None-clause-fault : goal.returns-in-None-clause-fault
+returns-in-None-clause-fault g c t =
     let m : Map = (g.T.Tree.story c.args.tree.now).now.holds in
     let ps : List Installed = c.in_ok-packages.packages.items in
     let db : IsDatabase m ps = c.in_ok-packages.ensures.found t in
+    let within : AreWithin ps = subst AreWithin c.deref.ensures.value c.in-None.ensures in
     IfErr-weaker c.tidy.result (λ e. (e ≡ Memory) ⊎ ((o : Overlap) × IsFirstOverlap (all_paths ps) o × (e ≡ overlap_fault o))) (λ e. IsOfMachine e ⊎ FirstFault m e)
     (λ e h. elim h [
       | inl memory ↦ inl (inl memory)
-      | inr o ↦ inr (inr (record { packages = ps; database = db; overlaps = subst (Overlaps ps) (sym o.2) (overlaps_of m ps db o.0 o.1) }))
+      | inr o ↦ inr (inr (inr (record { packages = ps; database = db; within = within; overlaps = subst (Overlaps ps) (sym o.2) (overlaps_of m ps db o.0 o.1) })))
     ])
     c.tidy.ensures.fault

@@ -3,14 +3,15 @@ use Rattle.std.specs.Prelude.{map, string_bytes}
 use Rattle.std.proofs.lemmas.Result.{IfErr-weaker}
 use Rattle.database_law.specs.Packages.{Installed}
 use Rattle.dep_atom.specs.Values.{atom_value}
-use Rattle.emerge_run.specs.Openings.{AreInstalled, AreInstalledAfter, GivesBack}
+use Rattle.opening.specs.Faults.{HasTooMuch}
+use Rattle.emerge_run.specs.Openings.{AreInstalled, AreInstalledAfter, GivesBack, HasTooMuchAfter}
 use Rattle.emerge_run.specs.Outcomes.{Outcome}
-use Rattle.emerge_run.specs.Refusals.{status_of_recovery}
-use Rattle.emerge_run.specs.declared.status.Status.{Status}
+use Rattle.run_status.specs.Faults.{status_of_recovery}
+use Rattle.run_status.specs.declared.status.Status.{Status}
 use Rattle.emerge_run.proofs.Asked.{some_builder, word_refused}
 use Rattle.emerge_run.proofs.Chosen.{at_rest, chosen_after, ended_after, named_after}
 use Rattle.emerge_run.proofs.Endings.{kept_same, outcome_before, recovery_asks, recovery_not_of_tree, words_not_of_tree}
-use Rattle.emerge_run.proofs.Givens.{gives_after}
+use Rattle.emerge_run.proofs.Givens.{gives_after, gives_none, recovery_no_paths, recovery_not_read}
 use Rattle.emerge_run.proofs.choosing.choose.Goals as goal
 
 pub returns-in-Ok-recover-clause-chosen : goal.returns-in-Ok-recover-clause-chosen
@@ -46,7 +47,7 @@ returns-in-Ok-recover-clause-opening g c t =
     let mid = (g.T.Tree.story c.recover.new.tree).now.holds in
     let ps : List Installed = c.find_package.result.opening.items in
     let recovered = c.in-Ok-recover.ensures.recovered t in
-    IfErr-weaker c.find_package.result.answer (λ s. GivesBack (AreInstalled mid) s ps) (λ s. GivesBack (AreInstalledAfter old) s ps)
+    IfErr-weaker c.find_package.result.answer (λ s. GivesBack (AreInstalled mid) (HasTooMuch mid) s ps) (λ s. GivesBack (AreInstalledAfter old) (HasTooMuchAfter old) s ps)
     (λ s gives. gives_after old mid s ps recovered.0 gives) (c.find_package.ensures.opening t)
 
 pub returns-in-Err-recover-clause-ended : goal.returns-in-Err-recover-clause-ended
@@ -60,6 +61,14 @@ returns-in-Err-recover-clause-ended g c t =
     let asks = recovery_asks words old.now.holds image fault (atom_value c.in-Ok.atom, c.in-Ok.ensures.found) (c.in-Err-recover.ensures.refused t) in
     let one = outcome_before words image old mid (status_of_recovery fault) asks (recovery_not_of_tree fault) (c.recover.ensures.moments t) in
     rw c.ended.ensures.answer (b.0, b.1, (image, (λ _. refl), subst (λ (s : Status). Outcome words image old mid _ s) (sym c.from.ensures) one))
+
+pub returns-in-Err-recover-clause-opening : goal.returns-in-Err-recover-clause-opening
+returns-in-Err-recover-clause-opening g c t =
+    let old = (g.T.Tree.story c.args.tree.now).now.holds in
+    let fault = c.in-Err-recover.fault in
+    let ps : List Installed = c.ended.result.opening.items in
+    let one = gives_none (AreInstalledAfter old) (HasTooMuchAfter old) (status_of_recovery fault) ps (recovery_not_read fault) (λ e. absurd (recovery_no_paths fault e)) c.ended.ensures.opening in
+    rw c.ended.ensures.answer (subst (λ (s : Status). GivesBack (AreInstalledAfter old) (HasTooMuchAfter old) s ps) (sym c.from.ensures) one)
 
 pub returns-in-Err-clause-ended : goal.returns-in-Err-clause-ended
 returns-in-Err-clause-ended g c t =

@@ -1,4 +1,4 @@
-use Rattle.std.proofs.Common.{◌≡◌, List, ap, subst, sym}
+use Rattle.std.proofs.Common.{◌≡◌, ℕ, List, [], ap, subst, sym}
 use Rattle.std.proofs.lemmas.Result.{err_from_is_err_and}
 use Rattle.file_tree.specs.Disk.{Map, Story}
 use Rattle.database_law.specs.Packages.{Installed}
@@ -17,7 +17,7 @@ returns-in_err-opening-clause-refused g c t =
     let a : AtomValue = atom_value c.args.atom.now in
     let fault = c.in_err-opening.field-0.0 in
     let back : n ≡ m = ap (λ (s : Story). s.now.holds) (c.in_ok-offers.ensures.same t) in
-    rw (p.1, p.2) (refused_opening m a fault (c.in_ok-offers.ensures.all_read t) (subst (λ (y : Map). openings.Refuses y fault) back (c.in_err-opening.ensures.refused t)))
+    rw (p.1, p.2) (refused_opening m a fault (c.in_ok-offers.ensures.all_read t) (subst (λ (fs : List (List ℕ)). openings.Refuses fs m fault) c.new-implicit.ensures (subst (λ (y : Map). openings.Refuses c.new-implicit.result y fault) back (c.in_err-opening.ensures.refused t))))
 
 pub returns-clause-read : goal.returns-clause-read
 returns-clause-read g c t =
@@ -27,8 +27,9 @@ returns-clause-read g c t =
     let back : n ≡ m = ap (λ (s : Story). s.now.holds) (c.in_ok-offers.ensures.same t) in
     record {
       entries = c.in_ok-offers.ensures.all_read t;
-      opening = subst (λ (y : Map). HasOpening y ps) back (c.in_ok-opening.ensures.found t);
-      only = λ qs has. c.in_ok-opening.ensures.only t qs (subst (λ (y : Map). HasOpening y qs) (sym back) has);
+      opening = subst (λ (fs : List (List ℕ)). HasOpening fs m ps) c.new-implicit.ensures (subst (λ (y : Map). HasOpening c.new-implicit.result y ps) back (c.in_ok-opening.ensures.found t));
+      within = c.in_ok-opening.ensures.within;
+      only = λ qs has. c.in_ok-opening.ensures.only t qs (subst (λ (fs : List (List ℕ)). HasOpening fs n qs) (sym c.new-implicit.ensures) (subst (λ (y : Map). HasOpening [] y qs) (sym back) has));
     }
 
 pub returns-clause-owners : goal.returns-clause-owners

@@ -7,7 +7,8 @@ use Rattle.exchange_make.specs.Made.{group_with}
 use Rattle.exchange_run.specs.Runs.{StopsMerge}
 use Rattle.exchange_law.specs.Ends.{image_of}
 use Rattle.atom_plan.specs.Plans.{group_for}
-use Rattle.emerge_run.specs.Outcomes.{IsOfMerge, IsRefusal, MergedTo}
+use Rattle.emerge_run.specs.Outcomes.{MergedTo}
+use Rattle.emerge_run.specs.Refusals.{IsStatusOf}
 use Rattle.emerge_run.proofs.Lines.{wrote_lines}
 use Rattle.emerge_run.proofs.Merged.{device_ended, end_of_merge, group_chosen, merged_to, ok_first, refused_ended}
 use Rattle.emerge_run.proofs.merging.merge_chosen.Goals as goal
@@ -31,16 +32,17 @@ returns-clause-merged g c t =
     let s = c.status_of_end-status.result in
     let owners = subst (λ (qs : List Installed). AreOwners old.now.holds qs book) (sym c.deref.ensures.value) (task.owners t) in
     let cause = subst (λ (b : Bool). IfErr r.end (StopsMerge b old.now.holds book seen h newcomers line)) t e.cause in
-    let merged = merged_to seen h newcomers line book old new owners refl r.history.items r.end c.len.result s c.status_of_end-status.ensures (c.len.ensures ∙ r.history.ok.0) (e.went t) (ok_first _ _ r.end e.told) cause in
+    let is = subst (λ (qs : List Installed). IsStatusOf qs c.len.result r.end s) (c.deref-3.ensures.value ∙ sym c.deref.ensures.value) c.status_of_end-status.ensures in
+    let merged = merged_to seen h newcomers line book old new owners refl r.history.items r.end c.len.result s is (c.len.ensures ∙ r.history.ok.0) (e.went t) (ok_first _ _ r.end e.told) cause in
     let over = subst (λ (qs : List Installed). MergedTo qs h images old new r.history.items s) c.deref.ensures.value merged in
     let same : h ≡ group_for chosen.facts ps = ap (λ (l : List Removal). group_with l newcomers) c.deref-2.ensures.value ∙ group_chosen g.T.Tree.tells old.now.holds ps chosen task in
     subst (λ (x : Group). MergedTo ps x images old new r.history.items s) same over
 
 pub returns-clause-of : goal.returns-clause-of
-returns-clause-of g c = subst IsOfMerge (sym c.status_of_end-status.ensures) (end_of_merge c.len.result c.merge_exchange-tree.result.end)
+returns-clause-of g c = end_of_merge c.deref-3.result.now c.len.result c.merge_exchange-tree.result.end c.status_of_end-status.result c.status_of_end-status.ensures
 
 pub returns-clause-refused : goal.returns-clause-refused
-returns-clause-refused g c of = refused_ended c.len.result c.merge_exchange-tree.result.end c.merge_exchange-tree.ensures.early (subst IsRefusal c.status_of_end-status.ensures of)
+returns-clause-refused g c of = refused_ended c.deref-3.result.now c.len.result c.merge_exchange-tree.result.end c.status_of_end-status.result c.merge_exchange-tree.ensures.early c.status_of_end-status.ensures of
 
 pub returns-clause-written : goal.returns-clause-written
 returns-clause-written g c t =
@@ -54,7 +56,9 @@ returns-clause-device g c =
     let r = c.merge_exchange-tree.result in
     let e = c.merge_exchange-tree.ensures in
     let a = c.args.chosen.additions in
+    let s = c.status_of_end-status.result in
+    let status = subst (λ (qs : List Installed). IsStatusOf qs c.len.result r.end s) (c.deref-3.ensures.value ∙ sym c.deref.ensures.value) c.status_of_end-status.ensures in
     record {
       later = e.device.later;
-      rose = λ is. e.device.rose (device_ended g.T.Tree.tells (g.T.Tree.story c.args.tree).now.holds a.book c.deref.result.now (group_with c.deref-2.result.now a.newcomers.items) a.newcomers.items a.line.items c.len.result r.end e.cause (sym c.status_of_end-status.ensures ∙ is));
+      rose = λ is. e.device.rose (device_ended c.deref.result.now g.T.Tree.tells (g.T.Tree.story c.args.tree).now.holds a.book (group_with c.deref-2.result.now a.newcomers.items) a.newcomers.items a.line.items c.len.result r.end s e.cause status is);
     }

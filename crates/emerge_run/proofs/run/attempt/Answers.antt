@@ -1,7 +1,7 @@
 use Rattle.std.proofs.Common.{◌∙◌, ap, inr, refl}
 use Rattle.std.specs.Prelude.{Err, map, string_bytes}
 use Rattle.exchange_law.specs.Ends.{image_of}
-use Rattle.emerge_run.specs.Openings.{AreInstalledAfter}
+use Rattle.emerge_run.specs.Openings.{AreInstalledAfter, HasTooMuchAfter}
 use Rattle.emerge_run.specs.Outcomes.{IsNamed}
 use Rattle.emerge_run.proofs.Endings.{outcome_chosen}
 use Rattle.emerge_run.proofs.Givens.{beside_chosen, gives_all, merge_read}
@@ -29,7 +29,7 @@ returns-in-Ok-clause-opening g c t =
     let chosen = c.in-Ok.chosen in
     let found = c.choose-found.result in
     let r = c.merge_chosen.result in
-    gives_all (AreInstalledAfter (g.T.Tree.story c.args.tree).now.holds) r.status r.opening.items (beside_chosen g.B.Builder.tells g.B.Builder.told c.args.pool.now.resting (map string_bytes c.args.words.now) (g.T.Tree.story c.args.tree) (g.T.Tree.story c.choose-found.new.tree)
+    gives_all (AreInstalledAfter (g.T.Tree.story c.args.tree).now.holds) (HasTooMuchAfter (g.T.Tree.story c.args.tree).now.holds) r.status r.opening.items (beside_chosen g.B.Builder.tells g.B.Builder.told c.args.pool.now.resting (map string_bytes c.args.words.now) (g.T.Tree.story c.args.tree) (g.T.Tree.story c.choose-found.new.tree)
     found.opening.items r.opening.items chosen.facts (map image_of chosen.additions.newcomers.items) (rw c.in-Ok.is at (c.choose-found.ensures.chosen t)) c.merge_chosen.ensures.opening)
 
 pub returns-in-Ok-clause-unread : goal.returns-in-Ok-clause-unread

@@ -1,5 +1,5 @@
 use Rattle.std.specs.Prelude.{map, string_bytes}
-use Rattle.emerge_run.specs.Openings.{AreInstalledAfter}
+use Rattle.emerge_run.specs.Openings.{AreInstalledAfter, HasTooMuchAfter}
 use Rattle.emerge_run.specs.Outcomes.{IsAnswer, IsNamed}
 use Rattle.emerge_run.proofs.Asked.{some_builder}
 use Rattle.emerge_run.proofs.Endings.{built_before, came_asked, memory_asked, outcome_finished, usage_kept}
@@ -34,7 +34,7 @@ returns-clause-usage g c f is = c.attempt-status.ensures.usage f (usage_kept c.a
 
 pub returns-clause-opening : goal.returns-clause-opening
 returns-clause-opening g c t =
-    gives_finished (AreInstalledAfter (g.T.Tree.story c.args.tree).now.holds) c.attempt-status.result.status c.finish-status.result _ c.attempt-status.result.opening.items c.finish-status.ensures.status (c.attempt-status.ensures.opening t)
+    gives_finished (AreInstalledAfter (g.T.Tree.story c.args.tree).now.holds) (HasTooMuchAfter (g.T.Tree.story c.args.tree).now.holds) c.attempt-status.result.status c.finish-status.result _ c.attempt-status.result.opening.items c.finish-status.ensures.status (c.attempt-status.ensures.opening t)
 
 pub returns-clause-unread : goal.returns-clause-unread
 returns-clause-unread g c of = unread_finished c.attempt-status.result.status c.finish-status.result _ _ c.finish-status.ensures.status c.attempt-status.ensures.unread of

@@ -5,22 +5,21 @@ use Rattle.pkg_state.specs.Fault.{told}
 use Rattle.pkg_state.specs.declared.broken.Broken.{Broken}
 use Rattle.pkg_state.specs.declared.broken.Broken.TheVariants as broken
 use Rattle.database_law.specs.Packages.{Installed}
-use Rattle.run_law.specs.Openings.{packages_of}
-use Rattle.opening.specs.Faults.{IsUnfit, refusal_of}
+use Rattle.commit_law.specs.Lit.{packages_of}
+use Rattle.opening.specs.Faults.{refusal_of}
 use Rattle.opening.specs.Order.{IsFirstInOrder}
-use Rattle.opening.specs.declared.fault.OpeningFault.{OpeningFault}
 use Rattle.opening.proofs.Judged.{unfit}
 use Rattle.opening.proofs.judging.judged.Goals as goal
 
 pub returns-in-Ok-clause-consistent : goal.returns-in-Ok-clause-consistent
-returns-in-Ok-clause-consistent c = subst (λ (ps : List Installed). AreConsistent (packages_of ps)) c.deref.ensures.value c.in-Ok.ensures.ok
+returns-in-Ok-clause-consistent c = subst (λ (ps : List Installed). AreConsistent (packages_of c.args.implicit.now ps)) c.deref.ensures.value c.in-Ok.ensures.ok
 
 pub returns-in-Err-clause-unfit : goal.returns-in-Err-clause-unfit
 returns-in-Err-clause-unfit c =
     let packages = c.args.packages in
     let fault = c.in-Err.fault in
-    let first = subst (λ (ps : List Installed). IfSome (told fault) (IsFirstInOrder (packages_of ps))) c.deref.ensures.value c.in-Err.ensures.fault in
-    rw c.refusal_of.ensures (unfit packages fault first)
+    let first = subst (λ (ps : List Installed). IfSome (told fault) (IsFirstInOrder (packages_of c.args.implicit.now ps))) c.deref.ensures.value c.in-Err.ensures.fault in
+    rw c.refusal_of.ensures (unfit c.args.implicit.now packages fault first)
 
 pub returns-in-Err-clause-fine : goal.returns-in-Err-clause-fine
 returns-in-Err-clause-fine c h =

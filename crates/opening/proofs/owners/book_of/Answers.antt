@@ -1,4 +1,4 @@
-use Rattle.std.proofs.Common.{List, subst, sym}
+use Rattle.std.proofs.Common.{subst, sym}
 use Rattle.opening.specs.Rows.{AreRows}
 use Rattle.opening.proofs.Owned.{Rows, owners_of}
 use Rattle.opening.proofs.owners.book_of.Goals as goal

@@ -1,4 +1,4 @@
-use Rattle.std.proofs.Common.{◌≡◌, ◌∙◌, ◌++◌, List, ℕ, ap, codes, map}
+use Rattle.std.proofs.Common.{◌∙◌, ◌++◌, List, ℕ, ap, codes, map}
 use Rattle.contents_text.specs.Contents.{path_of}
 use Rattle.contents_text.specs.declared.owned.Owned.{Owned}
 use Rattle.database_law.specs.Packages.{Installed, id_of}

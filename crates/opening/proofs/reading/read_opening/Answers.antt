@@ -1,48 +1,49 @@
-use Rattle.std.proofs.Common.{◌≡◌, ◌∙◌, List, ap, subst, sym}
+use Rattle.std.proofs.Common.{◌≡◌, ◌∙◌, List, ap, inl, subst, sym}
 use Rattle.std.proofs.lemmas.Result.{err_from_is_err_and}
 use Rattle.file_tree.specs.Disk.{Map, Story}
 use Rattle.owner_book.specs.Book.{Book}
 use Rattle.pkg_state.specs.Consistent.{AreConsistent}
 use Rattle.database_law.specs.Database.{IsDatabase, IsTidy}
 use Rattle.database_law.specs.Packages.{Installed}
-use Rattle.run_law.specs.Openings.{AreOwners, packages_of}
-use Rattle.opening.proofs.Judged.{machine_tree, memory_machine, of_machine, refused_database, refused_tree, refused_unfit}
+use Rattle.commit_law.specs.Lit.{packages_of}
+use Rattle.run_law.specs.Openings.{AreOwners}
+use Rattle.opening.proofs.Judged.{in_place, machine_tree, memory_machine, refused_database, refused_tree, refused_unfit}
 use Rattle.opening.proofs.reading.read_opening.Goals as goal
 
 pub returns-in_err-found-clause-only : goal.returns-in_err-found-clause-only
 returns-in_err-found-clause-only g c t ps o =
     let p = err_from_is_err_and c.from_residual.result c.from_residual.ensures.1 in
-    rw (p.1, p.2) (of_machine c.in_err-found.field-0.0 (c.in_err-found.ensures.only t ps o.database o.tidy))
+    rw (p.1, p.2) (in_place ps c.in_err-found.field-0.0 (c.in_err-found.ensures.only t ps o.database o.tidy))
 
 pub returns-in_err-found-clause-refused : goal.returns-in_err-found-clause-refused
 returns-in_err-found-clause-refused g c t =
     let p = err_from_is_err_and c.from_residual.result c.from_residual.ensures.1 in
     let m : Map = (g.T.Tree.story c.args.tree.now).now.holds in
-    rw (p.1, p.2) (refused_database m c.in_err-found.field-0.0 (c.in_err-found.ensures.fault t))
+    rw (p.1, p.2) (refused_database c.args.implicit.now m c.in_err-found.field-0.0 (c.in_err-found.ensures.fault t))
 
 pub returns-in_err-packages-clause-only : goal.returns-in_err-packages-clause-only
 returns-in_err-packages-clause-only g c t ps o =
     let p = err_from_is_err_and c.from_residual-in_err-packages.result c.from_residual-in_err-packages.ensures.1 in
     let same : c.in_ok-found.found.items ≡ ps = c.in_ok-found.ensures.only t ps o.database o.tidy in
-    let fit : AreConsistent (packages_of c.in_ok-found.found.items) = subst (λ (l : List Installed). AreConsistent (packages_of l)) (sym same) o.consistent in
-    rw (p.1, p.2) (memory_machine c.in_err-packages.field-0.0 (c.in_err-packages.ensures.fine fit))
+    let fit : AreConsistent (packages_of c.args.implicit.now c.in_ok-found.found.items) = subst (λ (l : List Installed). AreConsistent (packages_of c.args.implicit.now l)) (sym same) o.consistent in
+    rw (p.1, p.2) (inl (memory_machine c.in_err-packages.field-0.0 (c.in_err-packages.ensures.fine fit)))
 
 pub returns-in_err-packages-clause-refused : goal.returns-in_err-packages-clause-refused
 returns-in_err-packages-clause-refused g c t =
     let p = err_from_is_err_and c.from_residual-in_err-packages.result c.from_residual-in_err-packages.ensures.1 in
     let m : Map = (g.T.Tree.story c.args.tree.now).now.holds in
-    rw (p.1, p.2) (refused_unfit m c.in_ok-found.found.items c.in_err-packages.field-0.0 (c.in_ok-found.ensures.found t) c.in_ok-found.ensures.tidy c.in_err-packages.ensures.unfit)
+    rw (p.1, p.2) (refused_unfit c.args.implicit.now m c.in_ok-found.found.items c.in_err-packages.field-0.0 (c.in_ok-found.ensures.found t) c.in_ok-found.ensures.within c.in_ok-found.ensures.tidy c.in_err-packages.ensures.unfit)
 
 pub returns-in_err-book-clause-only : goal.returns-in_err-book-clause-only
 returns-in_err-book-clause-only g c t ps o =
     let p = err_from_is_err_and c.from_residual-in_err-book.result c.from_residual-in_err-book.ensures.1 in
-    rw (p.1, p.2) (machine_tree c.in_err-book.field-0.0)
+    rw (p.1, p.2) (inl (machine_tree c.in_err-book.field-0.0))
 
 pub returns-in_err-book-clause-refused : goal.returns-in_err-book-clause-refused
 returns-in_err-book-clause-refused g c t =
     let p = err_from_is_err_and c.from_residual-in_err-book.result c.from_residual-in_err-book.ensures.1 in
     let m : Map = (g.T.Tree.story c.args.tree.now).now.holds in
-    rw (p.1, p.2) (refused_tree m c.in_err-book.field-0.0)
+    rw (p.1, p.2) (refused_tree c.args.implicit.now m c.in_err-book.field-0.0)
 
 pub returns-clause-found : goal.returns-clause-found
 returns-clause-found g c t =

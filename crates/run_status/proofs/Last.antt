@@ -1,0 +1,26 @@
+-- What becomes of the last line of a run.
+use Rattle.std.proofs.Common.{◌≡◌, ℕ, List, ◌++◌, inl, inr, refl, ap, take}
+use Rattle.group_run.specs.Lines.{Wrote}
+use Rattle.run_status.specs.Last.{IsEnd, IsLast, unwritten}
+use Rattle.run_status.specs.Texts.{last_line}
+use Rattle.run_status.specs.declared.status.Status.{Status}
+use Rattle.run_status.specs.declared.status.Status.TheVariants as status
+
+-- only a device's fault stays where its last line can't be written
+pub unwritten_other : (s : Status) → (s ≡ status.DeviceFault → ⊥) → unwritten s ≡ status.OutputFault
+unwritten_other status.DeviceFault other = absurd (other refl)
+unwritten_other s other = refl
+
+-- the last line, whole
+pub last_whole : (s : Status) (line old new : List ℕ) → line ≡ last_line s → new ≡ old ++ line → Wrote (IsLast s s) old new
+last_whole s line old new is wrote = (line, inl (refl, is), wrote)
+
+-- the last line could not be written
+pub last_cut : (came s : Status) (line old new : List ℕ) → line ≡ last_line came → s ≡ unwritten came → ((n : ℕ) × (new ≡ old ++ take n line)) → Wrote (IsLast came s) old new
+last_cut came s line old new is falls (n, wrote) = (take n line, inr (falls, (n, ap (take n) is)), wrote)
+
+pub end_itself : (came s : Status) (old new : List ℕ) → Wrote (IsLast came s) old new → Wrote (IsEnd came s) old new
+end_itself came s old new (text, last, e) = (text, inl last, e)
+
+pub end_memory : (came s : Status) (old new : List ℕ) → Wrote (IsLast status.Memory s) old new → Wrote (IsEnd came s) old new
+end_memory came s old new (text, last, e) = (text, inr last, e)

@@ -1,0 +1,25 @@
+-- The status that a fault of a lower layer becomes.
+use Rattle.file_tree.specs.declared.fault.TreeFault.{TreeFault}
+use Rattle.file_tree.specs.declared.fault.TreeFault.TheVariants as tree
+use Rattle.file_tree.specs.declared.limits.Quantity.TheVariants.{Groups}
+use Rattle.recovery.specs.declared.fault.RecoverFault.{RecoverFault}
+use Rattle.recovery.specs.declared.fault.RecoverFault.TheVariants as recovery
+use Rattle.emerge_words.specs.declared.request.WordFault.{WordFault}
+use Rattle.emerge_words.specs.declared.request.WordFault.TheVariants as words
+use Rattle.run_status.specs.declared.status.Status.{Status}
+use Rattle.run_status.specs.declared.status.Status.TheVariants as status
+
+abbrev pub status_of_tree : TreeFault → Status
+status_of_tree tree.Failed = status.DeviceFault
+status_of_tree tree.Memory = status.Memory
+
+abbrev pub status_of_recovery : RecoverFault → Status
+status_of_recovery (recovery.BadRecord g) = status.BadJournal (recovery.BadRecord g)
+status_of_recovery (recovery.BadStage g i) = status.BadJournal (recovery.BadStage g i)
+status_of_recovery recovery.Limit = status.Limit Groups
+status_of_recovery recovery.Failed = status.DeviceFault
+status_of_recovery recovery.Memory = status.Memory
+
+abbrev pub status_of_word : WordFault → Status
+status_of_word words.Memory = status.Memory
+status_of_word fault = status.Usage fault

@@ -1,0 +1,21 @@
+-- What is written of the last line of a run, and the status that it ends with then.
+use Rattle.std.specs.Prelude.{◌≡◌, ◌⊎◌, ℕ, List}
+use Rattle.group_run.specs.Lines.{IsBeginning}
+use Rattle.run_status.specs.Texts.{last_line}
+use Rattle.run_status.specs.declared.status.Status.{Status}
+use Rattle.run_status.specs.declared.status.Status.TheVariants as status
+
+-- what a status becomes where its last line can't be written
+abbrev pub unwritten : Status → Status
+unwritten status.DeviceFault = status.DeviceFault
+unwritten _ = status.OutputFault
+
+-- a run that came to one status ends with it, and its last line is there; or it ends as one whose
+-- last line can't be written, and some beginning of that line is there
+abbrev pub IsLast : Status → Status → List ℕ → Type 0
+IsLast came s text = ((s ≡ came) × (text ≡ last_line came))
+    ⊎ ((s ≡ unwritten came) × IsBeginning (last_line came) text)
+
+-- the same, where want of memory may come in place of the status
+abbrev pub IsEnd : Status → Status → List ℕ → Type 0
+IsEnd came s text = IsLast came s text ⊎ IsLast status.Memory s text

@@ -1,0 +1,67 @@
+use crate::status::Status;
+use emerge_words::WordFault;
+use file_tree::{Quantity, TreeFault};
+use recovery::RecoverFault;
+use std::alloc::AllocError;
+
+impl From<TreeFault> for Status {
+    ghost use Rattle.std.specs.Prelude.{◌≡◌};
+    ghost use Rattle.run_status.specs.Faults.{status_of_tree};
+
+    ghost from_gives = { λ f s. s ≡ status_of_tree f };
+
+    fn from(fault: TreeFault) -> Status {
+        match fault {
+            TreeFault::Failed => Status::DeviceFault,
+            TreeFault::Memory => Status::Memory,
+        }
+    }
+}
+
+impl From<RecoverFault> for Status {
+    ghost use Rattle.std.specs.Prelude.{◌≡◌};
+    ghost use Rattle.run_status.specs.Faults.{status_of_recovery};
+
+    ghost from_gives = { λ f s. s ≡ status_of_recovery f };
+
+    fn from(fault: RecoverFault) -> Status {
+        match fault {
+            RecoverFault::BadRecord { group } => {
+                Status::BadJournal(RecoverFault::BadRecord { group })
+            }
+            RecoverFault::BadStage { group, index } => {
+                Status::BadJournal(RecoverFault::BadStage { group, index })
+            }
+            RecoverFault::Limit => Status::Limit {
+                quantity: Quantity::Groups,
+            },
+            RecoverFault::Failed => Status::DeviceFault,
+            RecoverFault::Memory => Status::Memory,
+        }
+    }
+}
+
+impl From<WordFault> for Status {
+    ghost use Rattle.std.specs.Prelude.{◌≡◌};
+    ghost use Rattle.run_status.specs.Faults.{status_of_word};
+
+    ghost from_gives = { λ f s. s ≡ status_of_word f };
+
+    fn from(fault: WordFault) -> Status {
+        match fault {
+            WordFault::Memory => Status::Memory,
+            fault => Status::Usage { fault },
+        }
+    }
+}
+
+impl From<AllocError> for Status {
+    ghost use Rattle.std.specs.Prelude.{◌≡◌};
+    ghost use Rattle.run_status.specs.declared.status.Status.TheVariants as status;
+
+    ghost from_gives = { λ _ s. s ≡ status.Memory };
+
+    fn from(_: AllocError) -> Status {
+        Status::Memory
+    }
+}
