@@ -17,14 +17,14 @@ pub fn variants(
     base: &Flags,
     rules: &FlagRules,
     required: &RequiredUse,
-    flips: u8,
+    flips: u32,
 ) -> Result<Vec<Flags>, AllocError>
     ensures { IfOk result (λ v. map has v.items ≡
         variants (trees required.now) rules.now known.now (has base.now) flips) }
 {
     let free = free_flags(alloc, known, rules)?;
     let mut found = Vec::new(alloc);
-    for changed in 0..u32::from(flips) + 1 {
+    for changed in 0..u64::from(flips) + 1 {
         add_settings(required, base, &free, changed, &mut found)?;
     }
     Ok(found)
@@ -53,7 +53,7 @@ fn add_settings(
     required: &RequiredUse,
     flags: &Flags,
     free: &[Flag],
-    flips: u32,
+    flips: u64,
     found: &mut Vec<Flags>,
 ) -> Result<(), AllocError>
     ensures { OnOk result (map has found.new.items ≡ map has found.old.items

@@ -1,5 +1,5 @@
 -- The files of a profile: what each of them adds (PMS 5.2.4 to 5.2.11).
-use Rattle.std.specs.Prelude.{◌≡◌, ◌⊎◌, ◌++◌, ℕ, List, [], ◌∷◌, Option, None, Some, codes}
+use Rattle.std.specs.Prelude.{◌≡◌, ◌⊎◌, ◌++◌, ℕ, List, [], ◌∷◌, Option, None, Some, codes, length}
 use Rattle.config_text.specs.declared.assignment.Assignment.{Assignment}
 use Rattle.file_tree.specs.Disk.{Map}
 use Rattle.profile_stack.specs.Defaults.{AreDefaults, IsDefaultsFault}
@@ -21,11 +21,13 @@ use Rattle.profile_read.specs.declared.item.Form.TheVariants as forms
 use Rattle.profile_read.specs.declared.item.Item.{Item}
 use Rattle.profile_read.specs.declared.file.File.{File}
 use Rattle.profile_read.specs.declared.file.File.TheVariants.{Masks, Uses, FlagMasks, FlagForces, RuleMasks, RuleForces}
+use Rattle.profile_read.specs.declared.profile.DefaultsFile.{DefaultsFile}
 use Rattle.profile_read.specs.declared.profile.Profile.{Profile}
 
 -- what a profile says, as plain data
 pub record Content : Type 0 where
   pub assigned : List Assignment
+  pub files : List DefaultsFile
   pub masks : List Item
   pub uses : List Item
   pub hides : List Item
@@ -36,6 +38,7 @@ abbrev pub content : Profile → Content
 content p =
     record {
       assigned = p.assigned.items;
+      files = p.files.items;
       masks = p.masks.items;
       uses = p.uses.items;
       hides = p.hides.items;
@@ -44,7 +47,7 @@ content p =
 
 -- nothing
 abbrev pub empty : Content
-empty = record { assigned = []; masks = []; uses = []; hides = []; forces = [] }
+empty = record { assigned = []; files = []; masks = []; uses = []; hides = []; forces = [] }
 
 -- the lines of the line file at the path; where there is no path there are none
 abbrev pub AreLinesAt : Map → Option (List ℕ) → List FileLine → Type 0
@@ -104,9 +107,22 @@ counted FlagForces c lines = record c { forces = with_entries Flags c.forces lin
 counted RuleMasks c lines = record c { hides = with_entries Rules c.hides lines }
 counted RuleForces c lines = record c { forces = with_entries Rules c.forces lines }
 
--- what the profile says once these variables are set
-abbrev pub with_assigned : Content → List Assignment → Content
-with_assigned c those = record c { assigned = c.assigned ++ those }
+-- the file at the path, if there is one, with so many assignments
+abbrev pub defaults_file : Option (List ℕ) → ℕ → List DefaultsFile
+defaults_file None count = []
+defaults_file (Some path) count = record { path = path; count = count } ∷ []
+
+-- the path of the folder's file with variables, if it has one
+abbrev pub defaults_path : List ℕ → Option (List ℕ)
+defaults_path folder = path_of (file_in folder (codes "make.defaults"))
+
+-- what the profile says once the file of the folder sets these variables
+abbrev pub with_assigned : Content → List ℕ → List Assignment → Content
+with_assigned c folder those =
+    record c {
+      assigned = c.assigned ++ those;
+      files = c.files ++ defaults_file (defaults_path folder) (length those);
+    }
 
 -- the line file of the folder leads from what was said to what is
 abbrev pub ReadsFile : Map → List ℕ → File → Content → Content → Type 0
@@ -132,11 +148,11 @@ MissFiles m folder was fault =
 abbrev pub ReadsFolder : Map → List ℕ → Content → Content → Type 0
 ReadsFolder m folder was is =
     (those : List Assignment) × AreDefaults m folder was.assigned those
-    × ReadsFiles m folder (with_assigned was those) is
+    × ReadsFiles m folder (with_assigned was folder those) is
 
 -- or its first fault is this one
 abbrev pub MissFolder : Map → List ℕ → Content → ReadFault → Type 0
 MissFolder m folder was fault =
     ((own : ProfileFault) × IsDefaultsFault m folder own × (fault ≡ faults.Profile own))
     ⊎ ((those : List Assignment) × AreDefaults m folder was.assigned those
-    × MissFiles m folder (with_assigned was those) fault)
+    × MissFiles m folder (with_assigned was folder those) fault)

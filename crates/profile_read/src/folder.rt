@@ -1,17 +1,18 @@
-ghost use Rattle.std.specs.Prelude.{◌≡◌, ◌⊎◌, IfErr, IsErrOf, IsTrue, OnOk};
+ghost use Rattle.std.specs.Prelude.{◌≡◌, ◌⊎◌, ◌++◌, IfErr, IsErrOf, IsTrue, OnOk, length};
 ghost use Rattle.file_tree.specs.Disk.{CountsFault};
 ghost use Rattle.profile_stack.specs.declared.fault.ProfileFault.TheVariants.{Failed};
 ghost use Rattle.profile_read.specs.Faults.{IsMachine};
 ghost use Rattle.profile_read.specs.Files.{MissFile, MissFiles, MissFolder, ReadsFile, ReadsFiles};
-ghost use Rattle.profile_read.specs.Files.{ReadsFolder, content};
+ghost use Rattle.profile_read.specs.Files.{ReadsFolder, content, defaults_file, defaults_path};
 ghost use Rattle.profile_read.specs.declared.fault.ReadFault.TheVariants.{Profile as ProfileFaults};
 
 use crate::fault::ReadFault;
 use crate::file::{File, LINE_FILES, count_lines, read_file};
-use crate::profile::Profile;
+use crate::profile::{DefaultsFile, Profile};
+use config_text::Assignment;
 use file_tree::{Path, Tree};
-use profile_stack::read_defaults;
-use std::alloc::Global;
+use profile_stack::{file_in, read_defaults};
+use std::alloc::{AllocError, Global};
 
 /// Reads the variables and the line files of the folder, behind what the profile says.
 pub fn read_folder<T: Tree>(
@@ -29,8 +30,29 @@ pub fn read_folder<T: Tree>(
         (T.faults tree.new) }
 {
     let mut set = read_defaults(alloc, tree, folder, &profile.assigned)?;
+    note_file(alloc, folder, &set, &mut profile.files)?;
     profile.assigned.append(&mut set)?;
     read_line_files(alloc, tree, folder, profile)
+}
+
+/// Notes the folder's file with these assignments. Where its path would be too long there is none.
+fn note_file(
+    alloc: Global,
+    folder: &Path,
+    set: &[Assignment],
+    files: &mut Vec<DefaultsFile>,
+) -> Result<(), AllocError>
+    ensures { OnOk result (files.new.items ≡
+        files.old.items ++ defaults_file (defaults_path folder.now) (length set.now)) }
+{
+    match file_in(alloc, folder, "make.defaults")? {
+        Some(path) => {
+            let count = set.len();
+            files.push(DefaultsFile { path, count })?;
+            Ok(())
+        }
+        None => Ok(()),
+    }
 }
 
 /// Reads the line files of the folder.

@@ -35,6 +35,6 @@ pub use fault::ReadFault;
 pub use file::read_line_file;
 pub use folder::read_folder;
 pub use item::{Entry, Form, Item};
-pub use profile::Profile;
+pub use profile::{DefaultsFile, Profile};
 pub use stack::count_entries;
 pub use whole::read;

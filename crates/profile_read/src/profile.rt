@@ -3,13 +3,23 @@ ghost use Rattle.profile_read.specs.Files.{content, empty};
 
 use crate::item::Item;
 use config_text::Assignment;
+use file_tree::Path;
 use std::alloc::Global;
+
+/// A file `make.defaults` of a profile, which has so many assignments.
+#[derive(Debug, Drop)]
+pub struct DefaultsFile {
+    pub path: Path,
+    pub count: usize,
+}
 
 /// What a profile says.
 #[derive(Debug, Drop)]
 pub struct Profile {
     /// What the files `make.defaults` set, in the order in which they are read.
     pub assigned: Vec<Assignment>,
+    /// These files, in the same order.
+    pub files: Vec<DefaultsFile>,
     /// The masks of packages, each once.
     pub masks: Vec<Item>,
     /// The rules of `package.use`, line by line.
@@ -27,6 +37,7 @@ impl Profile {
     {
         Profile {
             assigned: Vec::new(alloc),
+            files: Vec::new(alloc),
             masks: Vec::new(alloc),
             uses: Vec::new(alloc),
             hides: Vec::new(alloc),

@@ -23,6 +23,6 @@ module _ (m : Map) where
   file_or_not file was is other fault reads miss = tells_or_not m (form_of file) (Some (path_of file)) reads.0 fault reads.1 miss
 
   -- where the user's files can be read none of them is at fault
-  pub user_or_not : (was is : Config) (fault : ReadFault) → ReadsUser m was is → MissUser m was fault → ⊥
-  user_or_not was is fault reads (inl bad) = set_or_not make_conf (text_of (m make_conf)) was.defaults reads.0 bad.0 reads.1 bad.1
-  user_or_not was is fault reads (inr bad) = chain_or_not (ReadsFile m) (MissFile m) file_or_not user_files _ is _ fault reads.2 bad.2
+  pub user_or_not : (was is other : Config) (fault : ReadFault) → ReadsUser m was is → MissUser m other fault → ⊥
+  user_or_not was is other fault reads (inl bad) = set_or_not make_conf (text_of (m make_conf)) was.defaults reads.0 bad.0 reads.1 bad.1
+  user_or_not was is other fault reads (inr bad) = chain_or_not (ReadsFile m) (MissFile m) file_or_not user_files _ is _ fault reads.2 bad.2

@@ -15,6 +15,7 @@ use Rattle.profile_read.specs.declared.item.Entry.{Entry}
 use Rattle.profile_read.specs.declared.item.Form.{Form}
 use Rattle.profile_read.specs.declared.item.Form.TheVariants as forms
 use Rattle.profile_read.specs.declared.item.Item.{Item}
+use Rattle.profile_read.specs.declared.profile.DefaultsFile.{DefaultsFile}
 use Rattle.user_read.specs.declared.line_file.UserFile.{UserFile}
 use Rattle.user_read.specs.declared.line_file.UserFile.TheVariants.{Keywords, Masks, Unmasks, Uses}
 use Rattle.user_read.specs.declared.user_config.UserConfig.{UserConfig}
@@ -22,6 +23,7 @@ use Rattle.user_read.specs.declared.user_config.UserConfig.{UserConfig}
 -- what is configured, as plain data
 pub record Config : Type 0 where
   pub defaults : List Assignment
+  pub files : List DefaultsFile
   pub conf : List Assignment
   pub profile_uses : List Item
   pub uses : List Item
@@ -36,6 +38,7 @@ abbrev pub configured : UserConfig → Config
 configured c =
     record {
       defaults = c.defaults.items;
+      files = c.files.items;
       conf = c.conf.items;
       profile_uses = c.profile_uses.items;
       uses = c.uses.items;
@@ -51,6 +54,7 @@ abbrev pub begun : Content → Config
 begun profile =
     record {
       defaults = profile.assigned;
+      files = profile.files;
       conf = [];
       profile_uses = profile.uses;
       uses = [];

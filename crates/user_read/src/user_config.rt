@@ -3,7 +3,7 @@ ghost use Rattle.profile_read.specs.Files.{content};
 ghost use Rattle.user_read.specs.Files.{begun, configured};
 
 use config_text::Assignment;
-use profile_read::{Item, Profile};
+use profile_read::{DefaultsFile, Item, Profile};
 use std::alloc::Global;
 
 /// What the profile and the user's files say.
@@ -11,6 +11,8 @@ use std::alloc::Global;
 pub struct UserConfig {
     /// What the profile's files `make.defaults` set, in the order in which they are read.
     pub defaults: Vec<Assignment>,
+    /// These files, in the same order.
+    pub files: Vec<DefaultsFile>,
     /// What the user's `make.conf` sets.
     pub conf: Vec<Assignment>,
     /// The rules of the profile's `package.use` that the user doesn't take back.
@@ -36,6 +38,7 @@ impl UserConfig {
     {
         let Profile {
             assigned,
+            files,
             masks,
             uses,
             hides,
@@ -43,6 +46,7 @@ impl UserConfig {
         } = profile;
         UserConfig {
             defaults: assigned,
+            files,
             conf: Vec::new(alloc),
             profile_uses: uses,
             uses: Vec::new(alloc),

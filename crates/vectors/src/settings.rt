@@ -32,7 +32,7 @@ fn settings_of(alloc: Global, fields: &str) -> Option<String> {
     let (iuse, rest) = cut(fields);
     let (flips, rest) = cut(rest);
     let (required, rest) = cut(rest);
-    let flips = flips.parse::<u8>().ok()?;
+    let flips = flips.parse::<u32>().ok()?;
     let iuse = Iuse::parse(alloc, iuse).ok()?;
     let required = RequiredUse::parse(alloc, required).ok()?;
     let rules = rules_of(alloc, rest)?;
@@ -63,7 +63,7 @@ fn told(
     iuse: &Iuse,
     rules: &Rules,
     required: &RequiredUse,
-    flips: u8,
+    flips: u32,
 ) -> Result<String, AllocError> {
     let layers = [rules.first.as_slice(), rules.second.as_slice()];
     let rules = FlagRules {

@@ -7,7 +7,7 @@ use Rattle.user_read.proofs.whole.read_user.Goals as goal
 pub returns-in-Err-clause-only : goal.returns-in-Err-clause-only
 returns-in-Err-clause-only g c t is reads = elim (c.in-Err.ensures.fault t) [
   | inl machine ↦ machine
-  | inr miss ↦ absurd (user_or_not (g.T.Tree.story c.args.tree.now).now.holds (begun (content c.args.profile)) is c.in-Err.fault reads (subst (λ (k : Config). MissUser (g.T.Tree.story c.args.tree.now).now.holds k c.in-Err.fault) c.begin-config.ensures miss))
+  | inr miss ↦ absurd (user_or_not (g.T.Tree.story c.args.tree.now).now.holds (begun (content c.args.profile)) is (begun (content c.args.profile)) c.in-Err.fault reads (subst (λ (k : Config). MissUser (g.T.Tree.story c.args.tree.now).now.holds k c.in-Err.fault) c.begin-config.ensures miss))
 ]
 
 pub returns-in-Err-clause-fault : goal.returns-in-Err-clause-fault

@@ -1,0 +1,4 @@
+mod Counting
+mod Each
+mod Layering
+mod Saying

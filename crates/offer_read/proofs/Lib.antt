@@ -1,0 +1,3 @@
+mod ConfigLemmas
+mod OfferLemmas
+mod Partings

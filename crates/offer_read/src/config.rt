@@ -1,0 +1,55 @@
+ghost use Rattle.std.specs.Prelude.{◌≡◌, ◌⊎◌, IfErr, IfOk, IsErrOf, IsTrue};
+ghost use Rattle.file_tree.specs.Disk.{CountsFault};
+ghost use Rattle.profile_read.specs.Faults.{IsMachine};
+ghost use Rattle.profile_read.specs.declared.fault.ReadFault.TheVariants.{Profile as ProfileFaults};
+ghost use Rattle.profile_stack.specs.declared.fault.ProfileFault.TheVariants.{Failed};
+ghost use Rattle.user_read.specs.Files.{Config, configured};
+ghost use Rattle.offer_read.specs.Configured.{IsRead, MissRead, profile_path};
+ghost use Rattle.offer_read.specs.Faults.{IsOfMachine, IsUnread};
+
+use crate::fault::{OffersFault, fault_of};
+use file_tree::{Path, Tree};
+use profile_read::{ReadFault, read};
+use std::alloc::{AllocError, Global};
+use user_read::{UserConfig, read_user};
+
+/// What the profile and the user's files say.
+pub(crate) fn read_config<T: Tree>(alloc: Global, tree: &mut T) -> Result<UserConfig, OffersFault>
+    ensures found { IsTrue T.tells → IfOk result
+        (λ c. IsRead (T.story tree.old).now.holds (configured c)) }
+    ensures only { IsTrue T.tells → (c : Config) → IsRead (T.story tree.old).now.holds c →
+        IfErr result IsOfMachine }
+    ensures fault { IsTrue T.tells → IfErr result
+        (λ e. IsOfMachine e ⊎ IsUnread (T.story tree.old).now.holds e) }
+    ensures same { IsTrue T.tells → T.story tree.new ≡ T.story tree.old }
+    ensures faults { CountsFault (IsErrOf result OffersFault.Failed) (T.faults tree.old)
+        (T.faults tree.new) }
+{
+    match read_both(alloc, tree) {
+        Ok(config) => Ok(config),
+        Err(fault) => Err(fault_of(fault)),
+    }
+}
+
+/// Reads the profile, and then the user's files.
+fn read_both<T: Tree>(alloc: Global, tree: &mut T) -> Result<UserConfig, ReadFault>
+    ensures found { IsTrue T.tells → IfOk result
+        (λ c. IsRead (T.story tree.old).now.holds (configured c)) }
+    ensures only { IsTrue T.tells → (c : Config) → IsRead (T.story tree.old).now.holds c →
+        IfErr result IsMachine }
+    ensures fault { IsTrue T.tells → IfErr result
+        (λ e. IsMachine e ⊎ MissRead (T.story tree.old).now.holds e) }
+    ensures same { IsTrue T.tells → T.story tree.new ≡ T.story tree.old }
+    ensures faults { CountsFault (IsErrOf result (ProfileFaults Failed)) (T.faults tree.old)
+        (T.faults tree.new) }
+{
+    let path = path_of_profile(alloc)?;
+    let profile = read(alloc, tree, &path)?;
+    read_user(alloc, tree, profile)
+}
+
+fn path_of_profile(alloc: Global) -> Result<Path, AllocError>
+    ensures { IfOk result (λ p. p ≡ profile_path) }
+{
+    Path::parse(alloc, "etc/portage/make.profile").map_err(|_| AllocError)
+}
