@@ -5,3 +5,5 @@ pub mod Ruling
 pub mod Forming
 pub mod Named
 pub mod Taking
+pub mod Closed
+pub mod KeptAdditions

@@ -4,3 +4,4 @@ pub mod Faults
 pub mod Linked
 pub mod Asking
 pub mod Judged
+pub mod Laws

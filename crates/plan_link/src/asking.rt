@@ -79,6 +79,16 @@ fn push_all_leaves<'a>(
     Ok(())
 }
 
+/// The leaves of the package's RDEPEND that ask for a bind, with the flags that it has on.
+pub fn asking_leaves<'a>(alloc: Global, pkg: &'a Pkg) -> Result<Vec<&'a Atom>, AllocError>
+    ensures { IfOk result (λ leaves. map (λ atom. atom_value atom.now) leaves.items ≡
+        all_asking_leaves (has pkg.now.facts.enabled) pkg.now.rdepend) }
+{
+    let mut leaves = Vec::new(alloc);
+    push_all_leaves(&pkg.rdepend.nodes, &pkg.facts.enabled, &mut leaves)?;
+    Ok(leaves)
+}
+
 /// The leaves of the package that ask for a bind, where it comes with the addition.
 fn leaves_of<'a>(
     alloc: Global,

@@ -18,6 +18,9 @@
 //! of a plan in form, each addition is offered, the plan that it stands for is accepted over the
 //! packages that are there, hence sound over every order of its groups, and its binds are right; any
 //! other text is refused for the first fault of these (`specs/Judged.antt`).
+//! [`asking_leaves`] tells those of a package as it is. A law says that what comes with a plan which
+//! is linked to a text in form can be recorded, where the offered packages are in form and have just
+//! the implicit flags on (`specs/Laws.antt`).
 //!
 //! **Only tested**: that with ample memory a text is linked and judged.
 //!
@@ -36,11 +39,13 @@ mod finding;
 mod flags;
 mod group;
 mod judging;
+mod laws;
 mod linking;
 mod offers;
 mod package;
 
-pub use asking::asks_of;
+pub use asking::{asking_leaves, asks_of};
 pub use fault::{LinkFault, PlanFault};
 pub use judging::judge_plan;
+pub use laws::linked_additions_can_be_kept;
 pub use linking::link;

@@ -1,5 +1,6 @@
 -- Packages that are put on their lines one by one.
 use Rattle.std.proofs.Common.{◌≡◌, ◌∙◌, ◌<◌, ◌||◌, ℕ, zero, suc, Bool, true, false, cond, List, [], ◌∷◌, ◌++◌, Option, Some, None, arith, refl, ap, sym, subst, inl, inr, get_or, length, map, take}
+use Rattle.std.proofs.Math.Bool.{or-true}
 use Rattle.std.specs.Prelude.{bytes_eq, is_some}
 use Rattle.std.specs.BTreeMap.{is_at}
 use Rattle.std.specs.List.{list_any}
@@ -56,10 +57,6 @@ or_none : (o : Option Package) → option_or o None ≡ o
 or_none None = refl
 or_none (Some p) = refl
 
-or_true : (a : Bool) → (a || true) ≡ true
-or_true true = refl
-or_true false = refl
-
 -- the test of another line
 here : (line q : List ℕ) (p : Package) (b : Bool) → line ≡ line_of p.facts → bytes_eq line q ≡ b → bytes_eq q (line_of p.facts) ≡ b
 here line q p b is e = ap (bytes_eq q) (sym is) ∙ (bytes_eq-swap q line ∙ e)
@@ -79,8 +76,8 @@ put_variant installed before p line old mid new offer put is taken same pushed a
   those q = elim (cases_Bool (bytes_eq line q)) [
     | inl y ↦ ap is_some (back q ∙ ap (λ (b : Bool). cond b (Some put) (found mid q)) y)
         ∙ sym (ap (λ (b : Bool). has (lines_of installed) q || b)
-        (lines_more before p q ∙ (ap (λ (b : Bool). has (lines_of before) q || b) (here line q p true is y) ∙ or_true (has (lines_of before) q)))
-        ∙ or_true (has (lines_of installed) q))
+        (lines_more before p q ∙ (ap (λ (b : Bool). has (lines_of before) q || b) (here line q p true is y) ∙ or-true (has (lines_of before) q)))
+        ∙ or-true (has (lines_of installed) q))
     | inr n ↦ ap is_some (back q ∙ (ap (λ (b : Bool). cond b (Some put) (found mid q)) n ∙ (away q ∙ ap (λ (b : Bool). cond b None (found old q)) n)))
         ∙ (filled.those q ∙ sym (ap (λ (b : Bool). has (lines_of installed) q || b)
         (lines_more before p q ∙ (ap (λ (b : Bool). has (lines_of before) q || b) (here line q p false is n) ∙ or-false (has (lines_of before) q)))))
@@ -117,7 +114,7 @@ put_installed before p line old new put is free one no_variants back rising fill
   those q = elim (cases_Bool (bytes_eq line q)) [
     | inl y ↦ ap is_some (back q ∙ ap (λ (b : Bool). cond b (Some put) (found old q)) y)
         ∙ sym (ap (λ (b : Bool). b || false)
-        (lines_more before p q ∙ (ap (λ (b : Bool). has (lines_of before) q || b) (here line q p true is y) ∙ or_true (has (lines_of before) q))))
+        (lines_more before p q ∙ (ap (λ (b : Bool). has (lines_of before) q || b) (here line q p true is y) ∙ or-true (has (lines_of before) q))))
     | inr n ↦ ap is_some (back q ∙ ap (λ (b : Bool). cond b (Some put) (found old q)) n)
         ∙ (filled.those q ∙ sym (ap (λ (b : Bool). b || false)
         (lines_more before p q ∙ (ap (λ (b : Bool). has (lines_of before) q || b) (here line q p false is n) ∙ or-false (has (lines_of before) q)))))

@@ -1,0 +1,4 @@
+pub mod Wishes
+pub mod Reasons
+pub mod Plans
+pub mod Answers

@@ -1,0 +1,43 @@
+//! What a command is to do: the plan of the first good choice, linked and checked.
+//!
+//! The universe of a command has what is installed and the variants of all visible candidates. Its
+//! first good choice is put into one group, which is linked to the packages that are offered and
+//! checked over those that are installed.
+//!
+//! **A contract sees** packages as plain data, a universe and a choice as `choice_law` has them, a
+//! plan's text as `plan_text` has it and a checked plan as `plan_law` has it, and what is wanted as
+//! a record (`WishValue` of `specs/Wishes.antt`).
+//!
+//! **Proved**: [`choose_plan`] answers with the plan of all changes of the first good leaf of the
+//! tree of choices, which is accepted, hence sound, and whose binds are right (`IsChosenPlan` of
+//! `specs/Answers.antt`). Any other answer but want of memory tells why there is none (`Tells`
+//! there): the first wanted atom that matches no value of the universe, with just the candidates of
+//! its name, visible or hidden, by their versions, and why each isn't taken; that there is no
+//! solution; which choices were tried in vain where they are too many; or the first fault of the
+//! plan that is linked or checked. Each of these shuts out the others.
+//!
+//! **Only tested**: that with ample memory it answers.
+//!
+//! For each wanted atom it looks at all lines once, before the search begins.
+//!
+//! ```
+//! let wish = Wish { wanted, update: false, limit: 10 };
+//! let chosen = choose_plan(alloc, &installed, &offered, &hidden, candidates, wish)?;
+//! let text = chosen.text.print(alloc)?;
+//! ```
+#![tactic(auto)]
+
+mod choosing;
+mod chosen;
+mod fault;
+mod planning;
+mod reason;
+mod reasons;
+mod serving;
+mod wish;
+
+pub use choosing::choose_plan;
+pub use chosen::Chosen;
+pub use fault::NotChosen;
+pub use reason::{NotTaken, Reason};
+pub use wish::Wish;

@@ -1,0 +1,107 @@
+ghost use Rattle.std.specs.Prelude.{◌≡◌, ◌++◌, IfOk, OnOk, filter, if◌then◌else◌, map};
+ghost use Rattle.std.specs.Prelude.{[], ◌∷◌};
+ghost use Rattle.std.specs.List.Sorted.{IsPermutation, IsSorted};
+ghost use Rattle.dep_atom.specs.Match.{same_name};
+ghost use Rattle.plan_choose.specs.Reasons.{AreReasons, is_of_name, reasons_of, unmatched};
+ghost use Rattle.plan_choose.specs.Reasons.{version_rank};
+
+use crate::reason::{NotTaken, Reason};
+use pkg_state::Pkg;
+use pms_names::Name;
+use std::alloc::{AllocError, Global};
+use std::cmp::Ordering;
+
+fn is_same_name(name: &Name, other: &Name) -> bool
+    ensures { result ≡ same_name name.now other.now }
+{
+    name.category == other.category && name.package == other.package
+}
+
+fn push_offered(name: &Name, pkg: &Pkg, reasons: &mut Vec<NotTaken>) -> Result<(), AllocError>
+    ensures { OnOk result (reasons.new.items ≡ reasons.old.items ++
+        (if is_of_name name.now (unmatched pkg.now) then unmatched pkg.now ∷ [] else [])) }
+{
+    let id = &pkg.facts.id;
+    if is_same_name(name, &id.name) {
+        let id = id.try_clone()?;
+        reasons.push(NotTaken {
+            id,
+            reason: Reason::NotMatched,
+        })?;
+    }
+    Ok(())
+}
+
+fn push_hidden(name: &Name, one: &NotTaken, reasons: &mut Vec<NotTaken>) -> Result<(), AllocError>
+    ensures { OnOk result (reasons.new.items ≡ reasons.old.items ++
+        (if is_of_name name.now one.now then one.now ∷ [] else [])) }
+{
+    if is_same_name(name, &one.id.name) {
+        let id = one.id.try_clone()?;
+        let reason = one.reason;
+        reasons.push(NotTaken { id, reason })?;
+    }
+    Ok(())
+}
+
+fn push_all_offered(
+    name: &Name,
+    offered: &[Pkg],
+    reasons: &mut Vec<NotTaken>,
+) -> Result<(), AllocError>
+    ensures { OnOk result (reasons.new.items ≡ reasons.old.items ++
+        filter (is_of_name name.now) (map unmatched offered.now)) }
+{
+    for pkg in offered {
+        push_offered(name, pkg, reasons)?;
+    }
+    Ok(())
+}
+
+fn push_all_hidden(
+    name: &Name,
+    hidden: &[NotTaken],
+    reasons: &mut Vec<NotTaken>,
+) -> Result<(), AllocError>
+    ensures { OnOk result (reasons.new.items ≡ reasons.old.items ++
+        filter (is_of_name name.now) hidden.now) }
+{
+    for one in hidden {
+        push_hidden(name, one, reasons)?;
+    }
+    Ok(())
+}
+
+/// By the version, the greater first, and of equal ones by their texts.
+fn rank(a: &NotTaken, b: &NotTaken) -> Ordering
+    ensures { result ≡ version_rank a.now b.now }
+{
+    pms_version::order_is_that_of_keys();
+    let first = a.id.version.text();
+    let second = b.id.version.text();
+    b.id.version.compare(&a.id.version).then(first.cmp(second))
+}
+
+fn ranked(mut reasons: Vec<NotTaken>) -> Result<Vec<NotTaken>, AllocError>
+    ensures moved { IfOk result (λ v. IsPermutation reasons.items v.items) }
+    ensures sorted { IfOk result (λ v. IsSorted version_rank v.items) }
+{
+    pms_version::order_is_that_of_keys();
+    reasons.sort_by(|a, b| rank(a, b))?;
+    Ok(reasons)
+}
+
+/// The candidates of the name, by their versions, each with the reason why it isn't taken.
+pub(crate) fn reasons_of(
+    alloc: Global,
+    name: &Name,
+    offered: &[Pkg],
+    hidden: &[NotTaken],
+) -> Result<Vec<NotTaken>, AllocError>
+    ensures { IfOk result (λ v. AreReasons name.now offered.now hidden.now v.items) }
+{
+    let mut reasons = Vec::new(alloc);
+    push_all_offered(name, offered, &mut reasons)?;
+    push_all_hidden(name, hidden, &mut reasons)?;
+    ranked(reasons)
+}

@@ -1,0 +1,61 @@
+-- The packages that are offered are in form, with just the implicit flags on.
+use Rattle.std.proofs.Common.{◌≡◌, ◌∙◌, ℕ, List, [], ◌∷◌, inl, inr, map, refl, subst, sym}
+use Rattle.std.specs.List.{AllByRecursion, AllZip, filter_map}
+use Rattle.basics.specs.Members.{Has}
+use Rattle.basics.proofs.Membership.{has-filter_back, has-map_back}
+use Rattle.dep_group.specs.Tokens.{IsInForm}
+use Rattle.dep_tree.specs.Grammar as dependencies
+use Rattle.file_tree.specs.Disk.{Map}
+use Rattle.pkg_state.specs.Package.{Package, tree_of}
+use Rattle.pkg_state.specs.declared.class.Class.{Class}
+use Rattle.pkg_state.specs.declared.class.Class.TheVariants.{Bdepend, Depend, Idepend, Pdepend, Rdepend}
+use Rattle.md5_cache.specs.Entries.{Entry, TellsNeeds}
+use Rattle.md5_cache.specs.declared.pair.Pair.{Pair}
+use Rattle.candidate_set.specs.Candidates.{IsVerdict, visible_of}
+use Rattle.candidate_set.specs.declared.rules.VisibleRules.{VisibleRules}
+use Rattle.candidate_set.specs.declared.verdict.Verdict.{Verdict}
+use Rattle.candidate_set.specs.declared.verdict.Verdict.TheVariants as verdicts
+use Rattle.offer_flags.specs.Offered.{IsOffered, has_variant, with_enabled}
+use Rattle.offer_flags.specs.declared.candidate.Candidate.{Candidate}
+use Rattle.offer_read.specs.Offers.{AreOffers}
+use Rattle.offer_read.specs.declared.offers.Hidden.{Hidden}
+use Rattle.plan_link.specs.Laws.{AreOffered, IsFormed}
+use Rattle.plan_find.specs.Choices.{bare_of}
+
+zip_has : {A B : Type 0} (R : A → B → Type 0) (xs : List A) (ys : List B) (y : B) → AllZip R xs ys → Has ys y → (x : A) × Has xs x × R x y
+zip_has R [] [] y zip is = absurd is
+zip_has R [] (z ∷ zs) y zip is = absurd zip
+zip_has R (x ∷ xs) [] y zip is = absurd is
+zip_has R (x ∷ xs) (z ∷ zs) y zip (inl e) = (x, inl refl, subst (R x) e zip.0)
+zip_has R (x ∷ xs) (z ∷ zs) y zip (inr is) = let r = zip_has R xs zs y zip.1 is in (r.0, inr r.1, r.2)
+
+entry_needs : (pairs : List Pair) (p : Package) → TellsNeeds pairs p → (on : List (List ℕ)) (class : Class) → IsInForm dependencies.grammar dependencies.is_block (tree_of class (with_enabled on p))
+entry_needs pairs p tells on Rdepend = tells.rdepend.0
+entry_needs pairs p tells on Pdepend = tells.pdepend.0
+entry_needs pairs p tells on Depend = tells.depend.0
+entry_needs pairs p tells on Bdepend = tells.bdepend.0
+entry_needs pairs p tells on Idepend = tells.idepend.0
+
+formed_with : (pairs : List Pair) (p : Package) → TellsNeeds pairs p → (on : List (List ℕ)) → IsFormed (with_enabled on p)
+formed_with pairs p tells on = record {
+  needs = entry_needs pairs p tells on;
+  required = tells.required.0;
+}
+
+visible_formed : (m : Map) (rules : VisibleRules) (vs : List Verdict) → AllByRecursion (IsVerdict m rules) vs → (e : Entry) → Has (filter_map visible_of vs) e → (on : List (List ℕ)) → IsFormed (with_enabled on e.package_is)
+visible_formed m rules [] all e is on = absurd is
+visible_formed m rules (verdicts.Visible f ∷ vs) all e (inl same) on = subst (λ (x : Entry). IsFormed (with_enabled on x.package_is)) same (formed_with _ f.package_is all.0.judged.has.tells.needs on)
+visible_formed m rules (verdicts.Visible f ∷ vs) all e (inr is) on = visible_formed m rules vs all.1 e is on
+visible_formed m rules (verdicts.Hidden h ∷ vs) all e is on = visible_formed m rules vs all.1 e is on
+
+pub offered_formed : (m : Map) (flips : ℕ) (implicit : List (List ℕ)) (candidates : List Candidate) (hidden : List Hidden) → AreOffers m flips implicit candidates hidden → AreOffered implicit (map bare_of candidates)
+offered_formed m flips implicit candidates hidden are = λ p is.
+    let of = are.offers in
+    let all : List Candidate = of.tried.tried in
+    let from = has-map_back bare_of candidates p is in
+    let tried = has-filter_back has_variant all from.0 (subst (λ (cs : List Candidate). Has cs from.0) of.tried.candidates_are from.1) in
+    let entry = zip_has (IsOffered of.flags flips) of.visible all from.0 of.tried.each tried.0 in
+    let judged = of.judged.are in
+    let visible = subst (λ (es : List Entry). Has es entry.0) judged.visible_are entry.1 in
+    let formed = visible_formed m of.judged.rules judged.verdicts judged.each entry.0 visible of.flags.implicit in
+    subst (λ (q : Package). IsFormed q × (q.facts.enabled ≡ implicit)) (sym entry.2.bare ∙ from.2) (formed, sym of.implicit_are)

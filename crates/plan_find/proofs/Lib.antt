@@ -1,0 +1,5 @@
+mod Barred
+mod Recorded
+mod Formed
+mod Fit
+mod Whole

@@ -1,0 +1,18 @@
+use Rattle.std.proofs.Common.{◌≢◌, List, refl, subst, sym}
+use Rattle.database_law.specs.Packages.{Installed}
+use Rattle.plan_choose.specs.declared.fault.NotChosen.TheVariants.{Memory}
+use Rattle.plan_find.specs.Choices.{IsUnchosen, choices_of}
+use Rattle.plan_find.specs.Refusals.{Refuses}
+use Rattle.plan_find.specs.declared.ends.NoPlan.{NoPlan}
+use Rattle.plan_find.proofs.Barred.{of_choice}
+use Rattle.plan_find.proofs.choosing.plan_over.Goals as goal
+
+pub returns-in-Err-clause-refused : goal.returns-in-Err-clause-refused
+returns-in-Err-clause-refused c = λ m are.
+    let o = c.args.offers in
+    let packages = c.args.opening.packages in
+    let asked = c.args.asked in
+    let fault = c.in-Err.fault in
+    let why = subst (λ (ps : List Installed). fault ≢ Memory → IsUnchosen (choices_of o.implicit ps o.candidates.items o.hidden.items) asked fault) c.deref.ensures.value c.in-Err.ensures.fault in
+    subst (λ (e : NoPlan). Refuses m asked e) (sym c.end_with.ensures)
+    (of_choice m asked (choices_of o.implicit packages.items o.candidates.items o.hidden.items) packages are refl fault why)

@@ -1,0 +1,122 @@
+-- What a run has to choose from, and the plan that is chosen of it.
+use Rattle.std.specs.Prelude.{◌≡◌, ℕ, List, map}
+use Rattle.dep_atom.specs.Values.{atom_value}
+use Rattle.file_tree.specs.Disk.{Map}
+use Rattle.pkg_state.specs.Package.{Package}
+use Rattle.choice_law.specs.Universe.{Universe}
+use Rattle.database_law.specs.Packages.{Installed}
+use Rattle.database_read.specs.Limits.{AreWithin}
+use Rattle.commit_law.specs.Lit.{packages_of}
+use Rattle.run_law.specs.Openings.{HasOpening}
+use Rattle.candidate_set.specs.declared.reason.Reason.{Reason as KeptBack}
+use Rattle.candidate_set.specs.declared.reason.Reason.TheVariants as kept
+use Rattle.offer_flags.specs.declared.candidate.Candidate.{Candidate}
+use Rattle.offer_read.specs.Offers.{AreOffers}
+use Rattle.offer_read.specs.declared.offers.Hidden.{Hidden}
+use Rattle.offer_read.specs.declared.offers.Reason.{Reason as HiddenReason}
+use Rattle.offer_read.specs.declared.offers.Reason.TheVariants as hides
+use Rattle.universe_make.specs.Offers.{variants_of}
+use Rattle.universe_make.specs.declared.candidate.Candidate.{Candidate as Tried}
+use Rattle.plan_choose.specs.Answers.{IsChosenPlan, Tells}
+use Rattle.plan_choose.specs.Wishes.{Over, WishValue}
+use Rattle.plan_choose.specs.declared.chosen.Chosen.{Chosen}
+use Rattle.plan_choose.specs.declared.fault.NotChosen.{NotChosen}
+use Rattle.plan_choose.specs.declared.reason.NotTaken.{NotTaken}
+use Rattle.plan_choose.specs.declared.reason.Reason.{Reason}
+use Rattle.plan_choose.specs.declared.reason.Reason.TheVariants.{BadEntry, Eapi, Keyword, Masked, NoEbuild, RequiredUse, Stale}
+use Rattle.plan_find.specs.declared.asked.Asked.{Asked}
+use Rattle.plan_find.specs.declared.found.Found.{Found}
+
+-- the package of a candidate with just the implicit flags on
+abbrev pub bare_of : Candidate → Package
+bare_of c = c.offered
+
+-- a candidate with its variants alone
+abbrev pub tried_of : Candidate → Tried
+tried_of c = record { variants = c.variants }
+
+-- why a candidate may not come, as it is told
+abbrev pub of_hidden : KeptBack → Reason
+of_hidden kept.NoEbuild = NoEbuild
+of_hidden kept.Eapi = Eapi
+of_hidden kept.Stale = Stale
+of_hidden kept.BadEntry = BadEntry
+of_hidden kept.Keyword = Keyword
+of_hidden kept.Masked = Masked
+
+abbrev pub reason_of : HiddenReason → Reason
+reason_of (hides.NotVisible reason) = of_hidden reason
+reason_of hides.RequiredUse = RequiredUse
+
+abbrev pub not_taken : Hidden → NotTaken
+not_taken h = record { id = h.id; reason = reason_of h.reason }
+
+-- what a run has to choose from: the flags that are on for every package, the installed packages as
+-- they are recorded, the candidates, and those that may not come
+pub record Choices : Type 0 where
+  pub implicit : List (List ℕ)
+  pub packages : List Installed
+  pub candidates : List Candidate
+  pub hidden : List Hidden
+
+abbrev pub choices_of : List (List ℕ) → List Installed → List Candidate → List Hidden → Choices
+choices_of implicit packages candidates hidden =
+    record {
+      implicit = implicit;
+      packages = packages;
+      candidates = candidates;
+      hidden = hidden;
+    }
+
+-- the installed packages as the run sees them, the offered ones, and those that may not come
+abbrev pub installed_of : Choices → List Package
+installed_of k = packages_of k.implicit k.packages
+
+abbrev pub offered_of : Choices → List Package
+offered_of k = map bare_of k.candidates
+
+abbrev pub hidden_of : Choices → List NotTaken
+hidden_of k = map not_taken k.hidden
+
+abbrev pub wish_of : Asked → WishValue
+wish_of asked =
+    record {
+      wanted = map atom_value asked.wanted.items;
+      update = asked.update;
+      limit = asked.limit;
+    }
+
+-- something holds of the universe of what is asked
+abbrev pub OfUniverse : Choices → Asked → (Universe → Type 0) → Type 0
+OfUniverse k asked Holds =
+    Over (installed_of k) (variants_of (map tried_of k.candidates)) (wish_of asked) Holds
+
+-- the plan is the one of what is asked
+abbrev pub IsChosenOf : Choices → Asked → Chosen → Type 0
+IsChosenOf k asked chosen = OfUniverse k asked (λ u.
+    IsChosenPlan (installed_of k) (offered_of k) asked.update asked.limit u chosen)
+
+-- there is none, for this reason
+abbrev pub IsUnchosen : Choices → Asked → NotChosen → Type 0
+IsUnchosen k asked fault = OfUniverse k asked (λ u.
+    Tells (installed_of k) (offered_of k) (hidden_of k) asked.update asked.limit u fault)
+
+-- the candidates are those of the map's offers; the packages are installed in it, within the limits,
+-- go together with the flags on, and no other list tells them
+pub record AreChoices (m : Map) (flips : ℕ) (k : Choices) : Type 0 where
+  pub offers : AreOffers m flips k.implicit k.candidates k.hidden
+  pub opening : HasOpening k.implicit m k.packages
+  pub within : AreWithin k.packages
+  pub only : (qs : List Installed) → HasOpening k.implicit m qs → k.packages ≡ qs
+
+-- the plan was found in these
+pub record IsFoundIn (k : Choices) (asked : Asked) (found : Found) : Type 0 where
+  pub implicit : found.implicit ≡ k.implicit
+  pub packages : found.packages.items ≡ k.packages
+  pub chosen : IsChosenOf k asked found.chosen
+
+-- it was found in what the map has to choose from
+pub record IsFound (m : Map) (asked : Asked) (found : Found) : Type 0 where
+  pub all : Choices
+  pub are : AreChoices m asked.flips all
+  pub inside : IsFoundIn all asked found

@@ -1,0 +1,32 @@
+-- What the laws of a run ask of the plan that it merges: a plan that was found is so.
+use Rattle.std.specs.Prelude.{◌≡◌, ℕ, List, []}
+use Rattle.basics.specs.Members.{Has}
+use Rattle.file_tree.specs.Disk.{Map}
+use Rattle.pkg_state.specs.Package.{Package}
+use Rattle.plan_law.specs.Accepted.{IsAccepted}
+use Rattle.plan_law.specs.Plans.{Group}
+use Rattle.commit_law.specs.Lit.{as_recorded, lit, packages_of}
+use Rattle.record_write.specs.Recorded.{IsRecordable}
+use Rattle.record_write.specs.Written.{installed_with}
+use Rattle.plan_find.specs.Choices.{IsFound}
+use Rattle.plan_find.specs.declared.asked.Asked.{Asked}
+use Rattle.plan_find.specs.declared.found.Found.{Found}
+
+-- the package can be recorded: what it needs is in form, and what is recorded of it is the package
+-- again with the flags on that the run has on for every package
+pub record CanBeKept (implicit : List (List ℕ)) (p : Package) : Type 0 where
+  pub needs : IsRecordable (installed_with p [])
+  pub enabled : lit implicit (as_recorded p) ≡ p
+
+-- the plan is accepted over the installed packages, as the run sees them, and what comes with it can
+-- be recorded
+pub record IsFit (found : Found) : Type 0 where
+  pub accepted :
+      IsAccepted found.chosen.plan (packages_of found.implicit found.packages.items)
+  pub kept : (g : Group) (p : Package) → Has found.chosen.plan g → Has g.additions p →
+      CanBeKept found.implicit p
+
+-- A plan that was found is fit.
+abbrev pub FoundPlansAreFit : Type 0
+FoundPlansAreFit =
+    (m : Map) (asked : Asked) (found : Found) → IsFound m asked found → IsFit found

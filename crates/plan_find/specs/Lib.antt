@@ -1,0 +1,5 @@
+pub mod Requests
+pub mod Ends
+pub mod Choices
+pub mod Refusals
+pub mod Laws

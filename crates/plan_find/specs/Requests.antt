@@ -1,0 +1,24 @@
+-- Which requests ask for a merge that is built, and what they ask.
+use Rattle.std.specs.Prelude.{◌≡◌, Bool, false}
+use Rattle.emerge_words.specs.declared.request.Command.{Command}
+use Rattle.emerge_words.specs.declared.request.Command.TheVariants.{Load, Merge, PlanFile, Unmerge}
+use Rattle.emerge_words.specs.declared.request.Request.{Request}
+use Rattle.plan_find.specs.declared.asked.Asked.{Asked}
+
+-- the command merges what its atoms match, without the world and without a repair, and asks this
+abbrev pub IsOfMerge : Command → Bool → Asked → Type 0
+IsOfMerge (Merge atoms world update repair backtrack flips) pretend asked =
+    (world ≡ false) × (repair ≡ false) × (asked ≡ record {
+      wanted = atoms;
+      update = update;
+      limit = backtrack;
+      flips = flips;
+      pretend = pretend;
+    })
+IsOfMerge (PlanFile path) pretend asked = ⊥
+IsOfMerge (Unmerge atoms) pretend asked = ⊥
+IsOfMerge (Load n) pretend asked = ⊥
+
+-- the request is such a command, and asks this
+abbrev pub IsAsked : Request → Asked → Type 0
+IsAsked r asked = IsOfMerge r.command r.pretend asked

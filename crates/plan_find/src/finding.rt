@@ -1,0 +1,37 @@
+ghost use Rattle.std.specs.Prelude.{◌≡◌, [], IfErr, IfOk, IsErrOf, IsTrue};
+ghost use Rattle.file_tree.specs.Disk.{CountsFault};
+ghost use Rattle.offer_read.specs.Configured.{IsRead as CanBeRead};
+ghost use Rattle.run_law.specs.Openings.{AreOwners};
+ghost use Rattle.user_read.specs.Files.{Config};
+ghost use Rattle.plan_find.specs.Choices.{IsFound};
+ghost use Rattle.plan_find.specs.Refusals.{IsRead, Refuses};
+
+use crate::asked::Asked;
+use crate::choosing::plan_over;
+use crate::ends::NoPlan;
+use crate::found::Found;
+use file_tree::Tree;
+use offer_read::read_offers;
+use opening::read_opening;
+use std::alloc::Global;
+
+/// What is to be merged into a recovered tree. First come the faults of its configuration and the
+/// limit of its candidates, then those of its installed packages, then those of the choice.
+pub fn find_plan<T: Tree>(alloc: Global, tree: &mut T, asked: Asked) -> Result<Found, NoPlan>
+    ensures found { IsTrue T.tells →
+        IfOk result (IsFound (T.story tree.old).now.holds asked) }
+    ensures owners { IsTrue T.tells → IfOk result
+        (λ f. AreOwners (T.story tree.old).now.holds f.packages.items f.book) }
+    ensures unclaimed { IfOk result (λ f. f.book.claims ≡ []) }
+    ensures refused { IsTrue T.tells →
+        IfErr result (Refuses (T.story tree.old).now.holds asked) }
+    ensures read { IsTrue T.tells → (c : Config) → CanBeRead (T.story tree.old).now.holds c →
+        IfErr result (IsRead (T.story tree.old).now.holds) }
+    ensures same { IsTrue T.tells → T.story tree.new ≡ T.story tree.old }
+    ensures faults { CountsFault (IsErrOf result NoPlan.Failed) (T.faults tree.old)
+        (T.faults tree.new) }
+{
+    let offers = read_offers(alloc, tree, asked.flips)?;
+    let opening = read_opening(alloc, tree, &offers.implicit)?;
+    plan_over(alloc, opening, offers, asked)
+}

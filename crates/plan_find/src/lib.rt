@@ -1,0 +1,40 @@
+//! What a run is to merge: from what a command asks and the recovered tree to the plan, or to why
+//! there is none.
+//!
+//! The configuration, the profile and the repository's cache of the tree give the offers, its
+//! database the installed packages; of both the plan is chosen, linked and checked.
+//!
+//! **A contract sees** the tree as its story, and what there is to choose from as a record
+//! ([`Found`] and `Choices` of `specs/Choices.antt`).
+//!
+//! **Proved**: [`asked_of`] takes just the requests that merge what their atoms match, without the
+//! world and without a repair. [`find_plan`] answers with the installed packages, who owns what
+//! among them, and the plan that is chosen of the tree's offers over them (`IsFound` of
+//! `specs/Choices.antt`). Any other answer but a failure and want of memory tells why there is none
+//! (`Refuses` of `specs/Refusals.antt`): the first fault of the configuration, too many candidates,
+//! then that no run can begin with the installed packages, then that nothing is chosen of what is
+//! offered. The tree is only read. A law says that the plan is accepted over the installed packages,
+//! and that what comes with it can be recorded (`specs/Laws.antt`).
+//!
+//! **Only tested**: that with ample memory it answers.
+//!
+//! ```
+//! let Some(asked) = asked_of(request) else { return Ok(()) };
+//! let found = find_plan(alloc, &mut tree, asked)?;
+//! let groups = found.chosen.plan.groups();
+//! ```
+#![tactic(auto)]
+
+mod asked;
+mod choosing;
+mod ends;
+mod finding;
+mod found;
+mod laws;
+mod offered;
+
+pub use asked::{Asked, asked_of};
+pub use ends::NoPlan;
+pub use finding::find_plan;
+pub use found::Found;
+pub use laws::found_plans_are_fit;
