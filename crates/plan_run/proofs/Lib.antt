@@ -1,0 +1,4 @@
+pub mod Course
+pub mod Ending
+pub mod Ordered
+pub mod Whole

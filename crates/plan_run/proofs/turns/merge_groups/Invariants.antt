@@ -1,0 +1,24 @@
+use Rattle.std.proofs.Common.{◌≡◌, ◌+◌, ◌≤◌, ℕ, length}
+use Rattle.std.specs.Prelude.{IsTrue}
+use Rattle.build_pool.specs.Pool.{SameIds, faults_of}
+use Rattle.group_run.specs.Lines.{AreLines, Wrote, line_in}
+use Rattle.group_run.specs.Through.{HasRoom, IsSameSite}
+use Rattle.image_build.specs.Images.{IsBuilt, TellAlike}
+use Rattle.plan_make.specs.Held.{holdings_of}
+use Rattle.plan_run.specs.Courses.{IsUpTo}
+use Rattle.plan_run.proofs.turns.merge_groups.Given as goal
+
+abbrev pub invariant-loop-place : goal.invariant-loop-place
+invariant-loop-place g l =
+    IsUpTo (IsBuilt g.B.Builder.tells g.B.Builder.told l.fn.pool.resting) l.plan l.jobs l.places (holdings_of l.fn.held) g.T.Tree.tells (g.T.Tree.story l.fn.site.opened).now.holds l.place (holdings_of l.held) l.history.items l.acknowledged.items l.site
+    × IsSameSite l.fn.site l.site
+    × ((n : ℕ) → l.place + n ≡ length l.plan → HasRoom n l.history)
+    × ((n : ℕ) → l.place + n ≡ length l.plan → HasRoom n l.acknowledged)
+    × (IsTrue g.S.Sink.tells → Wrote (AreLines (line_in l.fn.site.groups) l.history.items l.acknowledged.items) (g.S.Sink.written l.fn.site.sink) (g.S.Sink.written l.site.sink))
+    × (g.T.Tree.faults l.fn.site.tree ≤ g.T.Tree.faults l.site.tree)
+    × (g.S.Sink.faults l.fn.site.sink ≤ g.S.Sink.faults l.site.sink)
+    × TellAlike g.B.Builder.told l.fn.pool.resting l.pool.resting
+    × (length l.pool.resting ≡ length l.fn.pool.resting)
+    × SameIds g.B.Builder.number l.fn.pool l.pool
+    × (l.pool.lent ≡ l.fn.pool.lent)
+    × (faults_of g.B.Builder.faults l.fn.pool ≤ faults_of g.B.Builder.faults l.pool)

@@ -1,0 +1,58 @@
+-- How the turns of a plan's run went, before its journal is cleared.
+use Rattle.std.specs.Prelude.{◌≡◌, ℕ, suc, Bool, List, [], ◌∷◌, Result, length}
+use Rattle.build_pool.specs.declared.orders.Order.{Order}
+use Rattle.file_tree.specs.Disk.{Map}
+use Rattle.file_tree.specs.declared.objects.Entry.{Entry}
+use Rattle.merge_site.specs.Site.{Account}
+use Rattle.plan_law.specs.Plans.{Group, group_at}
+use Rattle.database_law.specs.Packages.{Installed}
+use Rattle.group_run.specs.Lines.{IsBeginning}
+use Rattle.group_run.specs.Runs.{IsOver, IsUnderWay}
+use Rattle.group_run.specs.Turns.{numbers}
+use Rattle.group_run.specs.declared.stop.Stop.{Stop}
+use Rattle.group_run.specs.declared.turn.Turn.{Turn}
+use Rattle.exchange_make.specs.Keys.{folders_with}
+use Rattle.exchange_make.specs.Places.{ArePlaces}
+use Rattle.exchange_make.specs.declared.newcomer.Newcomer.{Newcomer}
+use Rattle.exchange_make.specs.declared.places.Places.{Places}
+use Rattle.plan_make.specs.Held.{Holdings, holding_all}
+use Rattle.plan_make.specs.Plans.{coming}
+use Rattle.plan_make.specs.Turns.{AreNewcomersAt, AreTurns, IsTurnOf}
+use Rattle.plan_make.specs.declared.job.Job.{Job}
+use Rattle.plan_run.specs.Runs.{upto}
+
+-- these turns are those of the first groups of the plan, for any packages whose places these are
+pub record AreMade (Image : Order → List Entry → Type 0) (plan : List Group) (jobs : List Job)
+    (places : Places) (held : Holdings) (turns : List Turn) : Type 0 where
+  pub numbered : IsBeginning (upto (length plan)) (numbers turns)
+  pub made : (ps : List Installed) → ArePlaces (folders_with ps (coming plan)) places →
+      AreTurns Image ps plan jobs 0 held turns
+
+-- the run ended so with turns that were made of the plan
+pub record RanPlan {T S : Type 0} (Image : Order → List Entry → Type 0) (plan : List Group)
+    (jobs : List Job) (places : Places) (held : Holdings) (tells : Bool) (opening : Map)
+    (history acknowledged : List ℕ) (end : Result (Unit {0}) Stop) (a : Account T S) :
+    Type 0 where
+  pub turns : List Turn
+  pub are : AreMade Image plan jobs places held turns
+  pub over : IsOver tells opening turns history acknowledged end a
+
+-- the turns are those of the groups from a place on, and behind them these paths are held
+abbrev pub AreTurnsTo : (Order → List Entry → Type 0) → List Installed → List Group → List Job →
+    ℕ → Holdings → List Turn → Holdings → Type 0
+AreTurnsTo Image ps plan jobs place held [] last = last ≡ held
+AreTurnsTo Image ps plan jobs place held (t ∷ ts) last = (t.group ≡ suc place)
+    × ((newcomers : List Newcomer) × AreNewcomersAt Image plan jobs place newcomers
+    × IsTurnOf ps plan (group_at plan place) held newcomers t
+    × AreTurnsTo Image ps plan jobs (suc place) (holding_all newcomers t.packages.items held) ts
+    last)
+
+-- a run has merged just the groups before this place
+pub record IsUpTo {T S : Type 0} (Image : Order → List Entry → Type 0) (plan : List Group)
+    (jobs : List Job) (places : Places) (held : Holdings) (tells : Bool) (opening : Map)
+    (place : ℕ) (now : Holdings) (history acknowledged : List ℕ) (a : Account T S) : Type 0 where
+  pub turns : List Turn
+  pub under : IsUnderWay tells opening turns history acknowledged a
+  pub numbered : numbers turns ≡ upto place
+  pub made : (ps : List Installed) → ArePlaces (folders_with ps (coming plan)) places →
+      AreTurnsTo Image ps plan jobs 0 held turns now

@@ -1,0 +1,86 @@
+ghost use Rattle.std.specs.Prelude.{◌≡◌, ◌≤◌, ℕ, List, IsErrOf, IsTrue};
+ghost use Rattle.file_tree.specs.Disk.{Rose};
+ghost use Rattle.group_run.specs.Runs.{IsOver};
+ghost use Rattle.group_run.specs.Turns.{AreFirst};
+ghost use Rattle.group_run.specs.Went.{WentWith};
+ghost use Rattle.group_run.specs.declared.stop.Stop.TheVariants as merges;
+ghost use Rattle.group_run.specs.declared.turn.Turn.{Turn};
+ghost use Rattle.plan_run.specs.Ends.{ClosesAs, build_of, joined_end};
+ghost use Rattle.plan_run.specs.Runs.{merge_end};
+
+use crate::stop::PlanStop;
+use file_tree::{Sink, Tree};
+use group_run::{Closed, Stop, close_run};
+use merge_core::Core;
+use merge_site::Site;
+use std::alloc::Global;
+
+/// What the site of a plan's run gives back.
+#[derive(Drop)]
+pub(crate) struct Parts<T, S> {
+    pub(crate) tree: T,
+    pub(crate) sink: S,
+    pub(crate) machine: Core,
+    pub(crate) end: Result<(), PlanStop>,
+}
+
+/// Clears the journal of a run that ended so.
+pub(crate) fn close<T: Tree, S: Sink>(
+    alloc: Global,
+    site: Site<T, S>,
+    end: Result<(), PlanStop>,
+) -> Parts<T, S>
+    ensures went { (turns : List Turn) (history acknowledged : List ℕ) → IsOver T.tells
+        (T.story site.opened).now.holds turns history acknowledged (merge_end tt end) site →
+        IsTrue T.tells →
+        WentWith (AreFirst (T.story site.opened).now.holds site.opened_book site.groups turns)
+        (T.story site.opened) (T.story result.tree) history (merge_end tt result.end) }
+    ensures machine { result.machine ≡ site.keeping }
+    ensures sink { result.sink ≡ site.sink }
+    ensures end { ClosesAs end result.end }
+    ensures count { T.faults site.tree ≤ T.faults result.tree }
+    ensures rose { IsErrOf result.end (PlanStop.Merge merges.Device) →
+        (¬ IsErrOf end (PlanStop.Merge merges.Device)) →
+        Rose (T.faults site.tree) (T.faults result.tree) }
+{
+    let (merge, build) = parted(end);
+    let Closed {
+        tree,
+        sink,
+        machine,
+        end,
+    } = close_run(alloc, site, merge);
+    let end = joined(end, build);
+    Parts {
+        tree,
+        sink,
+        machine,
+        end,
+    }
+}
+
+/// The end of the merge, and a stop of a build beside it.
+fn parted(end: Result<(), PlanStop>) -> (Result<(), Stop>, Option<PlanStop>)
+    ensures merge { result.0 ≡ merge_end tt end }
+    ensures build { result.1 ≡ build_of end }
+{
+    match end {
+        Ok(()) => (Ok(()), None),
+        Err(PlanStop::Merge(stop)) => (Err(stop), None),
+        Err(PlanStop::Build(id)) => (Ok(()), Some(PlanStop::Build(id))),
+        Err(PlanStop::Image(id)) => (Ok(()), Some(PlanStop::Image(id))),
+    }
+}
+
+/// The end of a run whose merge ended so, beside a stop of a build.
+fn joined(end: Result<(), Stop>, build: Option<PlanStop>) -> Result<(), PlanStop>
+    ensures { result ≡ joined_end end build }
+{
+    match end {
+        Err(stop) => Err(PlanStop::Merge(stop)),
+        Ok(()) => match build {
+            Some(stop) => Err(stop),
+            None => Ok(()),
+        },
+    }
+}

@@ -1,0 +1,37 @@
+use dep_atom::PackageId;
+use group_run::Stop;
+use std::alloc::AllocError;
+
+/// Why the run of a plan ended before all of its groups were told.
+#[derive(Debug, Drop)]
+pub enum PlanStop {
+    /// The merge of the next group, or the device, the output or want of memory.
+    Merge(Stop),
+    /// The builder of this package's image failed.
+    Build(PackageId),
+    /// The image of this package has too many entries.
+    Image(PackageId),
+}
+
+impl From<Stop> for PlanStop {
+    ghost use Rattle.std.specs.Prelude.{◌≡◌};
+    ghost use Rattle.plan_run.specs.declared.stop.PlanStop.TheVariants as stops;
+
+    ghost from_gives = { λ stop e. e ≡ stops.Merge stop };
+
+    fn from(stop: Stop) -> PlanStop {
+        PlanStop::Merge(stop)
+    }
+}
+
+impl From<AllocError> for PlanStop {
+    ghost use Rattle.std.specs.Prelude.{◌≡◌};
+    ghost use Rattle.group_run.specs.declared.stop.Stop.TheVariants as merges;
+    ghost use Rattle.plan_run.specs.declared.stop.PlanStop.TheVariants as stops;
+
+    ghost from_gives = { λ _ e. e ≡ stops.Merge merges.Memory };
+
+    fn from(_: AllocError) -> PlanStop {
+        PlanStop::Merge(Stop::Memory)
+    }
+}
