@@ -129,6 +129,19 @@ pub ended_told : (end : Result (Unit {0}) PlanStop) (told history ns all : List 
 ended_told (Ok x) told history ns all tells merged whole = tells ∙ (sym merged ∙ whole)
 ended_told (Err e) told history ns all tells merged whole = tt
 
+-- .. where no group was stopped, all of the history are told
+pub fine_told : (end : Result (Unit {0}) PlanStop) (told history ns : List ℕ) → OnOk (merge_end tt end) (told ≡ ns) → OnOk (merge_end tt end) (history ≡ ns) → OnOk (merge_end tt end) (told ≡ history)
+fine_told (Ok x) told history ns tells merged = tells ∙ sym merged
+fine_told (Err (stops.Merge s)) told history ns tells merged = tt
+fine_told (Err (stops.Build id)) told history ns tells merged = tells ∙ sym merged
+fine_told (Err (stops.Image id)) told history ns tells merged = tells ∙ sym merged
+
+pub closed_fine : (P : Type 0) (end end' : Result (Unit {0}) PlanStop) → ClosesAs end end' → OnOk (merge_end tt end) P → OnOk (merge_end tt end') P
+closed_fine P end (Ok x) closes is = subst (λ (e : Result (Unit {0}) PlanStop). OnOk (merge_end tt e) P) closes is
+closed_fine P end (Err (stops.Merge s)) closes is = tt
+closed_fine P end (Err (stops.Build id)) closes is = subst (λ (e : Result (Unit {0}) PlanStop). OnOk (merge_end tt e) P) closes is
+closed_fine P end (Err (stops.Image id)) closes is = subst (λ (e : Result (Unit {0}) PlanStop). OnOk (merge_end tt e) P) closes is
+
 pub output_before : (end end' : Result (Unit {0}) PlanStop) → ClosesAs end end' → IsErrOf end' (stops.Merge merges.Output) → IsErrOf end (stops.Merge merges.Output)
 output_before end end' closes is = subst (λ (e : Result (Unit {0}) PlanStop). ClosesAs end e) is closes
 

@@ -78,6 +78,8 @@ pub fn merge_plan<T: Tree, S: Sink, B: Builder>(
     ensures kept { IsBeginning result.history.items result.acknowledged.items }
     ensures all_told { IfErr (merge_end tt result.end) (λ s. IsOfGroup s →
         result.acknowledged.items ≡ result.history.items) }
+    ensures so_far { OnOk (merge_end tt result.end)
+        (result.acknowledged.items ≡ result.history.items) }
     ensures merged { OnOk result.end (result.history.items ≡ upto (length plan.now)) }
     ensures told { OnOk result.end (result.acknowledged.items ≡ upto (length plan.now)) }
     ensures written { IsTrue S.tells → Wrote (AreLines (line_for task.jobs.items)
@@ -136,6 +138,8 @@ fn run_course<T: Tree, S: Sink, B: Builder>(
     ensures kept { IsBeginning result.history.items result.acknowledged.items }
     ensures all_told { IfErr (merge_end tt result.end) (λ s. IsOfGroup s →
         result.acknowledged.items ≡ result.history.items) }
+    ensures so_far { OnOk (merge_end tt result.end)
+        (result.acknowledged.items ≡ result.history.items) }
     ensures merged { OnOk result.end (result.history.items ≡ upto (length plan.now)) }
     ensures told { OnOk result.end (result.acknowledged.items ≡ upto (length plan.now)) }
     ensures written { IsTrue S.tells → Wrote (AreLines (line_for jobs.now)

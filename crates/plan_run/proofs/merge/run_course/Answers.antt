@@ -19,7 +19,7 @@ use Rattle.plan_make.specs.Held.{holdings_of}
 use Rattle.plan_make.specs.Plans.{line_for, orders_at}
 use Rattle.plan_run.specs.Runs.{SaysBuild, merge_end, upto}
 use Rattle.plan_run.specs.declared.stop.PlanStop.TheVariants as stops
-use Rattle.plan_run.proofs.Whole.{as_opened, begins_then, closed_cause, closed_ok, closed_stop, counts_closed, ended_told, machine_for, one_more, memory_is, output_before, same_lines, unmerged_build, unmerged_failed, unmerged_ok, unmerged_plain, unmerged_quiet, unmerged_told}
+use Rattle.plan_run.proofs.Whole.{as_opened, begins_then, closed_cause, closed_fine, closed_ok, closed_stop, counts_closed, ended_told, fine_told, machine_for, one_more, memory_is, output_before, same_lines, unmerged_build, unmerged_failed, unmerged_ok, unmerged_plain, unmerged_quiet, unmerged_told}
 use Rattle.plan_run.proofs.merge.run_course.Goals as goal
 
 pub open_run-requires-clause-small : goal.open_run-requires-clause-small
@@ -88,6 +88,14 @@ pub returns-in-Ok-clause-all_told : goal.returns-in-Ok-clause-all_told
 returns-in-Ok-clause-all_told g c =
     closed_cause (λ s. IsOfGroup s → c.merge_groups-end.new.acknowledged.items ≡ c.merge_groups-end.new.history.items) c.merge_groups-end.result c.close-tree.result.end (λ of. absurd of) (λ of. absurd of) c.close-tree.ensures.end
     c.merge_groups-end.ensures.ran.over.all_told
+
+pub returns-in-Ok-clause-so_far : goal.returns-in-Ok-clause-so_far
+returns-in-Ok-clause-so_far g c =
+    let end = c.merge_groups-end.result in
+    let told = c.merge_groups-end.new.acknowledged.items in
+    let history = c.merge_groups-end.new.history.items in
+    let ran = c.merge_groups-end.ensures.ran in
+    closed_fine (told ≡ history) end c.close-tree.result.end c.close-tree.ensures.end (fine_told end told history (numbers ran.turns) ran.over.told ran.over.merged)
 
 pub returns-in-Ok-clause-merged : goal.returns-in-Ok-clause-merged
 returns-in-Ok-clause-merged g c =
