@@ -1,13 +1,14 @@
 //! The builders of a run, and the pool that lends them.
 //!
 //! **A contract sees** a [`Builder`] by its number, its count of faults and the image that it
-//! tells for each order; a [`BuildPool`] as the builders at rest and, of each that is lent, its
-//! number and how often it had failed.
+//! tells for each order; an [`Order`] as its package with its slots, the flags that are on and what
+//! its equals operators are bound to, so that orders of the same contents are one; a [`BuildPool`]
+//! as the builders at rest and, of each that is lent, its number and how often it had failed.
 //!
 //! **Proved**: the builders at rest and lent are, each once, those handed in; the count of faults
 //! is the sum over all of them; a builder that is lent was at rest; builders that are made for a run
-//! are known by different numbers. What a builder answers is a promise that whoever implements
-//! [`Builder`] proves.
+//! are known by different numbers; a copy of an order is that order. What a builder answers is a
+//! promise that whoever implements [`Builder`] proves.
 //!
 //! **Only tested**: with ample memory a pool is made.
 //!
@@ -18,11 +19,13 @@
 //! ```
 #![tactic(auto)]
 
+mod binds;
 mod builders;
 mod numbered;
 mod orders;
 mod pools;
 
+pub use binds::Binds;
 pub use builders::{BuildStop, Builder};
 pub use numbered::numbered_builders;
 pub use orders::Order;

@@ -1,8 +1,9 @@
 ghost use Rattle.std.specs.Prelude.{◌≡◌, [], true, IfOk};
 
-use build_pool::{BuildPool, BuildStop, Builder, Order};
+use build_pool::{Binds, BuildPool, BuildStop, Builder, Order};
 use dep_atom::PackageId;
 use file_tree::Entry;
+use pms_names::{Flags, SlotName};
 use std::test::Fail;
 
 // A builder with one image for every order. One that fails does so at each start.
@@ -71,8 +72,14 @@ fn pair(rt: &HostRuntime) -> Result<BuildPool<Scripted>, Fail>
 }
 
 fn order(rt: &HostRuntime) -> Result<Order, Fail> {
-    let id = PackageId::parse(rt.alloc(), "app", "tool-1")?;
-    Ok(Order { id })
+    let alloc = rt.alloc();
+    Ok(Order {
+        id: PackageId::parse(alloc, "app", "tool-1")?,
+        slot: SlotName::parse(alloc, "0")?,
+        subslot: SlotName::parse(alloc, "0")?,
+        enabled: Flags::new(alloc),
+        binds: Binds::new(Vec::new(alloc)),
+    })
 }
 
 #[test]

@@ -25,4 +25,5 @@ mod stop;
 mod turns;
 
 pub use merge::{Merged, Task, merge_plan};
+pub use newcomers::newcomers_of;
 pub use stop::PlanStop;

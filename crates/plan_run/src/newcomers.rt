@@ -14,8 +14,9 @@ use image_build::{ImageStop, built_image};
 use pkg_state::{Pkg, copy_package};
 use std::alloc::{AllocError, Global};
 
-/// The additions of a group, each with the image that a builder of the pool makes for its order.
-pub(crate) fn newcomers_of<B: Builder>(
+/// The additions of a group, each with the image that a builder of the pool makes for its order. The
+/// first that has none stops it.
+pub fn newcomers_of<B: Builder>(
     alloc: Global,
     pool: &mut BuildPool<B>,
     additions: &[Pkg],

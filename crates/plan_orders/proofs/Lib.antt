@@ -1,0 +1,2 @@
+pub mod InForm
+mod Sets
