@@ -12,6 +12,7 @@ use Rattle.plan_find.specs.Choices.{offered_of}
 use Rattle.plan_find.specs.Laws.{CanBeKept, FoundPlansAreFit}
 use Rattle.plan_find.proofs.Formed.{offered_formed}
 use Rattle.plan_find.proofs.Recorded.{recorded_again}
+use Rattle.plan_find.proofs.Shaped.{in_order, in_shape}
 
 pub found_fit : LinkedAdditionsCanBeKept → FoundPlansAreFit
 found_fit law = λ m asked found is.
@@ -24,6 +25,7 @@ found_fit law = λ m asked found is.
     let kept = law k.implicit (offered_of k) text plan g p offered chosen.of_universe.form chosen.good.stands.linked has_g has_p in
     record { needs = kept.recordable; enabled = recorded_again k.implicit p kept.lit } in
     record {
+      earlier = in_order text plan (in_shape k asked found.chosen is.inside.chosen).one;
       accepted = subst (λ (flags : List (List ℕ)). IsAccepted plan (packages_of flags found.packages.items)) (sym is.inside.implicit)
           (subst (λ (ps : List Installed). IsAccepted plan (packages_of k.implicit ps)) (sym is.inside.packages) chosen.good.accepted);
       kept = subst (λ (flags : List (List ℕ)). (g : Group) (p : Package) → Has plan g → Has g.additions p → CanBeKept flags p) (sym is.inside.implicit) keep;

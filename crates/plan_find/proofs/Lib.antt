@@ -3,3 +3,4 @@ mod Recorded
 mod Formed
 mod Fit
 mod Whole
+mod Shaped

@@ -2,6 +2,7 @@
 use Rattle.std.specs.Prelude.{◌≡◌, ℕ, List, map}
 use Rattle.dep_atom.specs.Values.{atom_value}
 use Rattle.file_tree.specs.Disk.{Map}
+use Rattle.pms_names.specs.Flags.{IsRising}
 use Rattle.pkg_state.specs.Package.{Package}
 use Rattle.choice_law.specs.Universe.{Universe}
 use Rattle.database_law.specs.Packages.{Installed}
@@ -112,6 +113,7 @@ pub record AreChoices (m : Map) (flips : ℕ) (k : Choices) : Type 0 where
 -- the plan was found in these
 pub record IsFoundIn (k : Choices) (asked : Asked) (found : Found) : Type 0 where
   pub implicit : found.implicit ≡ k.implicit
+  pub rising : IsRising found.implicit
   pub packages : found.packages.items ≡ k.packages
   pub chosen : IsChosenOf k asked found.chosen
 

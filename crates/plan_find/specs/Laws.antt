@@ -4,7 +4,7 @@ use Rattle.basics.specs.Members.{Has}
 use Rattle.file_tree.specs.Disk.{Map}
 use Rattle.pkg_state.specs.Package.{Package}
 use Rattle.plan_law.specs.Accepted.{IsAccepted}
-use Rattle.plan_law.specs.Plans.{Group}
+use Rattle.plan_law.specs.Plans.{Group, WaitsForEarlier}
 use Rattle.commit_law.specs.Lit.{as_recorded, lit, packages_of}
 use Rattle.record_write.specs.Recorded.{IsRecordable}
 use Rattle.record_write.specs.Written.{installed_with}
@@ -18,9 +18,10 @@ pub record CanBeKept (implicit : List (List ℕ)) (p : Package) : Type 0 where
   pub needs : IsRecordable (installed_with p [])
   pub enabled : lit implicit (as_recorded p) ≡ p
 
--- the plan is accepted over the installed packages, as the run sees them, and what comes with it can
--- be recorded
+-- each group of the plan waits for earlier ones alone, the plan is accepted over the installed
+-- packages, as the run sees them, and what comes with it can be recorded
 pub record IsFit (found : Found) : Type 0 where
+  pub earlier : WaitsForEarlier found.chosen.plan
   pub accepted :
       IsAccepted found.chosen.plan (packages_of found.implicit found.packages.items)
   pub kept : (g : Group) (p : Package) → Has found.chosen.plan g → Has g.additions p →

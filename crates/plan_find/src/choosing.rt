@@ -1,6 +1,7 @@
 ghost use Rattle.std.specs.Prelude.{◌≡◌, ◌≢◌, IfErr, IfOk, map};
 ghost use Rattle.commit_law.specs.Lit.{packages_of};
 ghost use Rattle.file_tree.specs.Disk.{Map};
+ghost use Rattle.pms_names.specs.Flags.{IsRising};
 ghost use Rattle.pkg_state.specs.Consistent.{AreApart, AreConsistent};
 ghost use Rattle.plan_choose.specs.Answers.{IsChosenPlan, Tells};
 ghost use Rattle.plan_choose.specs.Wishes.{Over, wish_value};
@@ -9,6 +10,7 @@ ghost use Rattle.universe_make.specs.Offers.{variants_of};
 ghost use Rattle.plan_find.specs.Choices.{AreChoices, IsChosenOf, IsFoundIn, IsUnchosen};
 ghost use Rattle.plan_find.specs.Choices.{bare_of, choices_of, tried_of};
 ghost use Rattle.plan_find.specs.Refusals.{IsOfChoice, Refuses};
+ghost use Rattle.plan_find.specs.Shapes.{IsInShape};
 
 use crate::asked::Asked;
 use crate::ends::{NoPlan, end_with};
@@ -33,6 +35,7 @@ pub(crate) fn plan_over(
     requires { AreConsistent (packages_of offers.implicit opening.packages.items) }
     ensures found { IfOk result (IsFoundIn (choices_of offers.implicit opening.packages.items
         offers.candidates.items offers.hidden.items) asked) }
+    ensures shape { IfOk result (λ f. IsInShape f.chosen) }
     ensures packages { IfOk result (λ f. f.packages ≡ opening.packages) }
     ensures book { IfOk result (λ f. f.book ≡ opening.book) }
     ensures refused { IfErr result (λ e. (m : Map) → AreChoices m asked.flips (choices_of
@@ -46,6 +49,7 @@ pub(crate) fn plan_over(
         candidates,
         hidden,
     } = offers;
+    rises(&implicit);
     match chosen_over(alloc, &packages, &implicit, candidates, hidden, asked) {
         Ok(chosen) => Ok(Found {
             packages,
@@ -55,6 +59,13 @@ pub(crate) fn plan_over(
         }),
         Err(fault) => Err(end_with(fault, packages)),
     }
+}
+
+/// Says that the flags are in byte order.
+fn rises(flags: &Flags)
+    ensures { IsRising flags.now }
+{
+    flags.list();
 }
 
 /// What is chosen of the candidates, over these packages with the implicit flags on.

@@ -5,6 +5,7 @@ ghost use Rattle.run_law.specs.Openings.{AreOwners};
 ghost use Rattle.user_read.specs.Files.{Config};
 ghost use Rattle.plan_find.specs.Choices.{IsFound};
 ghost use Rattle.plan_find.specs.Refusals.{IsRead, Refuses};
+ghost use Rattle.plan_find.specs.Shapes.{IsInShape};
 
 use crate::asked::Asked;
 use crate::choosing::plan_over;
@@ -20,6 +21,7 @@ use std::alloc::Global;
 pub fn find_plan<T: Tree>(alloc: Global, tree: &mut T, asked: Asked) -> Result<Found, NoPlan>
     ensures found { IsTrue T.tells →
         IfOk result (IsFound (T.story tree.old).now.holds asked) }
+    ensures shape { IfOk result (λ f. IsInShape f.chosen) }
     ensures owners { IsTrue T.tells → IfOk result
         (λ f. AreOwners (T.story tree.old).now.holds f.packages.items f.book) }
     ensures unclaimed { IfOk result (λ f. f.book.claims ≡ []) }

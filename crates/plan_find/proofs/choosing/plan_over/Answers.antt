@@ -5,6 +5,7 @@ use Rattle.plan_find.specs.Choices.{IsUnchosen, choices_of}
 use Rattle.plan_find.specs.Refusals.{Refuses}
 use Rattle.plan_find.specs.declared.ends.NoPlan.{NoPlan}
 use Rattle.plan_find.proofs.Barred.{of_choice}
+use Rattle.plan_find.proofs.Shaped.{in_shape}
 use Rattle.plan_find.proofs.choosing.plan_over.Goals as goal
 
 pub returns-in-Err-clause-refused : goal.returns-in-Err-clause-refused
@@ -16,3 +17,8 @@ returns-in-Err-clause-refused c = λ m are.
     let why = subst (λ (ps : List Installed). fault ≢ Memory → IsUnchosen (choices_of o.implicit ps o.candidates.items o.hidden.items) asked fault) c.deref.ensures.value c.in-Err.ensures.fault in
     subst (λ (e : NoPlan). Refuses m asked e) (sym c.end_with.ensures)
     (of_choice m asked (choices_of o.implicit packages.items o.candidates.items o.hidden.items) packages are refl fault why)
+
+pub returns-in-Ok-clause-shape : goal.returns-in-Ok-clause-shape
+returns-in-Ok-clause-shape c =
+    let o = c.args.offers in
+    in_shape (choices_of o.implicit c.deref.result.now o.candidates.items o.hidden.items) c.args.asked c.in-Ok.chosen c.in-Ok.ensures.chosen
