@@ -1,0 +1,52 @@
+-- A run of a plan with images of some kind is one with whatever images. No clause can speak of each
+-- kind of image, so the law of such runs asks for no more.
+use Rattle.std.proofs.Common.{◌≡◌, ◌⊎◌, ℕ, suc, List, [], ◌∷◌, Result, inl, inr}
+use Rattle.std.specs.List.{AllZip}
+use Rattle.build_pool.specs.declared.orders.Order.{Order}
+use Rattle.file_tree.specs.Disk.{Story}
+use Rattle.file_tree.specs.declared.objects.Entry.{Entry}
+use Rattle.owner_book.specs.Book.{Book}
+use Rattle.plan_law.specs.Plans.{Group}
+use Rattle.database_law.specs.Packages.{Installed}
+use Rattle.group_run.specs.declared.stop.Stop.{Stop}
+use Rattle.group_run.specs.declared.turn.Turn.{Turn}
+use Rattle.exchange_make.specs.declared.newcomer.Newcomer.{Newcomer}
+use Rattle.plan_make.specs.Held.{Holdings, holding_all}
+use Rattle.plan_make.specs.Plans.{orders_at}
+use Rattle.plan_make.specs.Turns.{AreTurns}
+use Rattle.plan_make.specs.declared.job.Job.{Job}
+use Rattle.plan_run.specs.Runs.{WentFor}
+use Rattle.plan_sound.specs.Sound.{AnyImage}
+
+module _ (Image : Order → List Entry → Type 0) where
+  any_images : (os : List Order) (ns : List Newcomer) → AllZip (λ o n. Image o n.image.items) os ns → AllZip (λ o n. AnyImage o n.image.items) os ns
+  any_images [] [] all = tt
+  any_images [] (n ∷ ns) all = absurd all
+  any_images (o ∷ os) [] all = absurd all
+  any_images (o ∷ os) (n ∷ ns) all = (tt, any_images os ns all.1)
+
+  any_turns : (ps : List Installed) (plan : List Group) (jobs : List Job) (place : ℕ) (held : Holdings) (ts : List Turn) → AreTurns Image ps plan jobs place held ts → AreTurns AnyImage ps plan jobs place held ts
+  any_turns ps plan jobs place held [] are = tt
+  any_turns ps plan jobs place held (t ∷ ts) (number, (newcomers, brings, of, later)) = (
+    number,
+    (
+      newcomers,
+      record { there = brings.there; brings = brings.brings; images = any_images (orders_at jobs place) newcomers brings.images },
+      of,
+      any_turns ps plan jobs (suc place) (holding_all newcomers t.packages.items held) ts later,
+    ),
+  )
+
+  pub went_any : {A : Type 0} (book : Book) (ps : List Installed) (plan : List Group) (jobs : List Job) (old new : Story) (history : List ℕ) (end : Result A Stop) → WentFor Image book ps plan jobs old new history end → WentFor AnyImage book ps plan jobs old new history end
+  went_any book ps plan jobs old new history end (inl went) = inl went
+  went_any book ps plan jobs old new history end (inr w) = inr (record {
+    groups = w.groups;
+    turns = w.turns;
+    order = w.order;
+    opened_for = w.opened_for;
+    held = w.held;
+    owned = w.owned;
+    made = any_turns ps plan jobs 0 w.held w.turns w.made;
+    went = w.went;
+    cause = w.cause;
+  })
