@@ -1,5 +1,6 @@
 -- What a run writes, and the number that it ends with.
-use Rattle.std.specs.Prelude.{ℕ, List, [], ◌∷◌, ◌++◌, Option, None, Some, codes, string_bytes}
+use Rattle.std.specs.Prelude.{ℕ, List, [], ◌∷◌, ◌++◌, Option, None, Some, codes, length}
+use Rattle.std.specs.Prelude.{string_bytes}
 use Rattle.std.specs.Fmt.{decimal}
 use Rattle.std.specs.List.{flat_map}
 use Rattle.dep_atom.specs.Ids.{id_text}
@@ -9,22 +10,24 @@ use Rattle.dep_atom.specs.declared.package.PackageId.{PackageId}
 use Rattle.database_read.specs.declared.fault.DatabaseFault.{DatabaseFault}
 use Rattle.database_read.specs.declared.fault.DatabaseFault.TheVariants as databases
 use Rattle.pkg_state.specs.declared.broken.Broken.{Broken}
-use Rattle.plan_law.specs.Plans.{Removal}
 use Rattle.pkg_state.specs.declared.broken.Broken.TheVariants as broken
+use Rattle.pkg_state.specs.Package.{Package}
+use Rattle.plan_law.specs.Plans.{Group, Removal}
+use Rattle.plan_choose.specs.declared.reason.NotTaken.{NotTaken}
+use Rattle.plan_choose.specs.declared.reason.Reason.{Reason}
+use Rattle.plan_choose.specs.declared.reason.Reason.TheVariants as reason
 use Rattle.emerge_words.specs.declared.request.WordFault.{WordFault}
 use Rattle.emerge_words.specs.declared.request.WordFault.TheVariants as words
 use Rattle.run_status.specs.declared.collision.Collision.{Collision}
 use Rattle.run_status.specs.declared.collision.Collision.TheVariants as collisions
 use Rattle.run_status.specs.declared.status.Part.{Part}
-use Rattle.run_status.specs.declared.status.Part.TheVariants.{Command, Repository, Result}
+use Rattle.run_status.specs.declared.status.Part.TheVariants.{Command, Result}
 use Rattle.file_tree.specs.declared.limits.Quantity.{Quantity}
 use Rattle.file_tree.specs.declared.limits.Quantity.TheVariants.{Candidates, Groups, Packages, Paths, RecordBytes}
 use Rattle.owner_book.specs.declared.fault.ImageBad.{ImageBad}
 use Rattle.owner_book.specs.declared.fault.ImageBad.TheVariants as bad
 use Rattle.recovery.specs.declared.fault.RecoverFault.{RecoverFault}
 use Rattle.recovery.specs.declared.fault.RecoverFault.TheVariants as recovery
-use Rattle.run_status.specs.declared.status.Reason.{Reason}
-use Rattle.run_status.specs.declared.status.Reason.TheVariants.{NotMatched}
 use Rattle.run_status.specs.declared.status.Status.{Status}
 use Rattle.run_status.specs.declared.status.Status.TheVariants as status
 
@@ -32,23 +35,33 @@ use Rattle.run_status.specs.declared.status.Status.TheVariants as status
 abbrev pub gone_text : Removal → List ℕ
 gone_text r = codes " -" ++ id_text r.id
 
--- the line of a group that takes these packages away, and adds one
-abbrev pub done_line : List Removal → PackageId → ℕ → List ℕ
-done_line gone id group =
-    codes "done " ++ (decimal group ++ (flat_map gone_text gone ++
-    (codes " +" ++ (id_text id ++ (10 ∷ [])))))
+-- a package that comes, behind a plus
+abbrev pub come_text : Package → List ℕ
+come_text p = codes " +" ++ id_text p.facts.id
+
+-- the line of a group of this number: what goes, then what comes
+abbrev pub done_line : Group → ℕ → List ℕ
+done_line group number =
+    codes "done " ++ (decimal number ++ (flat_map gone_text group.removals ++
+    (flat_map come_text group.additions ++ (10 ∷ []))))
 
 abbrev pub part_word : Part → List ℕ
 part_word Command = codes "Command"
-part_word Repository = codes "Repository"
 part_word Result = codes "Result"
 
 abbrev pub reason_word : Reason → List ℕ
-reason_word NotMatched = codes "NotMatched"
+reason_word reason.NoEbuild = codes "NoEbuild"
+reason_word reason.Eapi = codes "Eapi"
+reason_word reason.Stale = codes "Stale"
+reason_word reason.BadEntry = codes "BadEntry"
+reason_word reason.Keyword = codes "Keyword"
+reason_word reason.Masked = codes "Masked"
+reason_word reason.RequiredUse = codes "RequiredUse"
+reason_word reason.NotMatched = codes "NotMatched"
 
--- a candidate and its reason, in parentheses behind a space
-abbrev pub reason_text : PackageId × Reason → List ℕ
-reason_text r = codes " (" ++ (id_text r.0 ++ (32 ∷ (reason_word r.1 ++ (41 ∷ []))))
+-- a candidate and why it isn't taken, in parentheses behind a space
+abbrev pub reason_text : NotTaken → List ℕ
+reason_text r = codes " (" ++ (id_text r.id ++ (32 ∷ (reason_word r.reason ++ (41 ∷ []))))
 
 -- the word, or the text of an option, that the words are refused for
 abbrev pub usage_word : WordFault → List ℕ
@@ -117,11 +130,15 @@ quantity_word RecordBytes = codes "RecordBytes"
 abbrev pub last_word : Status → List ℕ
 last_word (status.Ok groups) = codes "ok " ++ decimal groups
 last_word (status.Usage fault) = usage_word fault
+last_word (status.BadText path line) = codes "BadText: " ++ (path ++ (32 ∷ decimal line))
 last_word (status.BadDatabase fault) = codes "BadDatabase: " ++ place_of_fault fault
 last_word (status.Inconsistent fault) = codes "Inconsistent: " ++ inconsistent_text fault
 last_word (status.BadJournal fault) = codes "BadJournal: " ++ broken_text fault
 last_word (status.NoCandidate atom reasons) =
     codes "NoCandidate: " ++ (atom_text atom ++ flat_map reason_text reasons.items)
+last_word status.NoSolution = codes "NoSolution"
+last_word (status.BacktrackLimit refuted) =
+    codes "BacktrackLimit: " ++ decimal (length refuted.items)
 last_word (status.Collision c) = codes "Collision: " ++ collision_text c
 last_word (status.BadImage b) = codes "BadImage: " ++ bad_text b
 last_word (status.BuildFailed id) = codes "BuildFailed: " ++ id_text id
@@ -138,10 +155,13 @@ last_line s = codes "emerge: " ++ (last_word s ++ (10 ∷ []))
 abbrev pub code_of : Status → ℕ
 code_of (status.Ok groups) = 0
 code_of (status.Usage fault) = 2
+code_of (status.BadText path line) = 3
 code_of (status.BadDatabase fault) = 4
 code_of (status.BadJournal fault) = 5
 code_of (status.Inconsistent fault) = 6
 code_of (status.NoCandidate atom reasons) = 7
+code_of status.NoSolution = 8
+code_of (status.BacktrackLimit refuted) = 9
 code_of (status.Collision c) = 13
 code_of (status.BadImage b) = 14
 code_of (status.BuildFailed id) = 15

@@ -10,7 +10,7 @@
 //! **Only tested**, within whole runs: that with ample memory a line is made.
 //!
 //! ```
-//! let line = line_of_group(alloc, &removals, &package, 1)?;
+//! let line = line_of_group(alloc, &group, 1)?;
 //! let status = finish(alloc, &mut out, Status::Ok { groups: 1 });
 //! ```
 #![tactic(auto)]
@@ -23,5 +23,5 @@ mod texts;
 
 pub use collision::Collision;
 pub use ending::finish;
-pub use status::{Part, Reason, Status};
+pub use status::{Part, Status};
 pub use texts::line_of_group;

@@ -1,74 +1,62 @@
 use crate::collision::Collision;
+use choice_tree::Choice;
 use database_read::DatabaseFault;
 use dep_atom::{Atom, PackageId};
 use emerge_words::WordFault;
-use file_tree::Quantity;
+use file_tree::{Path, Quantity};
 use owner_book::ImageBad;
 use pkg_state::Broken;
+use plan_choose::NotTaken;
 use recovery::RecoverFault;
 
 /// A part of the product that is not there yet for what the run met.
 #[derive(Clone, Copy, Debug, PartialEq, Eq)]
 pub enum Part {
-    /// A command that asks for more than the merge of one atom.
+    /// A command that is more than a merge of what its atoms match.
     Command,
-    /// A cache entry of another form.
-    Repository,
-    /// A package that can't come by a plan that takes away just what stands on its line.
+    /// What is chosen isn't offered, or its plan isn't accepted.
     Result,
-}
-
-/// Why an atom doesn't choose a candidate.
-#[derive(Clone, Copy, Debug, PartialEq, Eq)]
-pub enum Reason {
-    /// The atom doesn't match it.
-    NotMatched,
 }
 
 /// How a run ended.
 #[derive(Debug, Drop)]
 pub enum Status {
     /// The command was done, with this many groups acknowledged.
-    Ok {
-        groups: u32,
-    },
+    Ok { groups: u32 },
     /// The words are no command, or a word in them is no number or no atom.
-    Usage {
-        fault: WordFault,
-    },
+    Usage { fault: WordFault },
+    /// The file of the configuration isn't in form at this line, counted from 1. A folder that is
+    /// missing has line 0.
+    BadText { path: Path, line: u32 },
     /// The first fault of the database of installed packages.
     BadDatabase(DatabaseFault),
     /// The first open group of the journal that isn't in form, by its record or a stage of it.
     BadJournal(RecoverFault),
     /// What is first wrong with the installed packages, in line order.
     Inconsistent(Broken),
-    /// The atom matches no candidate of its name: these are all of them, the greatest version first.
-    NoCandidate {
-        atom: Atom,
-        reasons: Vec<(PackageId, Reason)>,
-    },
+    /// The first wanted atom that matches neither what is installed nor what may be installed: the
+    /// candidates of its name, the greatest version first, each with why it isn't taken.
+    NoCandidate { atom: Atom, reasons: Vec<NotTaken> },
+    /// No choice of packages serves the wanted atoms.
+    NoSolution,
+    /// So many choices were tried in vain: these, in their order.
+    BacktrackLimit { refuted: Vec<Choice> },
     /// A path of the package's image can't be placed.
     Collision(Collision),
     /// The package's image isn't in form.
     BadImage(ImageBad),
     /// A builder failed at this package.
-    BuildFailed {
-        package: PackageId,
-    },
+    BuildFailed { package: PackageId },
     /// The tree's device failed.
     DeviceFault,
     /// The output failed.
     OutputFault,
     /// There is more of the quantity than may be.
-    Limit {
-        quantity: Quantity,
-    },
+    Limit { quantity: Quantity },
     /// Memory ran out.
     Memory,
     /// The run met what this part of the product can't do yet.
-    NotBuilt {
-        what: Part,
-    },
+    NotBuilt { what: Part },
 }
 
 impl Status {
@@ -82,10 +70,13 @@ impl Status {
         match self {
             Status::Ok { .. } => 0,
             Status::Usage { .. } => 2,
+            Status::BadText { .. } => 3,
             Status::BadDatabase(_) => 4,
             Status::BadJournal(_) => 5,
             Status::Inconsistent(_) => 6,
             Status::NoCandidate { .. } => 7,
+            Status::NoSolution => 8,
+            Status::BacktrackLimit { .. } => 9,
             Status::Collision(_) => 13,
             Status::BadImage(_) => 14,
             Status::BuildFailed { .. } => 15,

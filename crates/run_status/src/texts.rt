@@ -1,38 +1,34 @@
 ghost use Rattle.std.specs.Prelude.{◌≡◌, ◌++◌, ◌∷◌, [], IfOk, IfSome, IsSome, OnOk, codes};
-ghost use Rattle.std.specs.Prelude.{string_bytes};
+ghost use Rattle.std.specs.Prelude.{decimal, length, string_bytes};
 ghost use Rattle.std.specs.List.{flat_map};
 ghost use Rattle.dep_atom.specs.Ids.{id_text};
 ghost use Rattle.dep_atom.specs.Text.{atom_text};
-ghost use Rattle.run_status.specs.Texts.{bad_text, broken_text, collision_text, done_line};
-ghost use Rattle.run_status.specs.Texts.{gone_text, inconsistent_text, last_line, leaf_text};
-ghost use Rattle.run_status.specs.Texts.{pair_text};
-ghost use Rattle.run_status.specs.Texts.{place_of_fault, reason_text, reason_word};
+ghost use Rattle.run_status.specs.Texts.{bad_text, broken_text, collision_text, come_text};
+ghost use Rattle.run_status.specs.Texts.{done_line, gone_text, inconsistent_text, last_line};
+ghost use Rattle.run_status.specs.Texts.{leaf_text, pair_text, place_of_fault, reason_text};
+ghost use Rattle.run_status.specs.Texts.{reason_word};
 
 use crate::collision::Collision;
-use crate::status::{Part, Reason, Status};
+use crate::status::{Part, Status};
+use choice_tree::Choice;
 use database_read::DatabaseFault;
 use dep_atom::{Atom, PackageId};
 use emerge_words::WordFault;
-use file_tree::Quantity;
+use file_tree::{Path, Quantity};
 use owner_book::ImageBad;
-use pkg_state::Broken;
-use plan_check::Removal;
+use pkg_state::{Broken, Pkg};
+use plan_check::{Group, Removal};
+use plan_choose::{NotTaken, Reason};
 use recovery::RecoverFault;
 use std::alloc::{AllocError, Global};
 
-/// The line of a group that takes these packages away, and adds one.
-pub fn line_of_group(
-    alloc: Global,
-    removals: &[Removal],
-    package: &PackageId,
-    group: u32,
-) -> Result<String, AllocError>
-    ensures { IfOk result (λ t. string_bytes t ≡
-        done_line removals.now «package».now group) }
+/// The line of a group of a plan: what it takes away, then what it brings, each in its order.
+pub fn line_of_group(alloc: Global, group: &Group, number: u32) -> Result<String, AllocError>
+    ensures { IfOk result (λ t. string_bytes t ≡ done_line group.now number) }
 {
-    let gone = listed_removals(alloc, removals)?;
-    let text = package.print(alloc)?;
-    format!(in alloc; "done {group}{gone} +{text}\n")
+    let gone = listed_removals(alloc, &group.removals)?;
+    let come = listed_additions(alloc, &group.additions)?;
+    format!(in alloc; "done {number}{gone}{come}\n")
 }
 
 /// Each package that goes, behind a hyphen.
@@ -55,6 +51,26 @@ fn write_removal(alloc: Global, removal: &Removal, text: &mut String) -> Result<
     text.push_str(id.as_str())
 }
 
+/// Each package that comes, behind a plus.
+fn listed_additions(alloc: Global, additions: &[Pkg]) -> Result<String, AllocError>
+    ensures { IfOk result (λ t. string_bytes t ≡ flat_map come_text additions.now) }
+{
+    let mut listed = String::new(alloc);
+    for addition in additions {
+        write_addition(alloc, addition, &mut listed)?;
+    }
+    Ok(listed)
+}
+
+fn write_addition(alloc: Global, addition: &Pkg, text: &mut String) -> Result<(), AllocError>
+    ensures { OnOk result (string_bytes text.new ≡
+        string_bytes text.old ++ come_text addition.now) }
+{
+    let id = addition.facts.id.print(alloc)?;
+    text.push_str(" +")?;
+    text.push_str(id.as_str())
+}
+
 /// The last line of a status that names nothing: it takes no memory.
 pub fn fixed_line(status: &Status) -> Option<&'static str>
     ensures line { IfSome result (λ t. t.now ≡ last_line status.now) }
@@ -62,21 +78,23 @@ pub fn fixed_line(status: &Status) -> Option<&'static str>
 {
     match status {
         Status::Ok { .. }
+        | Status::BadText { .. }
         | Status::BadDatabase(_)
         | Status::BadJournal(_)
         | Status::Inconsistent(_)
         | Status::NoCandidate { .. }
+        | Status::BacktrackLimit { .. }
         | Status::Collision(_)
         | Status::BadImage(_)
         | Status::BuildFailed { .. } => None,
         Status::Usage { fault } => fixed_usage(fault),
+        Status::NoSolution => Some("emerge: NoSolution\n"),
         Status::DeviceFault => Some("emerge: DeviceFault\n"),
         Status::OutputFault => Some("emerge: OutputFault\n"),
         Status::Limit { quantity } => Some(limit_line(*quantity)),
         Status::Memory => Some("emerge: Memory\n"),
         Status::NotBuilt { what } => Some(match what {
             Part::Command => "emerge: NotBuilt: Command\n",
-            Part::Repository => "emerge: NotBuilt: Repository\n",
             Part::Result => "emerge: NotBuilt: Result\n",
         }),
     }
@@ -122,10 +140,12 @@ pub fn line_of_status(alloc: Global, status: &Status) -> Result<String, AllocErr
 {
     match status {
         Status::Ok { groups } => format!(in alloc; "emerge: ok {groups}\n"),
+        Status::BadText { path, line } => text_line(alloc, path, *line),
         Status::BadDatabase(fault) => database_line(alloc, fault),
         Status::BadJournal(fault) => broken_line(alloc, *fault),
         Status::Inconsistent(broken) => inconsistent_line(alloc, broken),
         Status::NoCandidate { atom, reasons } => unmatched_line(alloc, atom, reasons),
+        Status::BacktrackLimit { refuted } => refuted_line(alloc, refuted),
         Status::Collision(collision) => collision_line(alloc, collision),
         Status::BadImage(bad) => bad_line(alloc, bad),
         Status::BuildFailed { package } => failed_line(alloc, package),
@@ -135,6 +155,15 @@ pub fn line_of_status(alloc: Global, status: &Status) -> Result<String, AllocErr
             None => Err(AllocError),
         },
     }
+}
+
+/// The file of the configuration that isn't in form, and the line.
+fn text_line(alloc: Global, path: &Path, line: u32) -> Result<String, AllocError>
+    ensures { IfOk result (λ t. string_bytes t ≡
+        codes "emerge: BadText: " ++ (path.now ++ (32 ∷ (decimal line ++ 10 ∷ [])))) }
+{
+    let path = path.text();
+    format!(in alloc; "emerge: BadText: {path} {line}\n")
 }
 
 /// The path at which the database is at fault.
@@ -310,11 +339,16 @@ fn failed_line(alloc: Global, package: &PackageId) -> Result<String, AllocError>
     format!(in alloc; "emerge: BuildFailed: {text}\n")
 }
 
-fn unmatched_line(
-    alloc: Global,
-    atom: &Atom,
-    reasons: &[(PackageId, Reason)],
-) -> Result<String, AllocError>
+/// How many choices were tried in vain.
+fn refuted_line(alloc: Global, refuted: &[Choice]) -> Result<String, AllocError>
+    ensures { IfOk result (λ t. string_bytes t ≡
+        codes "emerge: BacktrackLimit: " ++ (decimal (length refuted.now) ++ 10 ∷ [])) }
+{
+    let tried = refuted.len();
+    format!(in alloc; "emerge: BacktrackLimit: {tried}\n")
+}
+
+fn unmatched_line(alloc: Global, atom: &Atom, reasons: &[NotTaken]) -> Result<String, AllocError>
     ensures { IfOk result (λ t. string_bytes t ≡
         codes "emerge: NoCandidate: " ++ (atom_text atom.now ++
         (flat_map reason_text reasons.now ++ 10 ∷ []))) }
@@ -325,7 +359,7 @@ fn unmatched_line(
 }
 
 /// Each candidate with its reason, in parentheses.
-fn listed_reasons(alloc: Global, reasons: &[(PackageId, Reason)]) -> Result<String, AllocError>
+fn listed_reasons(alloc: Global, reasons: &[NotTaken]) -> Result<String, AllocError>
     ensures { IfOk result (λ t. string_bytes t ≡ flat_map reason_text reasons.now) }
 {
     let mut listed = String::new(alloc);
@@ -335,19 +369,15 @@ fn listed_reasons(alloc: Global, reasons: &[(PackageId, Reason)]) -> Result<Stri
     Ok(listed)
 }
 
-fn write_reason(
-    alloc: Global,
-    reason: &(PackageId, Reason),
-    text: &mut String,
-) -> Result<(), AllocError>
+fn write_reason(alloc: Global, one: &NotTaken, text: &mut String) -> Result<(), AllocError>
     ensures { OnOk result (string_bytes text.new ≡
-        string_bytes text.old ++ reason_text reason.now) }
+        string_bytes text.old ++ reason_text one.now) }
 {
-    let id = reason.0.print(alloc)?;
+    let id = one.id.print(alloc)?;
     text.push_str(" (")?;
     text.push_str(id.as_str())?;
     text.push_str(" ")?;
-    text.push_str(word_of_reason(reason.1))?;
+    text.push_str(word_of_reason(one.reason))?;
     text.push_str(")")
 }
 
@@ -355,6 +385,13 @@ fn word_of_reason(reason: Reason) -> &'static str
     ensures { result.now ≡ reason_word reason }
 {
     match reason {
+        Reason::NoEbuild => "NoEbuild",
+        Reason::Eapi => "Eapi",
+        Reason::Stale => "Stale",
+        Reason::BadEntry => "BadEntry",
+        Reason::Keyword => "Keyword",
+        Reason::Masked => "Masked",
+        Reason::RequiredUse => "RequiredUse",
         Reason::NotMatched => "NotMatched",
     }
 }
