@@ -1,5 +1,5 @@
 //! What the crates that speak of the disk answer: texts, paths, the tree and the sink in memory,
-//! the journal's records, the files of a package's record, the candidates, and orders.
+//! the journal's records, the files of a package's record, and orders.
 //!
 //! Each line of its input is a question, whose fields stand apart by tabs, and it prints one line
 //! for each. Bytes are told in hex. An object is told by its kind (`-` a file, `x` one that can be
@@ -17,8 +17,6 @@
 //! | `decode` | bytes | the record, or its first fault |
 //! | `encode`, `recode` | a record | its bytes; what is read of these |
 //! | `files` | a package, a slot, a subslot, objects | the files of its record |
-//! | `candidates` | a category, a name, a call that fails, objects | the candidates |
-//! | `choose` | an atom, a category, a name, objects | what the atom chooses of them |
 //! | `order` | a category, a name and version | the package of a copy of that order |
 //! | `tree`, `sink` | steps | the answer of each (see `trees.rt`, `sinks.rt`) |
 //!
@@ -26,7 +24,6 @@
 //! program ends with status 1 at a line that is none of these.
 #![tactic(auto)]
 
-mod candidates;
 mod database;
 mod orders;
 mod records;
@@ -65,8 +62,6 @@ fn answer(alloc: Global, line: &str) -> io::Result<String> {
 fn answer_on_trees(alloc: Global, asked: &str, rest: &str) -> io::Result<String> {
     match asked {
         "files" => database::files(alloc, rest),
-        "candidates" => candidates::offered(alloc, rest),
-        "choose" => candidates::chosen(alloc, rest),
         "order" => orders::order(alloc, rest),
         "tree" => trees::answers(alloc, rest),
         "sink" => sinks::answers(alloc, rest),

@@ -1,7 +1,8 @@
 //! Orders to builders.
 
-use build_pool::Order;
+use build_pool::{Binds, Order};
 use dep_atom::PackageId;
+use pms_names::{Flags, SlotName};
 use std::alloc::Global;
 use std::io;
 use tree_lines::{cut, not_in_form};
@@ -14,7 +15,18 @@ pub fn order(alloc: Global, fields: &str) -> io::Result<String> {
     Ok(copy.id.print(alloc)?)
 }
 
+/// An order of the package in slot 0, without flags and binds.
 fn order_of(alloc: Global, category: &str, name: &str) -> io::Result<Order> {
     let id = PackageId::parse(alloc, category, name).map_err(|_| not_in_form())?;
-    Ok(Order { id })
+    Ok(Order {
+        id,
+        slot: slot_zero(alloc)?,
+        subslot: slot_zero(alloc)?,
+        enabled: Flags::new(alloc),
+        binds: Binds::new(Vec::new(alloc)),
+    })
+}
+
+fn slot_zero(alloc: Global) -> io::Result<SlotName> {
+    SlotName::parse(alloc, "0").map_err(|_| not_in_form())
 }

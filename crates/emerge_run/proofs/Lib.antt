@@ -1,8 +1,7 @@
-pub mod Asked
-pub mod Built
-pub mod Chosen
 pub mod Endings
+pub mod Found
 pub mod Givens
 pub mod Headline
 pub mod Lines
 pub mod Merged
+pub mod Prepared

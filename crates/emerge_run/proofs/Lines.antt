@@ -1,24 +1,41 @@
 -- What a run writes, from its group's line to its last line.
-use Rattle.std.proofs.Common.{◌≡◌, ◌⊎◌, ℕ, List, [], ◌∷◌, ◌++◌, inl, inr, refl, ap, sym, ◌∙◌, subst, append_assoc, append-nil, take}
+use Rattle.std.proofs.Common.{◌≡◌, ◌⊎◌, ℕ, Bool, List, [], ◌∷◌, ◌++◌, inl, inr, refl, ap, sym, ◌∙◌, subst, append_assoc, append-nil, take}
 use Rattle.std.specs.List.{AllByRecursion, flat_map}
-use Rattle.dep_atom.specs.declared.package.PackageId.{PackageId}
+use Rattle.file_tree.specs.Disk.{Map}
 use Rattle.group_run.specs.Lines.{AreLines, IsBeginning, Wrote}
 use Rattle.exchange_make.specs.Made.{GROUP, only_line}
-use Rattle.plan_law.specs.Plans.{Removal}
-use Rattle.emerge_run.specs.Output.{IsLineOf, IsLines, IsOutput}
+use Rattle.plan_law.specs.Plans.{Group}
+use Rattle.emerge_run.specs.Outcomes.{IsDone, IsNamed, IsShownAs}
+use Rattle.emerge_run.specs.Output.{IsCut, IsLineOf, IsLines, IsOutput, IsSaid, merging, showing, silent}
+use Rattle.emerge_run.specs.Words.{AskToMerge}
 use Rattle.run_status.specs.Last.{IsEnd}
 use Rattle.run_status.specs.Texts.{done_line}
 use Rattle.run_status.specs.declared.status.Status.{Status}
 use Rattle.run_status.specs.declared.status.Status.TheVariants as status
 
+-- a command was done or not
+done_or_not : (s : Status) → IsDone s ⊎ ¬ IsDone s
+done_or_not (status.Ok groups) = inl tt
+done_or_not (status.Usage fault) = inr (λ of. of)
+done_or_not (status.BadText path line) = inr (λ of. of)
+done_or_not (status.BadDatabase fault) = inr (λ of. of)
+done_or_not (status.BadJournal fault) = inr (λ of. of)
+done_or_not (status.Inconsistent fault) = inr (λ of. of)
+done_or_not (status.NoCandidate atom reasons) = inr (λ of. of)
+done_or_not status.NoSolution = inr (λ of. of)
+done_or_not (status.BacktrackLimit refuted) = inr (λ of. of)
+done_or_not (status.Collision c) = inr (λ of. of)
+done_or_not (status.BadImage b) = inr (λ of. of)
+done_or_not (status.BuildFailed id) = inr (λ of. of)
+done_or_not status.DeviceFault = inr (λ of. of)
+done_or_not status.OutputFault = inr (λ of. of)
+done_or_not (status.Limit quantity) = inr (λ of. of)
+done_or_not status.Memory = inr (λ of. of)
+done_or_not (status.NotBuilt what) = inr (λ of. of)
+
 -- before a group there is no line
 pub no_group : (line : ℕ → List ℕ) → AreLines line [] [] []
 no_group line = record { rest = []; order = refl; cut = []; begun = (0, refl); whole = refl }
-
--- where there is no group nothing was written
-pub wrote_none : (line : ℕ → List ℕ) (history acknowledged old new : List ℕ) → history ≡ [] → acknowledged ≡ [] → new ≡ old → Wrote (AreLines line history acknowledged) old new
-wrote_none line history acknowledged old new none none' same =
-    ([], subst (λ (h : List ℕ). AreLines line h acknowledged []) (sym none) (subst (λ (a : List ℕ). AreLines line [] a []) (sym none') (no_group line)), same ∙ sym (append-nil old))
 
 all_parts : (P : ℕ → Type 0) (xs ys : List ℕ) → AllByRecursion P (xs ++ ys) → AllByRecursion P xs × AllByRecursion P ys
 all_parts P [] ys h = (tt, h)
@@ -40,32 +57,59 @@ lines_same f g history acknowledged text same are =
       whole = are.whole ∙ ap (λ (l : List ℕ). l ++ are.cut) (same_lines f g acknowledged parts.0);
     }
 
--- the line that was made for the one group is that of its package, and of what goes
-pub wrote_lines : (gone : List Removal) (id : PackageId) (line history acknowledged old new : List ℕ) → line ≡ done_line gone id GROUP → (history ≡ []) ⊎ (history ≡ GROUP ∷ [])
-    → Wrote (AreLines (only_line line) history acknowledged) old new → Wrote (AreLines (done_line gone id) history acknowledged) old new
-wrote_lines gone id line history acknowledged old new is (inl none) (text, are, e) =
-    (text, lines_same (only_line line) (done_line gone id) history acknowledged text (subst (λ (h : List ℕ). AllByRecursion (λ g. only_line line g ≡ done_line gone id g) h) (sym none) tt) are, e)
-wrote_lines gone id line history acknowledged old new is (inr one) (text, are, e) =
-    (text, lines_same (only_line line) (done_line gone id) history acknowledged text (subst (λ (h : List ℕ). AllByRecursion (λ g. only_line line g ≡ done_line gone id g) h) (sym one) (is, tt)) are, e)
+-- the line that was made for the one group is that of the group
+pub wrote_lines : (g : Group) (line history acknowledged old new : List ℕ) → line ≡ done_line g GROUP → (history ≡ []) ⊎ (history ≡ GROUP ∷ [])
+    → Wrote (AreLines (only_line line) history acknowledged) old new → Wrote (AreLines (done_line g) history acknowledged) old new
+wrote_lines g line history acknowledged old new is (inl none) (text, are, e) =
+    (text, lines_same (only_line line) (done_line g) history acknowledged text (subst (λ (h : List ℕ). AllByRecursion (λ n. only_line line n ≡ done_line g n) h) (sym none) tt) are, e)
+wrote_lines g line history acknowledged old new is (inr one) (text, are, e) =
+    (text, lines_same (only_line line) (done_line g) history acknowledged text (subst (λ (h : List ℕ). AllByRecursion (λ n. only_line line n ≡ done_line g n) h) (sym one) (is, tt)) are, e)
 
-all_named : (P : List Removal → PackageId → Type 0) (gone : List Removal) (id : PackageId) → P gone id → (history : List ℕ) → AllByRecursion (λ g. IsLineOf P (done_line gone id g) g) history
-all_named P gone id is [] = tt
-all_named P gone id is (g ∷ gs) = ((gone, id, is, refl), all_named P gone id is gs)
+all_named : (P : Group → Type 0) (g : Group) → P g → (history : List ℕ) → AllByRecursion (λ n. IsLineOf P (done_line g n) n) history
+all_named P g is [] = tt
+all_named P g is (n ∷ ns) = ((g, is, refl), all_named P g is ns)
 
--- the lines name a package and what goes, of which P holds
-pub wrote_named : (P : List Removal → PackageId → Type 0) (gone : List Removal) (id : PackageId) (history acknowledged old new : List ℕ) → P gone id → Wrote (AreLines (done_line gone id) history acknowledged) old new → Wrote (IsLines P history acknowledged) old new
-wrote_named P gone id history acknowledged old new is (text, are, e) = (text, record { line = done_line gone id; named = all_named P gone id is history; lines = are }, e)
+-- before a group there is no line of any
+no_lines : (P : Group → Type 0) → IsLines P [] [] []
+no_lines P = record { line = λ _. []; named = tt; lines = no_group (λ _. []) }
 
--- the same of a run that ended without a group
-pub wrote_nothing : (P : List Removal → PackageId → Type 0) (history acknowledged old new : List ℕ) → history ≡ [] → acknowledged ≡ [] → new ≡ old → Wrote (IsLines P history acknowledged) old new
-wrote_nothing P history acknowledged old new none none' same =
-    let empty = wrote_none (λ _. []) history acknowledged old new none none' same in
-    (empty.0, record { line = λ _. []; named = subst (λ (h : List ℕ). AllByRecursion (λ g. IsLineOf P [] g) h) (sym none) tt; lines = empty.1 }, empty.2)
+module _ (words : List (List ℕ)) (tells : Bool) (opening : Map) where
+  abbrev Said : List ℕ → List ℕ → Status → List ℕ → Type 0
+  Said = IsSaid words tells opening
 
--- the lines and then the last line
-pub wrote_all : (P : List Removal → PackageId → Type 0) (IsAnswer : Status → Type 0) (history acknowledged : List ℕ) (came s : Status) (old mid new : List ℕ) → IsAnswer came → IsAnswer status.Memory
-    → Wrote (IsLines P history acknowledged) old mid → Wrote (IsEnd came s) mid new → Wrote (IsOutput P IsAnswer history acknowledged s) old new
-wrote_all P IsAnswer history acknowledged came s old mid new answer memory (lines, named, first) (last, inl ends, second) =
-    (lines ++ last, record { lines = lines; named = named; came = came; answer = answer; last = last; ends = ends; whole = refl }, second ∙ (ap (λ (x : List ℕ). x ++ last) first ∙ append_assoc old lines last))
-wrote_all P IsAnswer history acknowledged came s old mid new answer memory (lines, named, first) (last, inr ends, second) =
-    (lines ++ last, record { lines = lines; named = named; came = status.Memory; answer = memory; last = last; ends = ends; whole = refl }, second ∙ (ap (λ (x : List ℕ). x ++ last) first ∙ append_assoc old lines last))
+  -- a run that merges has written lines of its group
+  pub wrote_merging : (g : Group) (history acknowledged : List ℕ) (came : Status) (old new : List ℕ) → IsNamed words tells opening g
+      → Wrote (AreLines (done_line g) history acknowledged) old new → Wrote (Said history acknowledged came) old new
+  wrote_merging g history acknowledged came old new named (text, are, e) =
+      (text, merging (named.asked, named.is, named.done) (record { line = done_line g; named = all_named (IsNamed words tells opening) g named history; lines = are }), e)
+
+  -- one that shows a plan its text, so far as that could be written
+  pub wrote_showing : (shown history acknowledged : List ℕ) (came : Status) (old new : List ℕ) → IsShownAs words tells opening shown → history ≡ []
+      → Wrote (IsCut shown came) old new → Wrote (Said history acknowledged came) old new
+  wrote_showing shown history acknowledged came old new is none (text, cut, e) = (text, showing none (shown, is, cut), e)
+
+  -- one that ended before it merges or shows anything nothing
+  no_words : (history acknowledged : List ℕ) (came : Status) → history ≡ [] → acknowledged ≡ [] → (IsDone came → AskToMerge words) → IsDone came ⊎ ¬ IsDone came → Said history acknowledged came []
+  no_words history acknowledged came none none' asks (inl of) = merging (asks of)
+      (subst (λ (h : List ℕ). IsLines (IsNamed words tells opening) h acknowledged []) (sym none)
+      (subst (λ (a : List ℕ). IsLines (IsNamed words tells opening) [] a []) (sym none') (no_lines (IsNamed words tells opening))))
+  no_words history acknowledged came none none' asks (inr undone) = silent none undone refl
+
+  pub wrote_nothing : (history acknowledged : List ℕ) (came : Status) (old new : List ℕ) → (IsDone came → AskToMerge words) → history ≡ [] → acknowledged ≡ [] → new ≡ old
+      → Wrote (Said history acknowledged came) old new
+  wrote_nothing history acknowledged came old new asks none none' same =
+      ([], no_words history acknowledged came none none' asks (done_or_not came), same ∙ sym (append-nil old))
+
+  -- where there is no memory for its last line, a run has said what it said
+  said_memory : (history acknowledged : List ℕ) (came : Status) (text : List ℕ) → Said history acknowledged came text → Said history acknowledged status.Memory text
+  said_memory history acknowledged came text (merging asks lines) = merging asks lines
+  said_memory history acknowledged came text (showing none (shown, is, (cut, whole))) = showing none (shown, is, (cut, λ of. absurd of))
+  said_memory history acknowledged came text (silent none undone is) = silent none (λ of. of) is
+
+  -- what was said and then the last line
+  pub wrote_all : (IsAnswer : Status → Type 0) (history acknowledged : List ℕ) (came s : Status) (old mid new : List ℕ) → IsAnswer came → IsAnswer status.Memory
+      → Wrote (Said history acknowledged came) old mid → Wrote (IsEnd came s) mid new → Wrote (IsOutput words tells opening IsAnswer history acknowledged s) old new
+  wrote_all IsAnswer history acknowledged came s old mid new answer memory (lines, said, first) (last, inl ends, second) =
+      (lines ++ last, record { lines = lines; came = came; said = said; answer = answer; last = last; ends = ends; whole = refl }, second ∙ (ap (λ (x : List ℕ). x ++ last) first ∙ append_assoc old lines last))
+  wrote_all IsAnswer history acknowledged came s old mid new answer memory (lines, said, first) (last, inr ends, second) =
+      (lines ++ last, record { lines = lines; came = status.Memory; said = said_memory history acknowledged came lines said; answer = memory; last = last; ends = ends; whole = refl }, second ∙ (ap (λ (x : List ℕ). x ++ last) first ∙ append_assoc old lines last))

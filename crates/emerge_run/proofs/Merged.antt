@@ -1,4 +1,4 @@
--- How the merge of the chosen package tells what a run leaves.
+-- How the merge of the group that is ready tells what a run leaves.
 use Rattle.std.proofs.Common.{◌≡◌, ◌≢◌, ◌∙◌, ℕ, Bool, true, List, [], ◌∷◌, Option, None, Some, Result, Ok, Err, inl, inr, length, map, refl, ap, subst, sym, slice_get}
 use Rattle.std.specs.Prelude.{IfErr, IsErrOf, OnOk, ⊤}
 use Rattle.basics.specs.Members.{Has}
@@ -10,8 +10,7 @@ use Rattle.run_law.specs.Openings.{AreOwners}
 use Rattle.owner_book.specs.Book.{Book}
 use Rattle.owner_book.specs.declared.fault.Collision as books
 use Rattle.owner_book.specs.declared.fault.Collision.TheVariants as met
-use Rattle.pkg_state.specs.Package.{Package}
-use Rattle.plan_law.specs.Plans.{Group, Removal}
+use Rattle.plan_law.specs.Plans.{Group}
 use Rattle.merge_site.specs.declared.fault.ClaimStop.{ClaimStop}
 use Rattle.merge_site.specs.declared.fault.ClaimStop.TheVariants as claims
 use Rattle.group_run.specs.Causes.{IsOfGroup}
@@ -19,18 +18,16 @@ use Rattle.group_run.specs.Applied.{HasHistory, LeavesHistory, Recovers, number}
 use Rattle.group_run.specs.Went.{Went}
 use Rattle.group_run.specs.declared.stop.Stop.{Stop}
 use Rattle.group_run.specs.declared.stop.Stop.TheVariants as stops
-use Rattle.exchange_make.specs.Made.{GROUP, group_with, package_of}
+use Rattle.exchange_make.specs.Made.{GROUP, package_of}
 use Rattle.exchange_make.specs.declared.newcomer.Newcomer.{Newcomer}
 use Rattle.exchange_run.specs.Runs.{StopsMerge, WentFor}
 use Rattle.exchange_law.specs.Ends.{image_of}
-use Rattle.atom_plan.specs.Plans.{group_for, removals_for}
 use Rattle.emerge_run.specs.Answers.{AsksMerge, MayCome}
 use Rattle.emerge_run.specs.Outcomes.{IsOfMerge, IsRefusal, MergedTo}
-use Rattle.emerge_run.specs.Package.{IsGroupMade, IsTask, Making, StopsAt}
+use Rattle.emerge_run.specs.Package.{IsGroupMade, Making, StopsAt}
 use Rattle.emerge_run.specs.Collisions.{owned_by, status_of_collision}
 use Rattle.emerge_run.specs.Refusals.{EndsAtCollision, IsStatusOf, status_of_claim, status_of_end, status_of_stop}
 use Rattle.run_status.specs.declared.collision.Collision.{Collision}
-use Rattle.emerge_run.specs.declared.choosing.Chosen.{Chosen}
 use Rattle.run_status.specs.declared.status.Status.{Status}
 use Rattle.run_status.specs.declared.status.Status.TheVariants as status
 
@@ -144,12 +141,6 @@ module _ (ps : List Installed) (g : Group) (newcomers : List Newcomer) (line : L
         left = λ h. w.left (healthy n s is h);
         tree = λ h k. w.tree (healthy n s is h) (fed n s is k);
       }
-
--- the group that takes these away and brings these packages is that of the chosen package
-pub group_chosen : (tells : Bool) (m : Map) (ps : List Installed) (c : Chosen) → IsTask tells m ps c → group_with c.removals.items c.additions.newcomers.items ≡ group_for c.facts ps
-group_chosen tells m ps c task =
-    ap (λ (l : List Removal). record { after = []; removals = l; additions = map package_of c.additions.newcomers.items }) task.goes
-    ∙ ap (λ (l : List Package). record { after = []; removals = removals_for c.facts ps; additions = l }) task.comes
 
 pub ok_first : {A : Type 0} (P Q : Type 0) (r : Result A Stop) → OnOk r (P × Q) → OnOk r P
 ok_first P Q (Ok x) h = h.0

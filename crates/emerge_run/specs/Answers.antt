@@ -1,16 +1,10 @@
--- The answer that the words, the tree and the image ask for.
-use Rattle.std.specs.Prelude.{◌≡◌, ◌⊎◌, ◌<◌, ℕ, true, false, List, [], ◌∷◌, length, map, ⊤}
-use Rattle.std.specs.List.{AllByRecursion}
+-- The answer that the words, the tree and the images ask for.
+use Rattle.std.specs.Prelude.{◌≡◌, ◌⊎◌, ℕ, true, false, List, [], ◌∷◌, ⊤}
 use Rattle.file_tree.specs.Disk.{Map}
 use Rattle.file_tree.specs.declared.limits.Quantity.{Quantity}
-use Rattle.file_tree.specs.declared.limits.Quantity.TheVariants.{Groups, Packages, Paths, RecordBytes}
+use Rattle.file_tree.specs.declared.limits.Quantity.TheVariants.{Groups, Paths, RecordBytes}
 use Rattle.file_tree.specs.declared.objects.Entry.{Entry}
-use Rattle.dep_atom.specs.Match.{value_matches}
-use Rattle.dep_atom.specs.Values.{AtomValue, atom_value}
-use Rattle.dep_atom.specs.declared.package.Facts.{Facts}
 use Rattle.dep_atom.specs.declared.package.PackageId.{PackageId}
-use Rattle.build_pool.specs.declared.orders.Order.{Order}
-use Rattle.image_fit.specs.declared.limits.TheConstants.{MOST_ENTRIES}
 use Rattle.journal.specs.Group as journal
 use Rattle.merge_site.specs.declared.fault.ClaimStop.TheVariants as claims
 use Rattle.group_run.specs.declared.stop.Stop.TheVariants as stops
@@ -21,111 +15,36 @@ use Rattle.recovery.specs.Promise.{IsFaultOf}
 use Rattle.recovery.specs.declared.fault.RecoverFault.{RecoverFault}
 use Rattle.recovery.specs.declared.fault.RecoverFault.TheVariants as recovery
 use Rattle.database_law.specs.Packages.{Installed}
-use Rattle.database_read.specs.Limits.{AreWithin}
-use Rattle.database_read.specs.declared.fault.DatabaseFault.{DatabaseFault}
-use Rattle.pkg_state.specs.declared.broken.Broken.{Broken}
 use Rattle.plan_law.specs.Plans.{Group}
-use Rattle.run_law.specs.Openings.{HasOpening}
-use Rattle.opening.specs.Faults as openings
-use Rattle.opening.specs.Faults.{IsBadDatabase, IsInconsistent}
-use Rattle.opening.specs.Matched.{is_matched}
-use Rattle.visible_set.specs.Candidates.{AreOffers, HasOddEntry, IsChosen}
 use Rattle.exchange_run.specs.Runs.{IsOfMade}
-use Rattle.exchange_law.specs.Ends.{IsPlan}
-use Rattle.atom_plan.specs.Plans.{group_for}
+use Rattle.plan_find.specs.Choices.{IsFound}
+use Rattle.plan_find.specs.Refusals.{Refuses}
+use Rattle.plan_find.specs.declared.asked.Asked.{Asked}
+use Rattle.plan_find.specs.declared.ends.NoPlan.{NoPlan}
+use Rattle.plan_find.specs.declared.found.Found.{Found}
+use Rattle.emerge_run.specs.Builds.{AreBuilt, Images, IsOrdered, IsPastLimit}
 use Rattle.emerge_run.specs.Collisions.{status_of_collision}
-use Rattle.emerge_run.specs.Package.{Making, StopsAt, order_of}
-use Rattle.emerge_run.specs.Words.{AskForOther, AskForPackage, IsRequest, IsUsage}
-use Rattle.emerge_run.specs.declared.judge.Standing.{Standing}
-use Rattle.emerge_run.specs.declared.judge.Standing.TheVariants.{Barred, Chosen, Met, Unmatched}
-use Rattle.run_status.specs.declared.status.Part.{Part}
-use Rattle.run_status.specs.declared.status.Part.TheVariants.{Command, Repository, Result}
-use Rattle.run_status.specs.declared.status.Reason.{Reason}
-use Rattle.run_status.specs.declared.status.Reason.TheVariants.{NotMatched}
+use Rattle.emerge_run.specs.Package.{Making, StopsAt}
+use Rattle.emerge_run.specs.Refusals.{status_of}
+use Rattle.emerge_run.specs.Words.{AskForMerge, AskForOther, IsRequest, IsUsage}
+use Rattle.run_status.specs.declared.status.Part.TheVariants.{Command, Result}
 use Rattle.run_status.specs.declared.status.Status.{Status}
 use Rattle.run_status.specs.declared.status.Status.TheVariants as status
 
--- each candidate of the atom's name has its entry in the one form that is read, and these are the
--- installed packages, within the limits, which go together, and no other list tells them
-pub record IsRead (m : Map) (a : AtomValue) (ps : List Installed) : Type 0 where
-  pub entries : ¬ HasOddEntry m a.name
-  pub opening : HasOpening [] m ps
-  pub within : AreWithin ps
-  pub only : (qs : List Installed) → HasOpening [] m qs → ps ≡ qs
+-- this is found in a map for what is asked, and it is merged: all of it is this group
+pub record IsReady (m : Map) (asked : Asked) (found : Found) (g : Group) : Type 0 where
+  pub is : IsFound m asked found
+  pub done : asked.pretend ≡ false
+  pub plan : found.chosen.plan ≡ g ∷ []
 
--- the atom matches one of the installed packages
-abbrev pub IsMet : Map → AtomValue → Type 0
-IsMet m a = (ps : List Installed) × IsRead m a ps × (is_matched a ps ≡ true)
+-- what is found is only shown, or it changes nothing
+abbrev pub IsIdle : Map → Asked → Type 0
+IsIdle m asked = (found : Found) × IsFound m asked found
+    × ((asked.pretend ≡ true) ⊎ (found.chosen.plan ≡ []))
 
--- these packages are installed, and the atom matches none of them
-pub record IsOpen (m : Map) (a : AtomValue) (ps : List Installed) : Type 0 where
-  pub read : IsRead m a ps
-  pub unmet : is_matched a ps ≡ false
-
--- the same, and the atom chooses this candidate; the plan is accepted by which it comes, and what
--- stands on its line goes
-pub record IsReady (m : Map) (a : AtomValue) (ps : List Installed) (f : Facts) : Type 0 where
-  pub open_to : IsOpen m a ps
-  pub chosen : IsChosen m a f
-  pub plan : IsPlan [] ps (group_for f ps)
-
--- why the atom doesn't choose a candidate that could be read
-abbrev pub not_matched : Facts → PackageId × Reason
-not_matched f = (f.id, NotMatched)
-
--- the atom matches no installed package and no candidate: these are all of these, the greatest
--- version first, each with its reason
-pub record HasNone (m : Map) (a : AtomValue) (reasons : List (PackageId × Reason)) : Type 0 where
-  pub packages : List Installed
-  pub open_to : IsOpen m a packages
-  pub offers : List Facts
-  pub are : AreOffers m a.name offers
-  pub none : AllByRecursion (λ f. value_matches a f [] ≡ false) offers
-  pub told : reasons ≡ map not_matched offers
-
--- the atom chooses a candidate whose plan isn't accepted over the installed packages
-pub record IsBarred (m : Map) (a : AtomValue) : Type 0 where
-  pub packages : List Installed
-  pub open_to : IsOpen m a packages
-  pub facts : Facts
-  pub chosen : IsChosen m a facts
-  pub barred : ¬ IsPlan [] packages (group_for facts packages)
-
--- how a recovered tree with these packages stands to an atom
-abbrev pub Stands : Map → AtomValue → List Installed → Standing → Type 0
-Stands m a ps Met = IsMet m a
-Stands m a ps (Chosen f) = IsReady m a ps f
-Stands m a ps Barred = IsBarred m a
-Stands m a ps (Unmatched reasons) = HasNone m a reasons.items
-
--- a candidate that was chosen is one that the atom matches, whatever the tree tells
-abbrev pub HasMatched : AtomValue → Standing → Type 0
-HasMatched a Met = ⊤
-HasMatched a (Chosen f) = value_matches a f [] ≡ true
-HasMatched a Barred = ⊤
-HasMatched a (Unmatched reasons) = ⊤
-
--- the entries are in form, and this is the first fault of the database
-pub record HasBadDatabase (m : Map) (a : AtomValue) (fault : DatabaseFault) : Type 0 where
-  pub entries : ¬ HasOddEntry m a.name
-  pub first : IsBadDatabase m fault
-
--- the entries are in form, and the database has more of the quantity than may be
-pub record HasTooMuch (m : Map) (a : AtomValue) (quantity : Quantity) : Type 0 where
-  pub entries : ¬ HasOddEntry m a.name
-  pub much : openings.HasTooMuch m quantity
-
--- the entries are in form, and this is first wrong with the installed packages
-pub record HasBroken (m : Map) (a : AtomValue) (fault : Broken) : Type 0 where
-  pub entries : ¬ HasOddEntry m a.name
-  pub packages : List Installed
-  pub broken : IsInconsistent [] m packages fault
-
--- which part is missing for a recovered tree
-abbrev pub Refuses : Map → AtomValue → Part → Type 0
-Refuses m a Command = ⊥
-Refuses m a Repository = HasOddEntry m a.name
-Refuses m a Result = IsBarred m a
+-- nothing is found, for a reason that is told so
+abbrev pub IsRefused : Map → Asked → Status → Type 0
+IsRefused m asked s = (e : NoPlan) × Refuses m asked e × (s ≡ status_of e)
 
 -- a group was made so, and its claim is granted
 abbrev pub MayCome : List Installed → Group → List (List Entry) → Map → Type 0
@@ -148,49 +67,58 @@ AsksMerge ps g images m status.OutputFault = ⊤
 AsksMerge ps g images m status.Memory = ⊤
 AsksMerge ps g images m s = ⊥
 
--- the same, for the package that the atom chooses
-abbrev pub AsksPackage : AtomValue → Map → (Order → List Entry) → Status → Type 0
-AsksPackage a m image s = (ps : List Installed) × (f : Facts) × IsReady m a ps f ×
-    AsksMerge ps (group_for f ps) (image (order_of f) ∷ []) m s
+-- something holds of the group that is found
+abbrev pub OfGroup : Asked → Map → (Found → Group → Type 0) → Type 0
+OfGroup asked m P = (found : Found) × (g : Group) × IsReady m asked found g × P found g
 
--- the image for the package that the atom chooses has too many entries
-abbrev pub HasMany : AtomValue → Map → (Order → List Entry) → Type 0
-HasMany a m image =
-    (ps : List Installed) × (f : Facts) × IsReady m a ps f
-    × (MOST_ENTRIES < length (image (order_of f)))
+-- the answer of the merge of the group that is found, with the images that are made for it
+abbrev pub AsksGroup : Asked → Map → Images → Status → Type 0
+AsksGroup asked m Image s = OfGroup asked m (λ found g. (images : List (List Entry))
+    × AreBuilt Image found.chosen images × AsksMerge found.packages.items g images m s)
 
--- the answer of a run for this atom over a recovered tree and this image: each refusal comes
--- exactly where it is the first, of the tree and then of the merge; Ok means that nothing is
--- refused, and that the chosen package is merged or one that the atom matches was there. A failure
--- or want of memory may come in place of any of them.
-abbrev pub AsksFor : AtomValue → Map → (Order → List Entry) → Status → Type 0
-AsksFor a m image (status.Ok groups) = AsksPackage a m image (status.Ok groups) ⊎
-    (IsMet m a × (groups ≡ 0))
-AsksFor a m image (status.Usage fault) = ⊥
-AsksFor a m image (status.NotBuilt Command) = ⊥
-AsksFor a m image (status.BadDatabase fault) = HasBadDatabase m a fault
-AsksFor a m image (status.BadJournal fault) = ⊥
-AsksFor a m image (status.Inconsistent fault) = HasBroken m a fault
-AsksFor a m image (status.Limit Paths) =
-    HasTooMuch m a Paths ⊎ (HasMany a m image ⊎ AsksPackage a m image (status.Limit Paths))
-AsksFor a m image (status.Limit quantity) =
-    HasTooMuch m a quantity ⊎ AsksPackage a m image (status.Limit quantity)
-AsksFor a m image (status.Collision c) = AsksPackage a m image (status.Collision c)
-AsksFor a m image (status.BadImage b) = AsksPackage a m image (status.BadImage b)
-AsksFor a m image (status.NotBuilt Repository) = Refuses m a Repository
-AsksFor a m image (status.NotBuilt Result) = Refuses m a Result
-AsksFor a m image (status.NoCandidate atom reasons) =
-    (atom_value atom ≡ a) × HasNone m a reasons.items
-AsksFor a m image (status.BuildFailed id) =
-    (ps : List Installed) × (f : Facts) × IsReady m a ps f × (id ≡ f.id)
-AsksFor a m image status.DeviceFault = ⊤
-AsksFor a m image status.OutputFault = ⊤
-AsksFor a m image status.Memory = ⊤
+-- an image for the group that is found has too many entries
+abbrev pub HasMany : Asked → Map → Images → Type 0
+HasMany asked m Image = OfGroup asked m (λ found g. IsPastLimit Image found.chosen)
 
--- the same, for the atom of the words and what recovery makes of a tree
-abbrev pub AsksAfter : List (List ℕ) → Map → (Order → List Entry) → Status → Type 0
-AsksAfter words opening image s =
-    (a : AtomValue) × IsRequest words a × ((m : Map) × IsRecovered opening m × AsksFor a m image s)
+-- the package is ordered for the group that is found
+abbrev pub IsWanted : Asked → Map → PackageId → Type 0
+IsWanted asked m id = OfGroup asked m (λ found g. IsOrdered found.chosen id)
+
+-- The answer of a run that is asked this over a recovered tree and these images: each refusal comes
+-- exactly where it is the first, of what is found and then of its merge; Ok means that nothing is
+-- refused, and that the group is merged, or that nothing is to be done. A failure or want of memory
+-- may come in place of any of them.
+abbrev pub AsksFor : Asked → Map → Images → Status → Type 0
+AsksFor asked m Image (status.Ok groups) =
+    AsksGroup asked m Image (status.Ok groups) ⊎ (IsIdle m asked × (groups ≡ 0))
+AsksFor asked m Image (status.Usage fault) = ⊥
+AsksFor asked m Image (status.BadText path line) = IsRefused m asked (status.BadText path line)
+AsksFor asked m Image (status.BadDatabase fault) = IsRefused m asked (status.BadDatabase fault)
+AsksFor asked m Image (status.BadJournal fault) = ⊥
+AsksFor asked m Image (status.Inconsistent fault) = IsRefused m asked (status.Inconsistent fault)
+AsksFor asked m Image (status.NoCandidate atom reasons) =
+    IsRefused m asked (status.NoCandidate atom reasons)
+AsksFor asked m Image status.NoSolution = IsRefused m asked status.NoSolution
+AsksFor asked m Image (status.BacktrackLimit refuted) =
+    IsRefused m asked (status.BacktrackLimit refuted)
+AsksFor asked m Image (status.Collision c) = AsksGroup asked m Image (status.Collision c)
+AsksFor asked m Image (status.BadImage b) = AsksGroup asked m Image (status.BadImage b)
+AsksFor asked m Image (status.BuildFailed id) = IsWanted asked m id
+AsksFor asked m Image (status.Limit Paths) = IsRefused m asked (status.Limit Paths)
+    ⊎ (HasMany asked m Image ⊎ AsksGroup asked m Image (status.Limit Paths))
+AsksFor asked m Image (status.Limit quantity) = IsRefused m asked (status.Limit quantity)
+    ⊎ AsksGroup asked m Image (status.Limit quantity)
+AsksFor asked m Image (status.NotBuilt Command) = ⊥
+AsksFor asked m Image (status.NotBuilt Result) = IsRefused m asked (status.NotBuilt Result)
+AsksFor asked m Image status.DeviceFault = ⊤
+AsksFor asked m Image status.OutputFault = ⊤
+AsksFor asked m Image status.Memory = ⊤
+
+-- the same, for what the words ask and what recovery makes of a tree
+abbrev pub AsksAfter : List (List ℕ) → Map → Images → Status → Type 0
+AsksAfter words opening Image s =
+    (asked : Asked) × IsRequest words asked
+    × ((m : Map) × IsRecovered opening m × AsksFor asked m Image s)
 
 -- the first open group of the tree that isn't in form, where its gates aren't too many
 abbrev pub IsBroken : RecoverFault → Map → Type 0
@@ -198,40 +126,15 @@ IsBroken (recovery.BadRecord g) m = IsFaultOf (recovery.BadRecord g) m
 IsBroken (recovery.BadStage g i) m = IsFaultOf (recovery.BadStage g i) m
 IsBroken fault m = ⊥
 
--- the tree's journal has more of the quantity than may be
-abbrev pub HasTooMany : Quantity → Map → Type 0
-HasTooMany Groups m = HasTooManyGates m
-HasTooMany quantity m = ⊥
-
--- The answer of a run over this tree and this image. Usage comes exactly where the words are
+-- The answer of a run over this tree and these images. Usage comes exactly where the words are
 -- refused for just this, another command is told as one, and the journal is refused exactly where
 -- it has too many gates or is broken so.
-abbrev pub Asks : List (List ℕ) → Map → (Order → List Entry) → Status → Type 0
-Asks words opening image (status.Ok groups) = AsksAfter words opening image (status.Ok groups)
-Asks words opening image (status.Usage fault) = IsUsage words fault
-Asks words opening image (status.NotBuilt Command) = AskForOther words
-Asks words opening image (status.BadDatabase fault) =
-    AsksAfter words opening image (status.BadDatabase fault)
-Asks words opening image (status.Inconsistent fault) =
-    AsksAfter words opening image (status.Inconsistent fault)
-Asks words opening image (status.BadJournal fault) = AskForPackage words × IsBroken fault opening
-Asks words opening image (status.Limit Paths) = AsksAfter words opening image (status.Limit Paths)
-Asks words opening image (status.Limit Packages) =
-    AsksAfter words opening image (status.Limit Packages)
-Asks words opening image (status.Limit RecordBytes) =
-    AsksAfter words opening image (status.Limit RecordBytes)
-Asks words opening image (status.Limit quantity) = AskForPackage words × HasTooMany quantity opening
-Asks words opening image (status.Collision c) =
-    AsksAfter words opening image (status.Collision c)
-Asks words opening image (status.BadImage b) = AsksAfter words opening image (status.BadImage b)
-Asks words opening image (status.NotBuilt Repository) =
-    AsksAfter words opening image (status.NotBuilt Repository)
-Asks words opening image (status.NotBuilt Result) =
-    AsksAfter words opening image (status.NotBuilt Result)
-Asks words opening image (status.NoCandidate atom reasons) =
-    AsksAfter words opening image (status.NoCandidate atom reasons)
-Asks words opening image (status.BuildFailed id) =
-    AsksAfter words opening image (status.BuildFailed id)
-Asks words opening image status.DeviceFault = ⊤
-Asks words opening image status.OutputFault = ⊤
-Asks words opening image status.Memory = ⊤
+abbrev pub Asks : List (List ℕ) → Map → Images → Status → Type 0
+Asks words opening Image (status.Usage fault) = IsUsage words fault
+Asks words opening Image (status.NotBuilt Command) = AskForOther words
+Asks words opening Image (status.BadJournal fault) = AskForMerge words × IsBroken fault opening
+Asks words opening Image (status.Limit Groups) = AskForMerge words × HasTooManyGates opening
+Asks words opening Image status.DeviceFault = ⊤
+Asks words opening Image status.OutputFault = ⊤
+Asks words opening Image status.Memory = ⊤
+Asks words opening Image s = AsksAfter words opening Image s

@@ -1,10 +1,11 @@
 pub mod Answers
+pub mod Builds
 pub mod Collisions
 pub mod Headline
-pub mod Images
 pub mod Openings
 pub mod Outcomes
 pub mod Output
 pub mod Package
 pub mod Refusals
+pub mod Tasks
 pub mod Words

@@ -2,12 +2,12 @@
 use Rattle.std.specs.Prelude.{◌≡◌, ◌⊎◌, List, [], ⊤}
 use Rattle.file_tree.specs.Disk.{Map}
 use Rattle.file_tree.specs.declared.limits.Quantity.{Quantity}
-use Rattle.file_tree.specs.declared.limits.Quantity.TheVariants.{Groups, Packages, Paths}
+use Rattle.file_tree.specs.declared.limits.Quantity.TheVariants.{Candidates, Groups, Packages, Paths}
 use Rattle.database_law.specs.Database.{IsDatabase, IsTidy}
 use Rattle.database_law.specs.Packages.{Installed}
 use Rattle.merge_record.specs.Recovered.{IsRecovered}
 use Rattle.opening.specs.Faults.{HasTooMuch}
-use Rattle.run_status.specs.declared.status.Part.TheVariants.{Command, Repository, Result}
+use Rattle.run_status.specs.declared.status.Part.TheVariants.{Command, Result}
 use Rattle.run_status.specs.declared.status.Status.{Status}
 use Rattle.run_status.specs.declared.status.Status.TheVariants as status
 
@@ -27,12 +27,13 @@ HasTooMuchAfter opening quantity = (m : Map) × IsRecovered opening m × HasTooM
 -- a run that answers so ended before it had read the database
 abbrev pub IsUnread : Status → Type 0
 IsUnread (status.Usage fault) = ⊤
+IsUnread (status.BadText path line) = ⊤
 IsUnread (status.BadDatabase fault) = ⊤
 IsUnread (status.BadJournal fault) = ⊤
 IsUnread (status.Limit Groups) = ⊤
 IsUnread (status.Limit Packages) = ⊤
+IsUnread (status.Limit Candidates) = ⊤
 IsUnread (status.NotBuilt Command) = ⊤
-IsUnread (status.NotBuilt Repository) = ⊤
 IsUnread s = ⊥
 
 -- one that answers so has read it; too many paths a database may have, too, and then it isn't read
@@ -40,11 +41,14 @@ abbrev pub HasRead : Status → Type 0
 HasRead (status.Ok groups) = ⊤
 HasRead (status.Inconsistent fault) = ⊤
 HasRead (status.NoCandidate atom reasons) = ⊤
+HasRead status.NoSolution = ⊤
+HasRead (status.BacktrackLimit refuted) = ⊤
 HasRead (status.Collision c) = ⊤
 HasRead (status.BadImage b) = ⊤
 HasRead (status.BuildFailed id) = ⊤
 HasRead (status.Limit Groups) = ⊥
 HasRead (status.Limit Packages) = ⊥
+HasRead (status.Limit Candidates) = ⊥
 HasRead (status.Limit Paths) = ⊥
 HasRead (status.Limit quantity) = ⊤
 HasRead (status.NotBuilt Result) = ⊤

@@ -1,31 +1,54 @@
--- What a run writes: the lines of its groups, and its last line.
-use Rattle.std.specs.Prelude.{◌≡◌, ℕ, List, ◌++◌}
+-- What a run writes: the lines of its groups, or the plan that it shows, and its last line.
+use Rattle.std.specs.Prelude.{◌≡◌, ◌⊎◌, ℕ, Bool, List, [], ◌++◌}
 use Rattle.std.specs.List.{AllByRecursion}
-use Rattle.dep_atom.specs.declared.package.PackageId.{PackageId}
-use Rattle.group_run.specs.Lines.{AreLines}
-use Rattle.plan_law.specs.Plans.{Removal}
+use Rattle.file_tree.specs.Disk.{Map}
+use Rattle.group_run.specs.Lines.{AreLines, IsBeginning}
+use Rattle.plan_law.specs.Plans.{Group}
 use Rattle.run_status.specs.Last.{IsLast}
 use Rattle.run_status.specs.Texts.{done_line}
 use Rattle.run_status.specs.declared.status.Status.{Status}
+use Rattle.emerge_run.specs.Outcomes.{IsDone, IsNamed, IsShownAs}
+use Rattle.emerge_run.specs.Words.{AskToMerge}
 
--- the line of a group that takes packages away and adds one, of which P holds
-abbrev pub IsLineOf : (List Removal → PackageId → Type 0) → List ℕ → ℕ → Type 0
-IsLineOf P line group =
-    (gone : List Removal) × (id : PackageId) × P gone id × (line ≡ done_line gone id group)
+-- the line of a group of a plan, of which P holds
+abbrev pub IsLineOf : (Group → Type 0) → List ℕ → ℕ → Type 0
+IsLineOf P line n = (g : Group) × P g × (line ≡ done_line g n)
 
--- the same lines, where P holds of what each group of the history takes away and adds
-pub record IsLines (P : List Removal → PackageId → Type 0) (history acknowledged text : List ℕ) :
-    Type 0 where
+-- the lines of the acknowledged groups, and a beginning of the others of the history, where P holds
+-- of each group of the history
+pub record IsLines (P : Group → Type 0) (history acknowledged text : List ℕ) : Type 0 where
   pub line : ℕ → List ℕ
-  pub named : AllByRecursion (λ g. IsLineOf P (line g) g) history
+  pub named : AllByRecursion (λ n. IsLineOf P (line n) n) history
   pub lines : AreLines line history acknowledged text
 
--- what a run with these answers wrote: its lines, and then the last line of one of the answers
-pub record IsOutput (P : List Removal → PackageId → Type 0) (IsAnswer : Status → Type 0)
-    (history acknowledged : List ℕ) (s : Status) (text : List ℕ) : Type 0 where
+-- a beginning of the text, and all of it where the command was done
+abbrev pub IsCut : List ℕ → Status → List ℕ → Type 0
+IsCut shown came text = IsBeginning shown text × (IsDone came → text ≡ shown)
+
+-- the text of a plan that is only shown, so far as it was written
+abbrev pub IsShowing : List (List ℕ) → Bool → Map → Status → List ℕ → Type 0
+IsShowing words tells opening came text =
+    (shown : List ℕ) × IsShownAs words tells opening shown × IsCut shown came text
+
+-- What a run has written before its last line: it merges, and these are its lines; or it shows a
+-- plan; or nothing, and the command wasn't done. Only where it merges is there a history.
+pub data IsSaid (words : List (List ℕ)) (tells : Bool) (opening : Map)
+    (history acknowledged : List ℕ) (came : Status) (text : List ℕ) : Type 0 where
+  merging : AskToMerge words → IsLines (IsNamed words tells opening) history acknowledged text →
+      IsSaid words tells opening history acknowledged came text
+  showing : history ≡ [] → IsShowing words tells opening came text →
+      IsSaid words tells opening history acknowledged came text
+  silent : history ≡ [] → ¬ (IsDone came) → text ≡ [] →
+      IsSaid words tells opening history acknowledged came text
+
+-- what a run with these answers wrote: what it had to say, and then the last line of one of the
+-- answers
+pub record IsOutput (words : List (List ℕ)) (tells : Bool) (opening : Map)
+    (IsAnswer : Status → Type 0) (history acknowledged : List ℕ) (s : Status) (text : List ℕ) :
+    Type 0 where
   pub lines : List ℕ
-  pub named : IsLines P history acknowledged lines
   pub came : Status
+  pub said : IsSaid words tells opening history acknowledged came lines
   pub answer : IsAnswer came
   pub last : List ℕ
   pub ends : IsLast came s last

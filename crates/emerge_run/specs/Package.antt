@@ -1,28 +1,20 @@
--- The package that a run merges, and what is made for the group of a plan that brings it.
-use Rattle.std.specs.Prelude.{◌≡◌, ℕ, Bool, true, List, [], ◌∷◌, Option, None, Some, map, IsTrue}
+-- The group that a run merges, and what is made for it.
+use Rattle.std.specs.Prelude.{◌≡◌, ℕ, Bool, true, List, [], Option, None, Some, map, IsTrue}
 use Rattle.file_tree.specs.Disk.{Map}
 use Rattle.file_tree.specs.declared.objects.Entry.{Entry}
-use Rattle.dep_atom.specs.declared.package.Facts.{Facts}
-use Rattle.build_pool.specs.declared.orders.Order.{Order}
 use Rattle.database_law.specs.Packages.{Installed}
-use Rattle.package_law.specs.Records.{needing_nothing}
 use Rattle.run_law.specs.Openings.{AreOwners}
 use Rattle.journal.specs.Group as journal
 use Rattle.owner_book.specs.Book.{Book}
 use Rattle.group_run.specs.declared.stop.Stop.{Stop}
 use Rattle.plan_law.specs.Plans.{Group}
-use Rattle.exchange_make.specs.Made.{GROUP, package_of}
+use Rattle.exchange_make.specs.Made.{GROUP, group_with, package_of}
 use Rattle.exchange_make.specs.declared.made.Made.{Made}
 use Rattle.exchange_make.specs.declared.newcomer.Newcomer.{Newcomer}
 use Rattle.exchange_run.specs.Runs.{IsOfMade, StopsMerge}
 use Rattle.exchange_law.specs.Ends.{IsMerge, image_of}
-use Rattle.atom_plan.specs.Plans.{removals_for}
 use Rattle.run_status.specs.Texts.{done_line}
-use Rattle.emerge_run.specs.declared.choosing.Chosen.{Chosen}
-
--- what a builder is asked for, for this package
-abbrev pub order_of : Facts → Order
-order_of f = record { id = f.id }
+use Rattle.emerge_run.specs.declared.prepare.Ready.{Ready}
 
 -- what is made of a group of a plan that brings packages with these images, over a map with these
 -- packages
@@ -49,11 +41,16 @@ pub record StopsAt (ps : List Installed) (g : Group) (images : List (List Entry)
   pub line : List ℕ
   pub stops_merge : StopsMerge true m book ps g newcomers line s
 
--- what the merge of the chosen package takes: what stands on its line goes, and the package comes,
--- which needs nothing; nothing is claimed, and the owners are these where the tree tells
-pub record IsTask (tells : Bool) (m : Map) (ps : List Installed) (c : Chosen) : Type 0 where
-  pub goes : c.removals.items ≡ removals_for c.facts ps
-  pub comes : map package_of c.additions.newcomers.items ≡ needing_nothing c.facts ∷ []
-  pub line_is : c.additions.line.items ≡ done_line c.removals.items c.facts.id GROUP
-  pub unclaimed : c.additions.book.claims ≡ []
-  pub owners : IsTrue tells → AreOwners m ps c.additions.book
+-- the group that is ready, and the images with which its packages come
+abbrev pub group_of : Ready → Group
+group_of r = group_with r.removals.items r.additions.newcomers.items
+
+abbrev pub images_of : Ready → List (List Entry)
+images_of r = map image_of r.additions.newcomers.items
+
+-- what the merge of the group takes: its line; nothing is claimed, and the owners are these where
+-- the tree tells
+pub record IsTask (tells : Bool) (m : Map) (ps : List Installed) (r : Ready) : Type 0 where
+  pub line_is : r.additions.line.items ≡ done_line (group_of r) GROUP
+  pub unclaimed : r.additions.book.claims ≡ []
+  pub owners : IsTrue tells → AreOwners m ps r.additions.book

@@ -1,48 +1,47 @@
--- The status that each inner fault becomes, and what the tree is refused for.
+-- The status that each inner fault becomes.
 use Rattle.std.specs.Prelude.{◌≡◌, ◌⊎◌, ℕ, List, [], Result, Ok, Err, ⊤}
-use Rattle.file_tree.specs.Disk.{Map}
-use Rattle.dep_atom.specs.Values.{AtomValue}
-use Rattle.emerge_run.specs.Answers.{HasBadDatabase, HasTooMuch}
-use Rattle.emerge_run.specs.Collisions.{status_of_collision}
 use Rattle.file_tree.specs.declared.limits.Quantity.TheVariants.{Paths, RecordBytes}
 use Rattle.merge_site.specs.declared.fault.ClaimStop.{ClaimStop}
 use Rattle.merge_site.specs.declared.fault.ClaimStop.TheVariants as claims
 use Rattle.group_run.specs.declared.stop.Stop.{Stop}
 use Rattle.group_run.specs.declared.stop.Stop.TheVariants as stops
 use Rattle.database_law.specs.Packages.{Installed}
-use Rattle.owner_book.specs.declared.fault.Collision as books
-use Rattle.visible_set.specs.Candidates.{HasOddEntry}
-use Rattle.opening.specs.Faults.{IsInconsistent}
-use Rattle.opening.specs.declared.fault.OpeningFault.{OpeningFault}
-use Rattle.opening.specs.declared.fault.OpeningFault.TheVariants as openings
-use Rattle.visible_set.specs.declared.fault.CandidateFault.{CandidateFault}
-use Rattle.visible_set.specs.declared.fault.CandidateFault.TheVariants as candidates
-use Rattle.run_status.specs.declared.status.Part.TheVariants.{Repository}
-use Rattle.emerge_run.specs.declared.refusal.Refusal.{Refusal}
-use Rattle.emerge_run.specs.declared.refusal.Refusal.TheVariants as refusals
-use Rattle.pkg_state.specs.declared.broken.Broken.{Broken}
+use Rattle.plan_find.specs.declared.ends.NoPlan.{NoPlan}
+use Rattle.plan_find.specs.declared.ends.NoPlan.TheVariants as ends
+use Rattle.plan_run.specs.declared.stop.PlanStop.{PlanStop}
+use Rattle.plan_run.specs.declared.stop.PlanStop.TheVariants as plans
+use Rattle.run_status.specs.declared.status.Part.TheVariants.{Result as PlanResult}
 use Rattle.run_status.specs.declared.status.Status.{Status}
 use Rattle.run_status.specs.declared.status.Status.TheVariants as status
+use Rattle.emerge_run.specs.Collisions.{status_of_collision}
 
-abbrev pub refusal_of_candidates : CandidateFault → Refusal
-refusal_of_candidates candidates.OddEntry = refusals.OddEntry
-refusal_of_candidates candidates.Failed = refusals.Failed
-refusal_of_candidates candidates.Memory = refusals.Memory
+-- why there is no plan
+abbrev pub status_of : NoPlan → Status
+status_of (ends.Text path line) = status.BadText path line
+status_of (ends.Limit quantity) = status.Limit quantity
+status_of (ends.BadDatabase fault) = status.BadDatabase fault
+status_of (ends.Inconsistent fault packages) = status.Inconsistent fault
+status_of (ends.NoCandidate atom reasons packages) = status.NoCandidate atom reasons
+status_of (ends.NoSolution packages) = status.NoSolution
+status_of (ends.BacktrackLimit refuted packages) = status.BacktrackLimit refuted
+status_of (ends.NotPlanned packages) = status.NotBuilt PlanResult
+status_of ends.Failed = status.DeviceFault
+status_of ends.Memory = status.Memory
 
-abbrev pub refusal_of_opening : OpeningFault → Refusal
-refusal_of_opening (openings.Database fault) = refusals.BadDatabase fault
-refusal_of_opening (openings.Inconsistent fault packages) = refusals.Inconsistent fault packages
-refusal_of_opening (openings.Limit quantity) = refusals.Limit quantity
-refusal_of_opening openings.Failed = refusals.Failed
-refusal_of_opening openings.Memory = refusals.Memory
+-- the installed packages that come with it
+abbrev pub packages_with : NoPlan → List Installed
+packages_with (ends.Inconsistent fault packages) = packages.items
+packages_with (ends.NoCandidate atom reasons packages) = packages.items
+packages_with (ends.NoSolution packages) = packages.items
+packages_with (ends.BacktrackLimit refuted packages) = packages.items
+packages_with (ends.NotPlanned packages) = packages.items
+packages_with e = []
 
-abbrev pub status_of : Refusal → Status
-status_of refusals.OddEntry = status.NotBuilt Repository
-status_of (refusals.BadDatabase fault) = status.BadDatabase fault
-status_of (refusals.Inconsistent fault packages) = status.Inconsistent fault
-status_of (refusals.Limit quantity) = status.Limit quantity
-status_of refusals.Failed = status.DeviceFault
-status_of refusals.Memory = status.Memory
+-- why there is no image
+abbrev pub status_of_build : PlanStop → Status
+status_of_build (plans.Build id) = status.BuildFailed id
+status_of_build (plans.Image id) = status.Limit Paths
+status_of_build (plans.Merge stop) = status.Memory
 
 -- what the merge of a group is stopped for; that its paths overlap, or that it removes what nobody
 -- owns, says nothing: a tree that tells stops none so
@@ -86,24 +85,3 @@ IsOrNameless this Collision s = (s ≡ this) ⊎ ((s ≡ status.Memory) × Colli
 -- the status of so many groups' merge over these packages that ended so
 abbrev pub IsStatusOf : List Installed → ℕ → Result ⊤ Stop → Status → Type 0
 IsStatusOf ps n end s = IsOrNameless (status_of_end ps n end) (EndsAtCollision end) s
-
--- the installed packages that a refusal of the tree comes with
-abbrev pub packages_with : Refusal → List Installed
-packages_with (refusals.Inconsistent fault packages) = packages.items
-packages_with refusal = []
-
--- the entries are in form, and these packages don't go together
-pub record AreInconsistent (m : Map) (a : AtomValue) (ps : List Installed)
-    (fault : Broken) : Type 0 where
-  pub entries : ¬ HasOddEntry m a.name
-  pub broken : IsInconsistent [] m ps fault
-
--- what the tree is refused for, the first in this order; a failure and want of memory say nothing
--- of it
-abbrev pub TreeRefuses : Map → AtomValue → Refusal → Type 0
-TreeRefuses m a refusals.OddEntry = HasOddEntry m a.name
-TreeRefuses m a (refusals.BadDatabase fault) = HasBadDatabase m a fault
-TreeRefuses m a (refusals.Inconsistent fault packages) = AreInconsistent m a packages.items fault
-TreeRefuses m a (refusals.Limit quantity) = HasTooMuch m a quantity
-TreeRefuses m a refusals.Failed = ⊤
-TreeRefuses m a refusals.Memory = ⊤

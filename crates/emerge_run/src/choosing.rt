@@ -1,78 +1,75 @@
-ghost use Rattle.std.specs.Prelude.{◌≡◌, ◌<◌, ◌⊎◌, Bool, [], true, Contains, IfErr, IfOk, IsErrOf};
-ghost use Rattle.std.specs.Prelude.{IsTrue, length, map, string_bytes};
-ghost use Rattle.file_tree.specs.Disk.{CountsFault, Map};
+ghost use Rattle.std.specs.Prelude.{◌≡◌, ◌<◌, ◌∷◌, ◌⊎◌, [], IfErr, IfOk, IsErrOf, IsTrue};
+ghost use Rattle.std.specs.Prelude.{false, length, map, string_bytes};
+ghost use Rattle.file_tree.specs.Disk.{CountsFault};
 ghost use Rattle.build_pool.specs.Pool.{PoolRose, SameIds};
-ghost use Rattle.dep_atom.specs.Match.{value_matches};
-ghost use Rattle.dep_atom.specs.Values.{atom_value};
 ghost use Rattle.dep_atom.specs.declared.package.PackageId.{PackageId};
-ghost use Rattle.run_law.specs.Openings.{AreOwners};
-ghost use Rattle.visible_set.specs.Candidates.{AreOffers};
-ghost use Rattle.exchange_law.specs.Ends.{image_of};
-ghost use Rattle.emerge_run.specs.Answers.{AsksFor, IsRead, IsReady};
-ghost use Rattle.emerge_run.specs.Images.{AreTold};
+ghost use Rattle.emerge_words.specs.declared.request.WordFault.{WordFault};
+ghost use Rattle.image_build.specs.Images.{IsBuilt};
 ghost use Rattle.opening.specs.Faults.{HasTooMuch};
+ghost use Rattle.plan_find.specs.Choices.{IsFound};
+ghost use Rattle.plan_find.specs.Shapes.{IsInShape};
+ghost use Rattle.run_law.specs.Openings.{AreOwners};
+ghost use Rattle.emerge_run.specs.Answers.{AsksFor};
 ghost use Rattle.emerge_run.specs.Openings.{AreInstalled, AreInstalledAfter, GivesBack};
 ghost use Rattle.emerge_run.specs.Openings.{HasTooMuchAfter, IsUnread};
-ghost use Rattle.emerge_run.specs.Outcomes.{BuildEnds, HasChosen, IsEarly, IsNamed, IsUnmerged};
-ghost use Rattle.emerge_run.specs.Outcomes.{OfSomeBuilder, Outcome};
-ghost use Rattle.emerge_run.specs.Package.{IsTask, order_of};
+ghost use Rattle.emerge_run.specs.Outcomes.{EndsWork, HasRecovered, IsDone, IsEarly};
+ghost use Rattle.emerge_run.specs.Outcomes.{IsToDo, IsWork, Outcome};
+ghost use Rattle.emerge_run.specs.Package.{IsTask};
 ghost use Rattle.emerge_run.specs.Refusals.{packages_with, status_of};
-ghost use Rattle.emerge_run.specs.Words.{AskForPackage, IsOfWords, IsUsage};
-ghost use Rattle.emerge_words.specs.declared.request.WordFault.{WordFault};
+ghost use Rattle.emerge_run.specs.Tasks.{IsAsked, IsPrepared, IsTaskOf, IsWanted};
+ghost use Rattle.emerge_run.specs.Words.{AskForMerge, AskToMerge, IsOfWords, IsRequest, IsUsage};
 
-use crate::judge::{Read, Standing, read_tree, standing_of};
-use crate::prepare::{chosen_with, find_image};
-use crate::refusal::Refusal;
+use crate::prepare::{Ready, prepared};
 use crate::words::read_request;
 use build_pool::{BuildPool, Builder};
-use dep_atom::{Atom, Facts};
-use exchange_run::Additions;
 use file_tree::Tree;
 use owner_book::OwnerBook;
-use plan_check::Removal;
+use plan_choose::Chosen;
+use plan_find::{Asked, Found, NoPlan, find_plan};
 use record_read::Installed;
 use recovery::recover;
 use run_status::{Part, Status};
-use std::alloc::Global;
+use std::alloc::{AllocError, Global};
 
 /// What a run finds before it merges anything.
 #[derive(Drop)]
-pub struct Found {
+pub struct Seen {
     /// The installed packages, where the run came to read them.
     pub opening: Vec<Installed>,
-    /// The package that is merged, or how the run ends without one.
-    pub answer: Result<Chosen, Status>,
+    /// What is to be done, or how the run ends without it.
+    pub answer: Result<Work, Status>,
 }
 
-/// A package that a run merges, and what its merge takes.
+/// What a run is to do.
 #[derive(Drop)]
-pub struct Chosen {
-    pub facts: Facts,
-    /// What goes where it comes.
-    pub removals: Vec<Removal>,
-    pub additions: Additions,
+pub enum Work {
+    /// To show the text of a plan.
+    Show(String),
+    /// To merge a group.
+    Merge(Ready),
 }
 
-/// Recovers the tree, and finds the package that the words choose in it, with its image; or answers
-/// how the run ends without one.
+/// Recovers the tree, and finds what the words choose in it, with the images; or answers how the run
+/// ends without it.
 pub fn choose<T: Tree, B: Builder>(
     alloc: Global,
     words: &[String],
     tree: &mut T,
     pool: &mut BuildPool<B>,
-) -> Found
+) -> Seen
     requires resting { 0 < length pool.old.resting }
-    ensures chosen { IsTrue T.tells → IfOk result.answer (λ c.
-        OfSomeBuilder B.tells B.told pool.old.resting (λ image.
-        HasChosen (map string_bytes words.now) image (T.story tree.old) (T.story tree.new)
-        result.opening.items c.facts (map image_of c.additions.newcomers.items))) }
+    ensures recovered { IsTrue T.tells → IfOk result.answer (λ w.
+        HasRecovered (T.story tree.old) (T.story tree.new)) }
+    ensures found { IsTrue T.tells → IfOk result.answer (IsToDo (map string_bytes words.now)
+        (IsBuilt B.tells B.told pool.old.resting) (T.story tree.new).now.holds
+        result.opening.items) }
     ensures task { IfOk result.answer
-        (IsTask T.tells (T.story tree.new).now.holds result.opening.items) }
-    ensures named { IfOk result.answer (λ c. IsNamed (map string_bytes words.now) T.tells
-        (T.story tree.old).now.holds c.removals.items c.facts.id) }
-    ensures ended { IsTrue T.tells → IfErr result.answer (λ s.
-        OfSomeBuilder B.tells B.told pool.old.resting (λ image.
-        Outcome (map string_bytes words.now) image (T.story tree.old) (T.story tree.new) [] s)) }
+        (IsTaskOf T.tells (T.story tree.new).now.holds result.opening.items) }
+    ensures work { IfOk result.answer
+        (IsWork (map string_bytes words.now) T.tells (T.story tree.old).now.holds) }
+    ensures ended { IsTrue T.tells → IfErr result.answer (Outcome (map string_bytes words.now)
+        (IsBuilt B.tells B.told pool.old.resting) (T.story tree.old) (T.story tree.new) []) }
+    ensures merges { IfErr result.answer (λ s. IsDone s → AskToMerge (map string_bytes words.now)) }
     ensures opening { IsTrue T.tells → IfErr result.answer (λ s.
         GivesBack (AreInstalledAfter (T.story tree.old).now.holds)
         (HasTooMuchAfter (T.story tree.old).now.holds) s result.opening.items) }
@@ -82,7 +79,7 @@ pub fn choose<T: Tree, B: Builder>(
         T.story tree.new ≡ T.story tree.old) }
     ensures usage { (f : WordFault) → IsErrOf result.answer (Status.Usage f) →
         IsUsage (map string_bytes words.now) f }
-    ensures no_package { ¬ (AskForPackage (map string_bytes words.now)) →
+    ensures no_merge { ¬ (AskForMerge (map string_bytes words.now)) →
         IfErr result.answer (λ s. IsOfWords s ⊎ (s ≡ Status.Memory)) }
     ensures build { (id : PackageId) → IsErrOf result.answer (Status.BuildFailed id) →
         PoolRose B.faults pool.old pool.new }
@@ -92,8 +89,8 @@ pub fn choose<T: Tree, B: Builder>(
     ensures lent { pool.new.lent ≡ pool.old.lent }
 {
     match read_request(alloc, words) {
-        Ok(atom) => match recover(alloc, tree) {
-            Ok(_) => find_package(alloc, atom, tree, pool),
+        Ok(asked) => match recover(alloc, tree) {
+            Ok(_) => find_work(alloc, asked, tree, pool),
             Err(fault) => ended(alloc, Status::from(fault)),
         },
         Err(status) => ended(alloc, status),
@@ -101,34 +98,32 @@ pub fn choose<T: Tree, B: Builder>(
 }
 
 /// A run that ends before it reads the installed packages.
-fn ended(alloc: Global, status: Status) -> Found
+fn ended(alloc: Global, status: Status) -> Seen
     ensures answer { IsErrOf result.answer status }
     ensures opening { result.opening.items ≡ [] }
 {
-    Found {
+    Seen {
         opening: Vec::new(alloc),
         answer: Err(status),
     }
 }
 
-/// Finds the package that the atom chooses in a recovered tree, with its image.
-fn find_package<T: Tree, B: Builder>(
+/// Finds what is asked for in a recovered tree, with the images.
+fn find_work<T: Tree, B: Builder>(
     alloc: Global,
-    atom: Atom,
+    asked: Asked,
     tree: &mut T,
     pool: &mut BuildPool<B>,
-) -> Found
+) -> Seen
     requires resting { 0 < length pool.old.resting }
-    ensures ready { IsTrue T.tells → IfOk result.answer (λ c.
-        IsReady (T.story tree.old).now.holds (atom_value atom) result.opening.items c.facts) }
-    ensures matched { IfOk result.answer (λ c. value_matches (atom_value atom) c.facts [] ≡ true) }
-    ensures image { IfOk result.answer (λ c. (b : B) × Contains pool.old.resting b ×
-        AreTold B.tells (B.told b (order_of c.facts)) (map image_of c.additions.newcomers.items)) }
+    ensures found { IsTrue T.tells → IfOk result.answer (IsWanted (T.story tree.old).now.holds asked
+        (IsBuilt B.tells B.told pool.old.resting) result.opening.items) }
+    ensures pretend { IfOk result.answer (IsAsked asked) }
     ensures task { IfOk result.answer
-        (IsTask T.tells (T.story tree.old).now.holds result.opening.items) }
-    ensures ended { IsTrue T.tells → IfErr result.answer (λ s.
-        OfSomeBuilder B.tells B.told pool.old.resting
-        (λ image. AsksFor (atom_value atom) (T.story tree.old).now.holds image s)) }
+        (IsTaskOf T.tells (T.story tree.old).now.holds result.opening.items) }
+    ensures ended { IsTrue T.tells → IfErr result.answer (AsksFor asked
+        (T.story tree.old).now.holds (IsBuilt B.tells B.told pool.old.resting)) }
+    ensures merges { IfErr result.answer (λ s. IsDone s → asked.pretend ≡ false) }
     ensures opening { IsTrue T.tells → IfErr result.answer (λ s.
         GivesBack (AreInstalled (T.story tree.old).now.holds)
         (HasTooMuch (T.story tree.old).now.holds) s result.opening.items) }
@@ -143,107 +138,84 @@ fn find_package<T: Tree, B: Builder>(
     ensures ids { SameIds B.number pool.old pool.new }
     ensures lent { pool.new.lent ≡ pool.old.lent }
 {
-    match read_tree(alloc, tree, &atom) {
-        Ok(read) => {
-            let Read {
-                offers,
+    let pretend = asked.pretend;
+    match find_plan(alloc, tree, asked) {
+        Ok(found) => {
+            let Found {
                 packages,
                 book,
-            } = read;
-            let answer = answer_of(alloc, atom, offers, &packages, book, pool);
-            Found {
+                chosen,
+                ..
+            } = found;
+            let answer = work_of(alloc, pool, &chosen, book, pretend);
+            Seen {
                 opening: packages,
                 answer,
             }
         }
-        Err(refusal) => refused(alloc, refusal),
+        Err(end) => unplanned(alloc, end),
     }
 }
 
-/// How a run ends whose tree is refused.
-fn refused(alloc: Global, refusal: Refusal) -> Found
-    ensures answer { IsErrOf result.answer (status_of refusal) }
-    ensures opening { result.opening.items ≡ packages_with refusal }
-{
-    match refusal {
-        Refusal::OddEntry => ended(
-            alloc,
-            Status::NotBuilt {
-                what: Part::Repository,
-            },
-        ),
-        Refusal::BadDatabase(fault) => ended(alloc, Status::BadDatabase(fault)),
-        Refusal::Inconsistent { fault, packages } => Found {
-            opening: packages,
-            answer: Err(Status::Inconsistent(fault)),
-        },
-        Refusal::Limit { quantity } => ended(alloc, Status::Limit { quantity }),
-        Refusal::Failed => ended(alloc, Status::DeviceFault),
-        Refusal::Memory => ended(alloc, Status::Memory),
-    }
-}
-
-/// The package that the atom chooses, with its image, to come over the installed ones.
-fn answer_of<B: Builder>(
+/// What is to be done with what is chosen.
+fn work_of<B: Builder>(
     alloc: Global,
-    atom: Atom,
-    offers: Vec<Facts>,
-    packages: &[Installed],
-    book: OwnerBook,
     pool: &mut BuildPool<B>,
-) -> Result<Chosen, Status>
+    chosen: &Chosen,
+    book: OwnerBook,
+    pretend: bool,
+) -> Result<Work, Status>
     requires resting { 0 < length pool.old.resting }
-    ensures ready { (m : Map) → AreOffers m atom.name offers.items →
-        IsRead m (atom_value atom) packages.now → IfOk result
-        (λ c. IsReady m (atom_value atom) packages.now c.facts) }
-    ensures matched { IfOk result (λ c. value_matches (atom_value atom) c.facts [] ≡ true) }
-    ensures image { IfOk result (λ c. (b : B) × Contains pool.old.resting b ×
-        AreTold B.tells (B.told b (order_of c.facts)) (map image_of c.additions.newcomers.items)) }
-    ensures task { (tells : Bool) (m : Map) → book.claims ≡ [] →
-        (IsTrue tells → AreOwners m packages.now book) →
-        IfOk result (IsTask tells m packages.now) }
-    ensures ended { (m : Map) → AreOffers m atom.name offers.items →
-        IsRead m (atom_value atom) packages.now → IfErr result (λ s.
-        OfSomeBuilder B.tells B.told pool.old.resting
-        (λ image. AsksFor (atom_value atom) m image s)) }
-    ensures unmerged { IfErr result IsUnmerged }
+    requires shape { IsInShape chosen.now }
+    ensures work { IfOk result (IsPrepared (IsBuilt B.tells B.told pool.old.resting) chosen.now
+        book pretend) }
+    ensures ends { IfErr result
+        (EndsWork (IsBuilt B.tells B.told pool.old.resting) chosen.now pretend) }
     ensures build { (id : PackageId) → IsErrOf result (Status.BuildFailed id) →
         PoolRose B.faults pool.old pool.new }
     ensures ids { SameIds B.number pool.old pool.new }
     ensures lent { pool.new.lent ≡ pool.old.lent }
 {
-    let standing = standing_of(alloc, &atom, offers, packages)?;
-    match standing {
-        Standing::Chosen(facts) => with_image(alloc, facts, packages, book, pool),
-        Standing::Met => Err(Status::Ok { groups: 0 }),
-        Standing::Barred => Err(Status::NotBuilt { what: Part::Result }),
-        Standing::Unmatched(reasons) => Err(Status::NoCandidate { atom, reasons }),
+    if pretend {
+        let text = chosen.text.print(alloc)?;
+        return Ok(Work::Show(text));
+    }
+    let ready = prepared(alloc, pool, chosen, book)?;
+    Ok(Work::Merge(ready))
+}
+
+/// How a run ends that has no plan.
+fn unplanned(alloc: Global, end: NoPlan) -> Seen
+    ensures answer { IsErrOf result.answer (status_of end) }
+    ensures opening { result.opening.items ≡ packages_with end }
+{
+    match end {
+        NoPlan::Text { path, line } => ended(alloc, Status::BadText { path, line }),
+        NoPlan::Limit { quantity } => ended(alloc, Status::Limit { quantity }),
+        NoPlan::BadDatabase(fault) => ended(alloc, Status::BadDatabase(fault)),
+        NoPlan::Failed => ended(alloc, Status::DeviceFault),
+        NoPlan::Memory => ended(alloc, Status::Memory),
+        NoPlan::Inconsistent { fault, packages } => over(packages, Status::Inconsistent(fault)),
+        NoPlan::NoCandidate {
+            atom,
+            reasons,
+            packages,
+        } => over(packages, Status::NoCandidate { atom, reasons }),
+        NoPlan::NoSolution { packages } => over(packages, Status::NoSolution),
+        NoPlan::BacktrackLimit { refuted, packages } => {
+            over(packages, Status::BacktrackLimit { refuted })
+        }
+        NoPlan::NotPlanned { packages } => over(packages, Status::NotBuilt { what: Part::Result }),
     }
 }
 
-/// Has the image of a package built, and makes what its merge takes.
-fn with_image<B: Builder>(
-    alloc: Global,
-    facts: Facts,
-    packages: &[Installed],
-    book: OwnerBook,
-    pool: &mut BuildPool<B>,
-) -> Result<Chosen, Status>
-    requires resting { 0 < length pool.old.resting }
-    ensures facts { IfOk result (λ c. c.facts ≡ facts) }
-    ensures image { IfOk result (λ c. (b : B) × Contains pool.old.resting b ×
-        AreTold B.tells (B.told b (order_of facts)) (map image_of c.additions.newcomers.items)) }
-    ensures task { (tells : Bool) (m : Map) → book.claims ≡ [] →
-        (IsTrue tells → AreOwners m packages.now book) →
-        IfOk result (IsTask tells m packages.now) }
-    ensures ends { IfErr result (λ s. (b : B) × Contains pool.old.resting b ×
-        BuildEnds B.tells (B.told b (order_of facts)) facts.id s) }
-    ensures build { (id : PackageId) → IsErrOf result (Status.BuildFailed id) →
-        PoolRose B.faults pool.old pool.new }
-    ensures ids { SameIds B.number pool.old pool.new }
-    ensures lent { pool.new.lent ≡ pool.old.lent }
+/// A run that ends so over these packages.
+fn over(opening: Vec<Installed>, status: Status) -> Seen
+    ensures answer { IsErrOf result.answer status }
+    ensures opening { result.opening ≡ opening }
 {
-    let image = find_image(alloc, pool, &facts)?;
-    let chosen = chosen_with(alloc, facts, packages, image, book)?;
-    Ok(chosen)
+    Seen {
+        opening,
+        answer: Err(status),
+    }
 }

@@ -6,12 +6,12 @@
 //!
 //! **Proved**: a crash at any moment recovers to what the tree recovered to, with some groups of
 //! the run, at its end with all of the history; from a tree that keeps what its packages recorded,
-//! and where they go together, it recovers to such a tree; a group of the run does just what was
-//! made of the plan of the package that the words choose: the package comes, and what stands on its
-//! line goes; that plan is accepted, and its claim was granted; the answer is the one that was asked
-//! for, and the installed packages come back where they were read; what was written is the lines of
-//! the acknowledged groups and the last line; each answer but want of memory has its cause; the pool
-//! comes back whole.
+//! and where they go together, it recovers to such a tree; the group of the run does just what was
+//! made of the plan of the first good choice for what the words ask; that plan is accepted, and its
+//! claim was granted; the answer is the one that was asked for, and the installed packages come back
+//! where they were read; what was written is the lines of the acknowledged groups, or the plan that
+//! is shown, and the last line; each answer but want of memory has its cause; the pool comes back
+//! whole.
 //!
 //! **Only tested**: whole runs with ample memory.
 //!
@@ -21,12 +21,10 @@
 #![tactic(auto)]
 
 mod choosing;
-mod images;
-mod judge;
 mod merging;
 mod prepare;
-mod refusal;
 mod run;
+mod showing;
 mod words;
 
 pub use run::{Ended, emerge};

@@ -4,16 +4,14 @@ ghost use Rattle.file_tree.specs.Disk.{CountsFault};
 ghost use Rattle.group_run.specs.Applied.{number};
 ghost use Rattle.group_run.specs.Lines.{AreLines, Wrote};
 ghost use Rattle.merge_core.specs.Trail.{IsAtRest};
-ghost use Rattle.exchange_law.specs.Ends.{image_of};
-ghost use Rattle.atom_plan.specs.Plans.{group_for};
 ghost use Rattle.emerge_run.specs.Outcomes.{IsOfMerge, IsRefusal, MergedTo};
-ghost use Rattle.emerge_run.specs.Package.{IsTask};
+ghost use Rattle.emerge_run.specs.Package.{IsTask, group_of, images_of};
 ghost use Rattle.emerge_run.specs.Collisions.{owned_by, status_of_collision};
 ghost use Rattle.emerge_run.specs.Refusals.{Collides, CollidesAt, IsOrNameless, IsStatusOf};
 ghost use Rattle.emerge_run.specs.Refusals.{status_of_claim, status_of_stop};
 ghost use Rattle.run_status.specs.Texts.{done_line};
 
-use crate::choosing::Chosen;
+use crate::prepare::Ready;
 use crate::run::Reached;
 use exchange_run::merge_exchange;
 use file_tree::{Path, Quantity, Sink, Tree};
@@ -23,18 +21,17 @@ use record_read::Installed;
 use run_status::{Collision, Status};
 use std::alloc::Global;
 
-/// Merges the package that was chosen, and tells how that ended.
-pub fn merge_chosen<T: Tree, S: Sink>(
+/// Merges the group that is ready, and tells how that ended.
+pub fn merge_ready<T: Tree, S: Sink>(
     alloc: Global,
     tree: T,
     out: S,
     opening: Vec<Installed>,
-    chosen: Chosen,
+    ready: Ready,
 ) -> Reached<T, S>
     requires rest { IsTrue T.tells → IsAtRest (T.story tree).now.holds (T.story tree).now }
-    requires task { IsTask T.tells (T.story tree).now.holds opening.items chosen }
-    ensures merged { IsTrue T.tells → MergedTo opening.items
-        (group_for chosen.facts opening.items) (map image_of chosen.additions.newcomers.items)
+    requires task { IsTask T.tells (T.story tree).now.holds opening.items ready }
+    ensures merged { IsTrue T.tells → MergedTo opening.items (group_of ready) (images_of ready)
         (T.story tree) (T.story result.tree) result.history.items result.status }
     ensures opening { result.opening.items ≡ opening.items }
     ensures machine { MatchOption result.machine (result.history.items ≡ [])
@@ -46,19 +43,18 @@ pub fn merge_chosen<T: Tree, S: Sink>(
     ensures refused { IsRefusal result.status → result.history.items ≡ [] }
     ensures kept { (result.acknowledged.items ≡ []) ⊎
         (result.acknowledged.items ≡ result.history.items) }
-    ensures written { IsTrue S.tells → Wrote (AreLines
-        (done_line chosen.removals.items chosen.facts.id) result.history.items
-        result.acknowledged.items) (S.written out) (S.written result.out) }
+    ensures written { IsTrue S.tells → Wrote (AreLines (done_line (group_of ready))
+        result.history.items result.acknowledged.items)
+        (S.written out) (S.written result.out) }
     ensures device { CountsFault (result.status ≡ Status.DeviceFault) (T.faults tree)
         (T.faults result.tree) }
     ensures output { CountsFault (result.status ≡ Status.OutputFault) (S.faults out)
         (S.faults result.out) }
 {
-    let Chosen {
+    let Ready {
         removals,
         additions,
-        ..
-    } = chosen;
+    } = ready;
     let Merged {
         tree,
         sink,

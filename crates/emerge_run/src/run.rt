@@ -3,19 +3,23 @@ ghost use Rattle.std.specs.Prelude.{List, None, string_bytes};
 ghost use Rattle.file_tree.specs.Disk.{Map, Rose};
 ghost use Rattle.build_pool.specs.Pool.{PoolRose, SameIds};
 ghost use Rattle.dep_atom.specs.declared.package.PackageId.{PackageId};
-ghost use Rattle.emerge_run.specs.Openings.{AreInstalledAfter, GivesBack, HasTooMuchAfter, IsUnread};
+ghost use Rattle.emerge_run.specs.Openings.{AreInstalledAfter, GivesBack, HasTooMuchAfter};
+ghost use Rattle.emerge_run.specs.Openings.{IsUnread};
 ghost use Rattle.database_law.specs.Packages.{Installed};
+ghost use Rattle.image_build.specs.Images.{IsBuilt};
 ghost use Rattle.run_law.specs.Ends.{BeginsWith};
-ghost use Rattle.emerge_run.specs.Headline.{Headline};
-ghost use Rattle.emerge_run.specs.Outcomes.{IsAnswer, IsNamed, IsRefusal, OfSomeBuilder, Outcome};
+ghost use Rattle.emerge_run.specs.Headline.{Headline, TurnsOn};
+ghost use Rattle.emerge_run.specs.Outcomes.{IsRefusal, Outcome};
 ghost use Rattle.group_run.specs.Applied.{number};
 ghost use Rattle.group_run.specs.Lines.{Wrote};
-ghost use Rattle.emerge_run.specs.Output.{IsLines, IsOutput};
-ghost use Rattle.emerge_run.specs.Words.{AskForPackage, IsOfWords, IsUsage};
+ghost use Rattle.emerge_run.specs.Answers.{Asks};
+ghost use Rattle.emerge_run.specs.Output.{IsOutput, IsSaid};
+ghost use Rattle.emerge_run.specs.Words.{AskForMerge, IsOfWords, IsUsage};
 ghost use Rattle.emerge_words.specs.declared.request.WordFault.{WordFault};
 
-use crate::choosing::{Found, choose};
-use crate::merging::merge_chosen;
+use crate::choosing::{Seen, Work, choose};
+use crate::merging::merge_ready;
+use crate::showing::show_plan;
 use build_pool::{BuildPool, Builder};
 use file_tree::{Sink, Tree};
 use merge_core::Core;
@@ -55,13 +59,13 @@ pub struct Reached<T, S> {
 
 /// One command, from its words to its last line.
 ///
-/// The words are those of the whole product; what is done today is the merge of one atom. First an
-/// interrupted merge is completed or dropped. Of the candidates of the atom's name the greatest
-/// version that it matches is merged, unless a package that it matches is installed. It comes in
-/// place of what stands in its slot: as one, its files come to their paths and its record below
-/// `var/db/pkg`, and what goes leaves with its record, and with its paths that don't come anew. The
-/// line comes after all that is synced, and last the journal is cleared. Want of memory may be
-/// answered in place of anything.
+/// The words are those of the whole product; what is done today is the merge of what atoms match.
+/// First an interrupted merge is completed or dropped. Then the configuration, the repository and the
+/// installed packages are read, and the first good choice is taken: all that it changes comes and goes
+/// as one group, or is shown where the words say `--pretend`. The files of what comes are put to their
+/// paths, and its record below `var/db/pkg`; what goes leaves with its record, and with its paths that
+/// don't come anew. The line comes after all that is synced, and last the journal is cleared. Want of
+/// memory may be answered in place of anything.
 pub fn emerge<T: Tree + Send, S: Sink + Send, B: Builder + Send>(
     alloc: Global,
     words: &[String],
@@ -71,11 +75,11 @@ pub fn emerge<T: Tree + Send, S: Sink + Send, B: Builder + Send>(
 ) -> Ended<T, S, BuildPool<B>>
     requires resting { 0 < length pool.resting }
 
-    // The answer is the one that the words, the tree and the image ask for; a crash at any moment
+    // The answer is the one that the words, the tree and the images ask for; a crash at any moment
     // recovers to before or after; and the tree has the groups of the history.
-    ensures outcome { IsTrue T.tells → OfSomeBuilder B.tells B.told pool.resting
-        (λ image. Outcome (map string_bytes words.now) image (T.story tree)
-        (T.story result.tree) result.history.items result.status) }
+    ensures outcome { IsTrue T.tells → Outcome (map string_bytes words.now)
+        (IsBuilt B.tells B.told pool.resting) (T.story tree) (T.story result.tree)
+        result.history.items result.status }
     ensures unchanged { IsTrue T.tells → IsOfWords result.status →
         T.story result.tree ≡ T.story tree }
 
@@ -88,11 +92,12 @@ pub fn emerge<T: Tree + Send, S: Sink + Send, B: Builder + Send>(
     ensures unread { IsUnread result.status → result.opening.items ≡ [] }
 
     // From a disk whose packages go together, and which keeps what they recorded, a crash at any
-    // moment recovers to such a tree: with the same packages, or with those after the group by which
-    // the chosen one comes, and what stands on its line goes.
-    ensures headline { IsTrue T.tells → (m : Map) (ps : List Installed) →
-        BeginsWith [] (T.story tree).now m ps → Headline (map string_bytes words.now) m ps
-        (T.story tree) (T.story result.tree) result.history.items result.status }
+    // moment recovers to such a tree: with the same packages, or with those after the group of all
+    // that is chosen.
+    ensures headline { IsTrue T.tells → (m : Map) (ps : List Installed) (flags : List (List ℕ)) →
+        TurnsOn m flags → BeginsWith flags (T.story tree).now m ps →
+        Headline (map string_bytes words.now) flags m ps (T.story tree) (T.story result.tree)
+        result.history.items result.status }
 
     // The history is the order of the machine, and its beginning is acknowledged.
     ensures machine { MatchOption result.machine (result.history.items ≡ [])
@@ -104,18 +109,18 @@ pub fn emerge<T: Tree + Send, S: Sink + Send, B: Builder + Send>(
     ensures kept { (result.acknowledged.items ≡ []) ⊎
         (result.acknowledged.items ≡ result.history.items) }
 
-    // What was written is the lines of the acknowledged groups, some beginning of those of the other
-    // groups, and the last line; only where the status is a fault may that be cut.
-    ensures written { IsTrue S.tells → Wrote
-        (IsOutput (IsNamed (map string_bytes words.now) T.tells (T.story tree).now.holds)
-        (IsAnswer T.tells B.tells B.told pool.resting (map string_bytes words.now)
-        (T.story tree).now.holds) result.history.items result.acknowledged.items result.status)
-        (S.written out) (S.written result.out) }
+    // What was written is the lines of the acknowledged groups and some beginning of those of the
+    // other groups, or the plan that is shown, and the last line; only where the status is a fault may
+    // that be cut.
+    ensures written { IsTrue S.tells → Wrote (IsOutput (map string_bytes words.now) T.tells
+        (T.story tree).now.holds (λ s. IsTrue T.tells → Asks (map string_bytes words.now)
+        (T.story tree).now.holds (IsBuilt B.tells B.told pool.resting) s) result.history.items
+        result.acknowledged.items result.status) (S.written out) (S.written result.out) }
 
     // Each answer but want of memory has its cause.
     ensures usage { (f : WordFault) → result.status ≡ Status.Usage f →
         IsUsage (map string_bytes words.now) f }
-    ensures no_package { ¬ (AskForPackage (map string_bytes words.now)) →
+    ensures no_merge { ¬ (AskForMerge (map string_bytes words.now)) →
         IsOfWords result.status ⊎ ((result.status ≡ Status.OutputFault) ⊎
         (result.status ≡ Status.Memory)) }
     ensures build { (id : PackageId) → result.status ≡ Status.BuildFailed id →
@@ -130,6 +135,7 @@ pub fn emerge<T: Tree + Send, S: Sink + Send, B: Builder + Send>(
     ensures lent { result.pool.lent ≡ pool.lent }
 {
     exchange_law::made_groups_leave_sound_trees();
+    plan_find::found_plans_are_fit();
     let Reached {
         status,
         tree,
@@ -161,9 +167,9 @@ fn attempt<T: Tree, S: Sink, B: Builder>(
     pool: &mut BuildPool<B>,
 ) -> Reached<T, S>
     requires resting { 0 < length pool.old.resting }
-    ensures outcome { IsTrue T.tells → OfSomeBuilder B.tells B.told pool.old.resting
-        (λ image. Outcome (map string_bytes words.now) image (T.story tree)
-        (T.story result.tree) result.history.items result.status) }
+    ensures outcome { IsTrue T.tells → Outcome (map string_bytes words.now)
+        (IsBuilt B.tells B.told pool.old.resting) (T.story tree) (T.story result.tree)
+        result.history.items result.status }
     ensures unchanged { IsTrue T.tells → IsOfWords result.status →
         T.story result.tree ≡ T.story tree }
     ensures begun { IsTrue T.tells → (result.machine ≡ None) ⊎
@@ -179,13 +185,12 @@ fn attempt<T: Tree, S: Sink, B: Builder>(
     ensures refused { IsRefusal result.status → result.history.items ≡ [] }
     ensures kept { (result.acknowledged.items ≡ []) ⊎
         (result.acknowledged.items ≡ result.history.items) }
-    ensures written { IsTrue S.tells → Wrote
-        (IsLines (IsNamed (map string_bytes words.now) T.tells
-        (T.story tree).now.holds) result.history.items result.acknowledged.items)
+    ensures written { IsTrue S.tells → Wrote (IsSaid (map string_bytes words.now) T.tells
+        (T.story tree).now.holds result.history.items result.acknowledged.items result.status)
         (S.written out) (S.written result.out) }
     ensures usage { (f : WordFault) → result.status ≡ Status.Usage f →
         IsUsage (map string_bytes words.now) f }
-    ensures no_package { ¬ (AskForPackage (map string_bytes words.now)) →
+    ensures no_merge { ¬ (AskForMerge (map string_bytes words.now)) →
         IsOfWords result.status ⊎ (result.status ≡ Status.Memory) }
     ensures build { (id : PackageId) → result.status ≡ Status.BuildFailed id →
         PoolRose B.faults pool.old pool.new }
@@ -197,10 +202,11 @@ fn attempt<T: Tree, S: Sink, B: Builder>(
     ensures ids { SameIds B.number pool.old pool.new }
     ensures lent { pool.new.lent ≡ pool.old.lent }
 {
-    let found = choose(alloc, words, &mut tree, pool);
-    let Found { opening, answer } = found;
+    let seen = choose(alloc, words, &mut tree, pool);
+    let Seen { opening, answer } = seen;
     match answer {
-        Ok(chosen) => merge_chosen(alloc, tree, out, opening, chosen),
+        Ok(Work::Merge(ready)) => merge_ready(alloc, tree, out, opening, ready),
+        Ok(Work::Show(text)) => show_plan(alloc, tree, out, opening, text),
         Err(status) => Reached {
             status,
             tree,

@@ -1,6 +1,9 @@
 ghost use Rattle.std.specs.Prelude.{◌≡◌, ◌≤◌, ◌++◌, ◌∷◌, [], false, length, string_bytes, IfOk};
+ghost use Rattle.std.specs.Prelude.{OnOk};
+ghost use Rattle.std.specs.Process.{command_args, command_program};
 ghost use Rattle.dep_atom.specs.Ids.{id_text};
 ghost use Rattle.file_tree.specs.Disk.{Rose};
+ghost use Rattle.host_side.specs.Words.{order_words};
 
 use crate::faults::{Faults, is_memory};
 use crate::folder::Folder;
@@ -125,8 +128,9 @@ impl Builder for FolderBuilder {
     }
 }
 
-/// A builder that has a program prepare the folder of an image: it is started with the word
-/// `category/package-version`, and fails where it doesn't end with status 0.
+/// A builder that has a program prepare the folder of an image. The program is started with the
+/// words `category/package-version` and `slot/subslot`, and a word for each flag that is on, in byte
+/// order. The builder fails where it doesn't end with status 0.
 #[derive(Drop)]
 pub struct CommandBuilder {
     program: String,
@@ -150,10 +154,37 @@ impl CommandBuilder {
     }
 }
 
-/// Runs the program for a package. What it writes goes to standard error.
-fn run_program(rt: &HostRuntime, program: &str, word: &str) -> io::Result<()> {
-    let mut command = Command::new(rt.alloc(), program)?;
+/// The command that has the program build what is ordered.
+fn command_for(alloc: Global, program: &str, order: &Order) -> Result<Command, AllocError>
+    ensures program { IfOk result (λ c. command_program c ≡ program.now) }
+    ensures words { IfOk result (λ c. command_args c ≡ order_words order.now) }
+{
+    let package = order.id.print(alloc)?;
+    let slot = order.slot.text();
+    let subslot = order.subslot.text();
+    let slots = format!(in alloc; "{slot}/{subslot}")?;
+    let mut command = Command::new(alloc, program)?;
+    command.arg(package.as_str())?;
+    command.arg(slots.as_str())?;
+    for flag in order.enabled.list() {
+        add_word(&mut command, flag.text())?;
+    }
+    Ok(command)
+}
+
+/// Puts a word behind those of a command.
+fn add_word(command: &mut Command, word: &str) -> Result<(), AllocError>
+    ensures program { OnOk result (command_program command.new ≡ command_program command.old) }
+    ensures words { OnOk result
+        (command_args command.new ≡ command_args command.old ++ word.now ∷ []) }
+{
     command.arg(word)?;
+    Ok(())
+}
+
+/// Runs the program for an order. What it writes goes to standard error.
+fn run_program(rt: &HostRuntime, program: &str, order: &Order) -> io::Result<()> {
+    let mut command = command_for(rt.alloc(), program, order)?;
     command.stdin(Stdio::null()).stdout(rt.stderr());
     let status = command.status(rt)?;
     if status.success() {
@@ -188,7 +219,7 @@ impl Builder for CommandBuilder {
         let Ok(word) = order.id.print(self.folder.rt.alloc()) else {
             return Err(BuildStop::Memory);
         };
-        match run_program(&self.folder.rt, self.program.as_str(), word.as_str()) {
+        match run_program(&self.folder.rt, self.program.as_str(), order) {
             Ok(()) => self.folder.start(order),
             Err(error) => Err(self.folder.fault("build", word.as_str(), error)),
         }

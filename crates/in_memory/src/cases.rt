@@ -5,6 +5,7 @@ ghost use Rattle.std.specs.Prelude.{◌<◌, IfSome, length};
 
 use crate::fields::{cut, unescaped, value_of};
 use crate::image_builder::ImageBuilder;
+use crate::packed::Packed;
 use build_pool::BuildPool;
 use file_tree::{Entry, Kind, Object, Path};
 use std::alloc::Global;
@@ -62,26 +63,35 @@ pub fn sink_of(alloc: Global, fields: &str) -> Option<MemSink> {
     Some(sink)
 }
 
-/// A pool of one builder, which tells the image, and fails where the case says so.
+/// A pool of one builder, which tells the images, and fails where the case says so.
 pub fn pool_of(alloc: Global, fields: &str) -> Option<BuildPool<ImageBuilder>>
     ensures { IfSome result (λ p. 0 < length p.resting) }
 {
-    let mut builder = ImageBuilder::new(BUILDER, image_of(alloc, fields)?);
+    let mut builder = ImageBuilder::new(alloc, BUILDER, images_of(alloc, fields)?);
     if value_of(fields, "broken").is_some() {
         builder.fail();
     }
     BuildPool::new(alloc, vec![in alloc; builder].ok()?).ok()
 }
 
-fn image_of(alloc: Global, fields: &str) -> Option<Vec<Entry>> {
-    let mut image = Vec::new(alloc);
+/// The entries of all images.
+fn images_of(alloc: Global, fields: &str) -> Option<Vec<Packed>> {
+    let mut entries = Vec::new(alloc);
     for field in fields.split('\t') {
         let (name, entry) = cut(field);
         if name == "image" {
-            image.push(entry_of(alloc, entry)?).ok()?;
+            entries.push(packed_of(alloc, entry)?).ok()?;
         }
     }
-    Some(image)
+    Some(entries)
+}
+
+/// The entry of a package and what `entry_of` reads.
+fn packed_of(alloc: Global, text: &str) -> Option<Packed> {
+    let (name, entry) = cut(text);
+    let entry = entry_of(alloc, entry)?;
+    let of = String::from_str(alloc, name).ok()?;
+    Some(Packed { of, entry })
 }
 
 /// The watched paths.

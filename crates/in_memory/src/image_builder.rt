@@ -1,30 +1,38 @@
-ghost use Rattle.std.specs.Prelude.{◌≡◌, ◌≤◌, true, vec_len};
+ghost use Rattle.std.specs.Prelude.{◌≡◌, IfOk, bytes_eq, length, string_bytes, true};
+ghost use Rattle.dep_atom.specs.Ids.{id_text};
+ghost use Rattle.in_memory.specs.Images.{image_of};
 
+use crate::packed::Packed;
 use build_pool::{BuildStop, Builder, Order};
+use dep_atom::PackageId;
 use file_tree::Entry;
+use std::alloc::{AllocError, Global};
 
-/// A builder with one image for every order. One that is made to fail does so at each `start`.
+/// A builder with an image for each package, which is empty where it has no entry of that. One that
+/// is made to fail does so at each `start`.
 #[derive(Drop)]
 pub struct ImageBuilder {
+    alloc: Global,
     id: u32,
     fails: bool,
     faults: u64,
+    entries: Vec<Packed>,
+    /// The image of the order that was started last.
     image: Vec<Entry>,
-    started: usize,
-    ghost within: { started ≤ vec_len image },
 }
 
 impl ImageBuilder {
-    pub fn new(id: u32, image: Vec<Entry>) -> ImageBuilder
+    pub fn new(alloc: Global, id: u32, entries: Vec<Packed>) -> ImageBuilder
         ensures id { result.id ≡ id }
-        ensures image { result.image.items ≡ image.items }
+        ensures entries { result.entries.items ≡ entries.items }
     {
         ImageBuilder {
+            alloc,
             id,
             fails: false,
             faults: 0,
-            image,
-            started: 0,
+            entries,
+            image: Vec::new(alloc),
         }
     }
 
@@ -34,6 +42,27 @@ impl ImageBuilder {
     }
 }
 
+/// Whether the entry is one of this package.
+fn is_of(name: &str, entry: &Packed) -> bool
+    ensures { result ≡ bytes_eq (string_bytes entry.now.of) name.now }
+{
+    entry.of.as_str() == name
+}
+
+/// The image of a package.
+fn image_of(alloc: Global, entries: &[Packed], id: &PackageId) -> Result<Vec<Entry>, AllocError>
+    ensures { IfOk result (λ image. image.items ≡ image_of entries.now (id_text id.now)) }
+{
+    let name = id.print(alloc)?;
+    let mut image = Vec::new(alloc);
+    for one in entries {
+        if is_of(name.as_str(), one) {
+            image.push(one.entry.try_clone()?)?;
+        }
+    }
+    Ok(image)
+}
+
 impl Builder for ImageBuilder {
     ghost tells = { true };
 
@@ -41,9 +70,9 @@ impl Builder for ImageBuilder {
 
     ghost faults = { λ b. b.faults };
 
-    ghost told = { λ b _. b.image.items };
+    ghost told = { λ b order. image_of b.entries.items (id_text order.id) };
 
-    ghost started = { λ b. b.started };
+    ghost started = { λ b. length b.image.items };
 
     ghost image = { λ b. b.image.items };
 
@@ -55,16 +84,18 @@ impl Builder for ImageBuilder {
         self.faults
     }
 
-    fn start(&mut self, _order: &Order) -> Result<u32, BuildStop> {
+    fn start(&mut self, order: &Order) -> Result<u32, BuildStop> {
         if self.fails {
             self.faults = self.faults.saturating_add(1);
             return Err(BuildStop::Failed);
         }
-        let entries = self.image.len();
-        let Ok(count) = u32::try_from(entries) else {
+        let Ok(image) = image_of(self.alloc, &self.entries, &order.id) else {
             return Err(BuildStop::Memory);
         };
-        self.started = entries;
+        let Ok(count) = u32::try_from(image.len()) else {
+            return Err(BuildStop::Memory);
+        };
+        self.image = image;
         Ok(count)
     }
 

@@ -10,7 +10,7 @@
 //! |---|---|
 //! | `word WORD` | the next word of the command |
 //! | `tree KIND BYTES PATH` | an object of the tree |
-//! | `image KIND BYTES PATH` | an entry of the image that the builder tells |
+//! | `image PACKAGE KIND BYTES PATH` | an entry of the image of `category/package-version` |
 //! | `stop CALL`, `fail CALL` | this call of the tree fails and all later ones, or it alone; from 1 |
 //! | `write CALL` | this write of the output fails |
 //! | `broken` | each build fails |
@@ -29,6 +29,7 @@ mod answers;
 mod cases;
 mod fields;
 mod image_builder;
+mod packed;
 
 use crate::answers::{answer_recovery, answer_run};
 use crate::fields::are_known;

@@ -1,8 +1,8 @@
-use Rattle.std.specs.Prelude.{map, string_bytes}
+use Rattle.std.specs.Prelude.{IsTrue, map, string_bytes}
+use Rattle.image_build.specs.Images.{IsBuilt}
+use Rattle.emerge_run.specs.Answers.{Asks}
 use Rattle.emerge_run.specs.Openings.{AreInstalledAfter, HasTooMuchAfter}
-use Rattle.emerge_run.specs.Outcomes.{IsAnswer, IsNamed}
-use Rattle.emerge_run.proofs.Asked.{some_builder}
-use Rattle.emerge_run.proofs.Endings.{built_before, came_asked, memory_asked, outcome_finished, usage_kept}
+use Rattle.emerge_run.proofs.Endings.{built_before, outcome_finished, usage_kept}
 use Rattle.emerge_run.proofs.Givens.{gives_finished, unread_finished}
 use Rattle.emerge_run.proofs.Headline.{headline_of}
 use Rattle.emerge_run.proofs.Lines.{wrote_all}
@@ -11,19 +11,16 @@ use Rattle.emerge_run.proofs.run.emerge.Goals as goal
 pub returns-clause-written : goal.returns-clause-written
 returns-clause-written g c t =
     let opening = (g.T.Tree.story c.args.tree).now.holds in
-    let resting = c.args.pool.resting in
     let words = map string_bytes c.args.words.now in
-    let b = some_builder resting c.requires.resting in
-    wrote_all (IsNamed words g.T.Tree.tells opening) (IsAnswer g.T.Tree.tells g.B.Builder.tells g.B.Builder.told resting words opening)
+    let Image = IsBuilt g.B.Builder.tells g.B.Builder.told c.args.pool.resting in
+    wrote_all words g.T.Tree.tells opening (λ s. IsTrue g.T.Tree.tells → Asks words opening Image s)
     c.attempt-status.result.history.items c.attempt-status.result.acknowledged.items c.attempt-status.result.status c.finish-status.result
     (g.S.Sink.written c.args.out) (g.S.Sink.written c.attempt-status.result.out) (g.S.Sink.written c.finish-status.new.out)
-    (λ u. came_asked g.B.Builder.tells g.B.Builder.told resting words (g.T.Tree.story c.args.tree) (g.T.Tree.story c.attempt-status.result.tree) c.attempt-status.result.history.items c.attempt-status.result.status (c.attempt-status.ensures.outcome u))
-    (λ u. memory_asked g.B.Builder.tells g.B.Builder.told resting words opening b.0 b.1)
-    (c.attempt-status.ensures.written t) (c.finish-status.ensures.written t)
+    (λ u. let o = c.attempt-status.ensures.outcome u in o.answer) (λ u. tt) (c.attempt-status.ensures.written t) (c.finish-status.ensures.written t)
 
 pub returns-clause-outcome : goal.returns-clause-outcome
 returns-clause-outcome g c t =
-    outcome_finished g.B.Builder.tells g.B.Builder.told c.args.pool.resting _ (g.T.Tree.story c.args.tree) (g.T.Tree.story c.attempt-status.result.tree) c.attempt-status.result.history.items c.attempt-status.result.status c.finish-status.result _
+    outcome_finished _ (IsBuilt g.B.Builder.tells g.B.Builder.told c.args.pool.resting) (g.T.Tree.story c.args.tree) (g.T.Tree.story c.attempt-status.result.tree) c.attempt-status.result.history.items c.attempt-status.result.status c.finish-status.result _
     c.finish-status.ensures.status c.finish-status.ensures.device (c.attempt-status.ensures.outcome t)
 
 pub returns-clause-build : goal.returns-clause-build
@@ -41,5 +38,5 @@ returns-clause-unread g c of = unread_finished c.attempt-status.result.status c.
 
 pub returns-clause-headline : goal.returns-clause-headline
 returns-clause-headline g c t =
-    headline_of c.made_groups_leave_sound_trees.ensures g.B.Builder.tells g.B.Builder.told c.args.pool.resting (map string_bytes c.args.words.now)
+    headline_of c.made_groups_leave_sound_trees.ensures c.found_plans_are_fit.ensures (map string_bytes c.args.words.now) (IsBuilt g.B.Builder.tells g.B.Builder.told c.args.pool.resting)
     (g.T.Tree.story c.args.tree) (g.T.Tree.story c.attempt-status.result.tree) c.attempt-status.result.history.items c.finish-status.result (returns-clause-outcome g c t)
