@@ -9,11 +9,12 @@ import tempfile
 
 from asked import TOP, Wrong
 from journal import JOBS as JOURNAL, OPEN, journal_path, record, stage_path
+from repository import package as files_of
 
 # where the roots are made, and the program; set by what imports this
 WORK = PROGRAM = None
-CACHE = "var/db/repos/gentoo/metadata/md5-cache"
-ENTRY = "EAPI=8\nKEYWORDS=amd64\nSLOT=0\n_md5_=d41d8cd98f00b204e9800998ecf8427e\n"
+PROFILE = "etc/portage/make.profile"
+AMD64 = b'ARCH="amd64"\nACCEPT_KEYWORDS="amd64"\n'
 HELLO = "app-misc/hello-2.12"
 HELLO_FILE = "usr/share/hello/greeting"
 HELLO_TEXT = b"Hello, world!\n"
@@ -106,20 +107,27 @@ def install_many(root, packages, files):
 
 
 class Host:
-    """A folder with a root that has a repository, and the image of its package: of each path a kind
-    and the bytes."""
+    """A folder with a root that has a profile and a repository, and the image of its package: of
+    each path a kind and the bytes."""
 
     def __init__(self, image=None):
         self.folder = tempfile.mkdtemp(prefix="emerge-host-", dir=WORK)
         self.root = f"{self.folder}/root"
         self.images = f"{self.folder}/images"
         self.entries = hello() if image is None else image
-        write(f"{self.root}/{CACHE}/{HELLO}", ENTRY.encode())
+        write(f"{self.root}/{PROFILE}/make.defaults", AMD64)
         write(f"{self.root}/etc/standing", b"stays\n", 0o600)
+        self.offer(HELLO)
         self.image(HELLO, self.entries)
 
     def at(self, path):
         return f"{self.root}/{path}"
+
+    def offer(self, package, **values):
+        """Puts a package into the repository, which is stable on amd64 and needs what the values
+        say."""
+        for path, text in files_of(package, **values).items():
+            write(self.at(path), text.encode())
 
     def image(self, package, entries):
         os.makedirs(f"{self.images}/{package}", exist_ok=True)

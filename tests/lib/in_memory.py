@@ -21,9 +21,9 @@ def unescaped(text):
     return re.sub(r"\\(.)", lambda found: MEANT.get(found[1], found[1]), text)
 
 
-def objects(name, entries):
-    """A field for each of these pairs of a path and an object."""
-    return [f"{name} {kind} {data.hex()} {escaped(path)}" for path, (kind, data) in entries]
+def objects(begin, entries):
+    """A field for each of these pairs of a path and an object, which begins so."""
+    return [f"{begin} {kind} {data.hex()} {escaped(path)}" for path, (kind, data) in entries]
 
 
 def common(tree, stop=None, fail=None, watch=()):
@@ -33,12 +33,15 @@ def common(tree, stop=None, fail=None, watch=()):
     return [*objects("tree", tree.items()), *calls, *(f"watch {escaped(path)}" for path in watch)]
 
 
-def run_case(words, tree, image, write=None, broken=False, **faults):
-    """A run of these words over a tree, where the image is a list of paths and objects. The faults
-    are the number of a call of the tree at which it stops or which fails alone, of a write that
-    fails, and a builder that is broken; the paths to watch are named beside them."""
+def run_case(words, tree, images, write=None, broken=False, **faults):
+    """A run of these words over a tree, where the images are lists of paths and objects, by their
+    packages; any other package has none. The faults are the number of a call of the tree at which
+    it stops or which fails alone, of a write that fails, and a builder that is broken; the paths to
+    watch are named beside them."""
     fields = [f"word {escaped(word)}" for word in words]
-    fields += objects("image", image) + common(tree, **faults)
+    for package, image in images.items():
+        fields += objects(f"image {package}", image)
+    fields += common(tree, **faults)
     if write is not None:
         fields.append(f"write {write}")
     if broken:

@@ -1,16 +1,16 @@
 """Which candidate an atom chooses, and what stands beside it."""
 from in_memory import PLAIN, answers, run_case
-from trees import ONE, cached, check, image_of, merged, told_each, tree_of
+from trees import ONE, case, check, image_of, merged, offered, told_each, tree_of
 
-# a cache with these entries
-CACHED = tree_of(
-    cached("c/p-1"),
-    cached("c/p-1.0"),
-    cached("c/p-1.00", "0/2"),
-    cached("c/p-2-r1", "2/2.1"),
-    cached("c/p-3_alpha", "3"),
-    cached("c/pp-9"),
-    cached("d/p-7"),
+# a repository with these packages
+OFFERED = tree_of(
+    offered("c/p-1"),
+    offered("c/p-1.0"),
+    offered("c/p-1.00", "0/2"),
+    offered("c/p-2-r1", "2/2.1"),
+    offered("c/p-3_alpha", "3"),
+    offered("c/pp-9"),
+    offered("d/p-7"),
 )
 
 
@@ -19,10 +19,10 @@ def done(package):
 
 
 def check_told(rows):
-    """Holds what runs of a word over a tree with an image come to, to what the rows want."""
-    came = told_each([run_case([word], tree, image) for word, tree, image, _ in rows])
-    for (word, _, image, wanted), it in zip(rows, came):
-        check(it, wanted, f"{word} {image}")
+    """Holds what runs of a word over a tree come to, to what the rows want."""
+    came = told_each([run_case([word], tree, {}) for word, tree, _ in rows])
+    for (word, _, wanted), it in zip(rows, came):
+        check(it, wanted, word)
 
 
 def the_greatest_version_that_the_atom_matches_is_merged():
@@ -39,7 +39,7 @@ def the_greatest_version_that_the_atom_matches_is_merged():
         (">c/p-1.0:*", "3_alpha"),
         ("c/p:3[x(+),-y(-)]", "3_alpha"),
     )
-    check_told([(atom, CACHED, ONE, done(f"c/p-{version}")) for atom, version in rows])
+    check_told([(atom, OFFERED, done(f"c/p-{version}")) for atom, version in rows])
 
 
 def atoms_that_match_no_candidate():
@@ -47,22 +47,22 @@ def atoms_that_match_no_candidate():
     each = "".join(f" (c/p-{version} NotMatched)" for version in versions)
     atoms = ("c/p[x]", ">=c/p-3", "=c/p-2", "c/p:1", "c/p:0/3", "=c/p-1.01*")
     rows = [*((atom, each) for atom in atoms), ("c/q", ""), (">c/pp-9", " (c/pp-9 NotMatched)")]
-    wanted = [(it, CACHED, ONE, f"7 emerge: NoCandidate: {it}{listed}\n") for it, listed in rows]
-    check_told(wanted)
+    check_told([(it, OFFERED, f"7 emerge: NoCandidate: {it}{listed}\n") for it, listed in rows])
 
 
 def entries_of_another_form():
+    """They hide their packages, and nothing else."""
     rows = []
     for slot in ("", "/", "0/", "-1", "0 1"):
-        tree = tree_of(cached("c/p-1"), cached("c/p-2", slot))
-        rows.append(("=c/p-1", tree, ONE, "20 emerge: NotBuilt: Repository\n"))
-    rows.append(("c/p", tree_of(cached("c/p-1"), cached("c/q-2", "/")), ONE, done("c/p-1")))
+        tree = tree_of(offered("c/p-1"), offered("c/p-2", slot))
+        hidden = "7 emerge: NoCandidate: =c/p-2 (c/p-2 BadEntry) (c/p-1 NotMatched)\n"
+        rows += [("c/p", tree, done("c/p-1")), ("=c/p-2", tree, hidden)]
     check_told(rows)
 
 
 def slots_of_a_package_are_in_its_record():
     rows = (("c/p:2", "2-r1", "2/2.1"), ("c/p:3", "3_alpha", "3"), ("c/p:0/2", "1.00", "0/2"))
-    came = answers([run_case([atom], CACHED, ONE) for atom, _, _ in rows])
+    came = answers([run_case([atom], OFFERED, {}) for atom, _, _ in rows])
     for (atom, version, slots), answer in zip(rows, came):
         record = answer.tree.get(f"var/db/pkg/c/p-{version}/SLOT")
         check(record, (PLAIN, f"{slots}\n".encode()), atom)
@@ -70,26 +70,30 @@ def slots_of_a_package_are_in_its_record():
 
 def a_package_that_is_installed():
     """Where `c/p-1.00` is installed in slot `0/2`, with the file `usr/bin/p`."""
-    installed = merged(CACHED, ONE, "c/p-1.00", "0/2")
-    rows = [(atom, "- usr/bin/q", "0 emerge: ok 0\n") for atom in ("c/p", "=c/p-1.0", "c/p:0")]
+    tree = merged(OFFERED, ONE, "c/p-1.00", "0/2")
     owned = "13 emerge: Collision: Owned usr/bin/p c/p-1.00\n"
     below = "13 emerge: Collision: Ancestor usr/bin/p/x usr/bin/p\n"
     above = "13 emerge: Collision: Ancestor usr/bin usr/bin/p\n"
-    rows += [
+    rows = (
+        ("c/p", "c/p-1", "", "0 emerge: ok 0\n"),
+        ("=c/p-1.0", "c/p-1", "", "0 emerge: ok 0\n"),
+        ("c/p:0", "c/p-1", "", "0 emerge: ok 0\n"),
         # `c/p-1.0` takes its place, and any other package has a line of its own
-        ("c/p:0/0", "- usr/bin/q", "0 done 1 -c/p-1.00 +c/p-1.0\nemerge: ok 1\n"),
-        ("c/p:3", "- usr/bin/q", done("c/p-3_alpha")),
-        ("c/p:3", "- usr/bin/p", owned),
-        ("c/pp", "- a\n- usr/bin/p/x", below),
-        ("c/pp", "- usr/bin", above),
-        ("c/q", "- usr/bin/q", "7 emerge: NoCandidate: c/q\n"),
-    ]
-    check_told([(word, installed, image_of(text), wanted) for word, text, wanted in rows])
+        ("c/p:0/0", "c/p-1.0", "- usr/bin/q", "0 done 1 -c/p-1.00 +c/p-1.0\nemerge: ok 1\n"),
+        ("c/p:3", "c/p-3_alpha", "- usr/bin/q", done("c/p-3_alpha")),
+        ("c/p:3", "c/p-3_alpha", "- usr/bin/p", owned),
+        ("c/pp", "c/pp-9", "- a\n- usr/bin/p/x", below),
+        ("c/pp", "c/pp-9", "- usr/bin", above),
+        ("c/q", "c/q-1", "- usr/bin/q", "7 emerge: NoCandidate: c/q\n"),
+    )
+    came = told_each([case(word, tree, image_of(text), it) for word, it, text, _ in rows])
+    for (word, package, text, wanted), told in zip(rows, came):
+        check(told, wanted, f"{word} {package} {text}")
 
 
 def packages_one_after_another():
     """Each run begins with the tree that the one before it has to leave."""
-    trees, cases = [CACHED], []
+    trees, cases = [OFFERED], []
     rows = (
         ("c/p:0/2", "- usr/bin/p", "c/p-1.00", "0/2"),
         ("d/p", "- usr/bin/d", "d/p-7", "0"),
@@ -97,9 +101,9 @@ def packages_one_after_another():
         ("c/p:2", "- usr/bin/p-2", "c/p-2-r1", "2/2.1"),
     )
     for atom, text, package, slot in rows:
-        cases.append(run_case([atom], trees[-1], image_of(text)))
+        cases.append(case(atom, trees[-1], image_of(text), package))
         trees.append(merged(trees[-1], image_of(text), package, slot))
-    *came, again = answers([*cases, run_case(["d/p"], trees[-1], image_of("- usr/bin/d"))])
+    *came, again = answers([*cases, case("d/p", trees[-1], [])])
     for (_, _, package, _), answer, tree in zip(rows, came, trees[1:]):
         check(answer.told(), done(package), package)
         check(answer.tree, tree, package)

@@ -3,9 +3,9 @@ import itertools
 import random
 
 from asked import Wrong
-from in_memory import PLAIN, answers, recovery_case, run_case
+from in_memory import PLAIN, answers, recovery_case
 from journal import JOBS, OPEN, journal_path, stage_path
-from trees import check, merged, placed
+from trees import case, check, merged, placed
 
 GATE_OPEN = (PLAIN, OPEN)
 ODD = (PLAIN, b"\x02")
@@ -99,14 +99,14 @@ def stopped(tree, image, calls):
     """What merges of `c/p-1` come to that are stopped at each of these calls, with what they
     touched."""
     watch = watched(tree, image)
-    cases = [run_case(["=c/p-1"], tree, image, stop=call, watch=watch) for call in calls]
+    cases = [case("=c/p-1", tree, image, stop=call, watch=watch) for call in calls]
     return with_all_watched(answers(cases), watch)
 
 
 def failing(tree, image, calls):
     """The same, of merges each of whose one call fails."""
     watch = watched(tree, image)
-    cases = [run_case(["=c/p-1"], tree, image, fail=call, watch=watch) for call in calls]
+    cases = [case("=c/p-1", tree, image, fail=call, watch=watch) for call in calls]
     return with_all_watched(answers(cases), watch)
 
 
@@ -133,6 +133,6 @@ def recovered(left):
 
 def check_endings(left, image, begun):
     """Fails where a merge into one of these images doesn't end as a whole one does."""
-    came = answers([run_case(["=c/p-1"], tree, image) for _, tree in left])
+    came = answers([case("=c/p-1", tree, image) for _, tree in left])
     for (call, _), answer in zip(left, came):
         check((answer.code, answer.tree), ("0", merged(begun, image)), f"at call {call}")

@@ -2,19 +2,19 @@
 from crashes import GATE_OPEN, chosen, gate
 from in_memory import PLAIN, answers, recovery_case
 from journal import journal_path, record, stage_path
-from trees import DONE, ONE, cached, check, run, text_file, tree_of
+from trees import DONE, ONE, check, offered, run, text_file, tree_of
 
 
 def staged(path):
     """The records and stages of groups 1 and 2, which place `ab` at `usr/x` and `cd` at this
     path."""
-    return tree_of(
-        (journal_path(1, "record"), (PLAIN, record(1, [], [(0, "usr/x", b"ab")]))),
-        (journal_path(2, "record"), (PLAIN, record(2, [], [(0, path, b"cd")]))),
-        (stage_path(1, 0), text_file("ab")),
-        (stage_path(2, 0), text_file("cd")),
-        ("etc/x", text_file("e")),
-    )
+    return {
+        journal_path(1, "record"): (PLAIN, record(1, [], [(0, "usr/x", b"ab")])),
+        journal_path(2, "record"): (PLAIN, record(2, [], [(0, path, b"cd")])),
+        stage_path(1, 0): text_file("ab"),
+        stage_path(2, 0): text_file("cd"),
+        "etc/x": text_file("e"),
+    }
 
 
 def two_gates(byte, path):
@@ -69,16 +69,16 @@ def odd_gates_that_a_crash_opens():
 def broken_journal_record():
     """The gate of group 1 is open or it isn't, and its record has no bytes."""
     for byte, wanted, count in (
-        (b"\x01", "5 emerge: BadJournal: 1 record\n", 3),
-        (b"\x00", DONE, 5),
+        (b"\x01", "5 emerge: BadJournal: 1 record\n", 5),
+        (b"\x00", DONE, 7),
     ):
-        broken = (journal_path(1, "record"), (PLAIN, b""))
-        came = run("=c/p-1", tree_of((gate(1), (PLAIN, byte)), broken, cached("c/p-1")), ONE)
+        journal = {gate(1): (PLAIN, byte), journal_path(1, "record"): (PLAIN, b"")}
+        came = run("=c/p-1", tree_of(journal, offered("c/p-1")), ONE)
         check((came.told(), len(came.tree)), (wanted, count), f"gate {byte}")
 
 
 def more_gates_than_may_be():
-    tree = tree_of(*((gate(group), (PLAIN, b"")) for group in range(4097)))
+    tree = {gate(group): (PLAIN, b"") for group in range(4097)}
     came = run("=c/p-1", tree, ONE)
     check((came.told(), came.tree == tree), ("18 emerge: Limit: Groups\n", True))
 

@@ -1,25 +1,25 @@
 """Runs over trees in which packages are installed."""
-from in_memory import run_case
-from trees import DONE, ONE, cached, check, text_file, told_each, tree_of
+from trees import DONE, ONE, case, check, offered, text_file, told_each, tree_of
 
 
 def record_file(row):
     """A file of the database, of a row with its path in there and, behind a space, its one line,
     if it has one."""
     path, _, value = row.partition(" ")
-    return f"var/db/pkg/{path}", text_file(f"{value}\n" if value else "")
+    return {f"var/db/pkg/{path}": text_file(f"{value}\n" if value else "")}
 
 
 def tree_with(rows):
     """A tree with the candidates `c/p-1` and `c/v-1`, in which `c/u-1` is installed, with these
     rows."""
     given = ("c/u-1/EAPI 8", "c/u-1/SLOT 0", *rows)
-    return tree_of(cached("c/p-1"), cached("c/v-1"), *(record_file(row) for row in given))
+    candidates = (offered("c/p-1"), offered("c/v-1"))
+    return tree_of(*candidates, *(record_file(row) for row in given))
 
 
 def check_rows(word, table):
     """Holds what a run of this word over each tree comes to, to what the table wants."""
-    came = told_each([run_case([word], tree_with(rows), ONE) for rows, _ in table])
+    came = told_each([case(word, tree_with(rows), ONE) for rows, _ in table])
     for (rows, wanted), it in zip(table, came):
         check(it, wanted, rows)
 
@@ -106,7 +106,7 @@ def packages_beside_installed_ones():
     """What becomes of a merge of `c/p`, by the rows of `c/u-1`."""
     check_rows("c/p", (
         ((NO_FILES, "c/u-1/RDEPEND c/w", *OTHER), DONE),
-        ((NO_FILES, "c/u-1/RDEPEND !c/p", *OTHER), "20 emerge: NotBuilt: Result\n"),
+        ((NO_FILES, "c/u-1/RDEPEND !c/p", *OTHER), "8 emerge: NoSolution\n"),
         (
             ("c/u-1/CONTENTS sym /usr/bin/p -> q 0", *OTHER),
             "13 emerge: Collision: Owned usr/bin/p c/u-1\n",

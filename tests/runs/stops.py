@@ -18,18 +18,20 @@ from crashes import (
     stopped,
     three_images,
 )
-from in_memory import EXEC, PLAIN, answers, recovery_case, run_case
+from in_memory import EXEC, PLAIN, answers, recovery_case
 from journal import OPEN, journal_path, record, stage_path
-from trees import DONE, ONE, SEVERAL, cached, check, merged, run, sample_tree, text_file, tree_of
+from trees import DONE, ONE, SEVERAL, case, check, merged, offered, run, sample_tree, texts, tree_of
 
-# The device's call that places the gate of the one file's merge: behind 6 of recovery, 3 looks at
-# the candidates and the database, the 4 stages, the record, the token and their sync, and 21 looks
-# of the claim, one at each of the 4 paths and at each part above it.
-GATE = 38
+# The device's call that places the gate of the one file's merge: behind 6 of recovery, 27 looks at
+# the configuration (3 for the profile's folder and its parents, one for each file of variables, and
+# two for each of the 11 files of lines, none of which is there), 4 at the cache, the candidate and
+# the database, the 4 stages, the record, the token and their sync, and 21 looks of the claim, one at
+# each of the 4 paths and at each part above it.
+GATE = 66
 
 # The last call of that merge: behind the gate come its sync, the 4 files with a sync, the gate's
 # removal with a sync, and the clearing of the journal, with a list, 6 removals and a sync.
-LAST = 54
+LAST = 82
 
 
 def letters_of(call):
@@ -65,7 +67,7 @@ def each_call(image=ONE):
 
 def a_run_that_is_stopped_at_any_call_ends_well_when_it_is_run_again():
     for image in (ONE, SEVERAL):
-        came = stopped(sample_tree(), image, range(1, 100))
+        came = stopped(sample_tree(), image, range(1, 130))
         halted = [answer for answer in came if answer.code == "16"]
         check({answer.code for answer in came[len(halted) :]}, {"0"})
         check_endings(left_by(halted, three_images), image, sample_tree())
@@ -85,18 +87,18 @@ def with_journal(answer):
 def open_journal(group, removals, placements):
     """The journal of an open group."""
     files = {"record": record(group, removals, placements), "gate": OPEN}
-    return tree_of(*((journal_path(group, name), (PLAIN, it)) for name, it in files.items()))
+    return {journal_path(group, name): (PLAIN, it) for name, it in files.items()}
 
 
 def removals_are_recovered():
     """An open group removes `usr/old`, where that holds an object."""
-    stands = tree_of(("usr/old", text_file("a")), ("usr/older", text_file("b")))
+    stands = texts({"usr/old": "a", "usr/older": "b"})
     tree = {**open_journal(1, ["usr/old"], []), **stands}
     watch = [*tree, *journal_paths(1, 1)]
     came = answers([recovery_case(tree, stop=call, watch=watch) for call in range(1, 20)])
     left = left_by(came, images)
     for (call, _), tree in zip(left, recovered(left)):
-        check(tree, tree_of(("usr/older", text_file("b"))), f"at call {call}")
+        check(tree, texts({"usr/older": "b"}), f"at call {call}")
 
 
 def images_mean_the_tree_before_or_after():
@@ -141,7 +143,7 @@ def a_recovery_that_is_stopped_at_any_call_ends_well_when_it_is_run_again():
     firsts = left_by(came, lambda answer: [as_read(answer), lost(answer)], GATE - 1)
     seconds = [(first, call, tree) for first, tree in firsts for call in range(1, 20)]
     watch = [*merged(sample_tree(), ONE), *journal_paths(1, 4)]
-    cases = [run_case(["=c/p-1"], tree, ONE, stop=call, watch=watch) for _, call, tree in seconds]
+    cases = [case("=c/p-1", tree, ONE, stop=call, watch=watch) for _, call, tree in seconds]
     left = []
     for (first, call, _), answer in zip(seconds, answers(cases)):
         left += [(f"{first} and {call}", tree) for tree in three_images(answer)]
@@ -159,16 +161,16 @@ def journals_that_are_refused_and_that_are_cleared():
     stage_1 = "5 emerge: BadJournal: 1 stage 0\n"
     # the gates of groups 1 and 2, the stage of group 1, what is told, and how many objects are left
     table = (
-        (b"\x01", b"\x01", (PLAIN, b"ab"), record_2, 5),
-        (b"\x01", b"", (PLAIN, b"abc"), stage_1, 5),
-        (b"\x01", b"", (PLAIN, b"ac"), stage_1, 5),
-        (b"\x01", b"", (EXEC, b"ab"), stage_1, 5),
-        (b"", b"\x01", (PLAIN, b"ab"), record_2, 5),
-        (b"\x00", b"\x01\x01", (PLAIN, b"ab"), DONE, 5),
-        (b"\x01", b"\x01\x01", (PLAIN, b"ab"), DONE, 6),
+        (b"\x01", b"\x01", (PLAIN, b"ab"), record_2, 7),
+        (b"\x01", b"", (PLAIN, b"abc"), stage_1, 7),
+        (b"\x01", b"", (PLAIN, b"ac"), stage_1, 7),
+        (b"\x01", b"", (EXEC, b"ab"), stage_1, 7),
+        (b"", b"\x01", (PLAIN, b"ab"), record_2, 7),
+        (b"\x00", b"\x01\x01", (PLAIN, b"ab"), DONE, 7),
+        (b"\x01", b"\x01\x01", (PLAIN, b"ab"), DONE, 8),
     )
     trees = [journal_with(first, second, stage) for first, second, stage, _, _ in table]
-    came = answers([run_case(["=c/p-1"], tree, ONE) for tree in trees])
+    came = answers([case("=c/p-1", tree, ONE) for tree in trees])
     for (first, second, stage, wanted, count), tree, answer in zip(table, trees, came):
         at = f"gates {first} and {second}, stage {stage}"
         check((answer.told(), len(answer.tree)), (wanted, count), at)
@@ -178,13 +180,13 @@ def journals_that_are_refused_and_that_are_cleared():
 def journal_with(first, second, stage):
     """A tree with these gates of groups 1 and 2 and this stage of group 1, whose record places a
     plain file of the bytes `ab` at `usr/x`."""
-    return tree_of(
-        cached("c/p-1"),
-        (gate(1), (PLAIN, first)),
-        (gate(2), (PLAIN, second)),
-        (journal_path(1, "record"), (PLAIN, record(1, [], [(0, "usr/x", b"ab")]))),
-        (stage_path(1, 0), stage),
-    )
+    journal = {
+        gate(1): (PLAIN, first),
+        gate(2): (PLAIN, second),
+        journal_path(1, "record"): (PLAIN, record(1, [], [(0, "usr/x", b"ab")])),
+        stage_path(1, 0): stage,
+    }
+    return tree_of(offered("c/p-1"), journal)
 
 
 TESTS = [

@@ -3,8 +3,9 @@ import hashlib
 
 from asked import Wrong, shown
 from in_memory import EXEC, LINK, PLAIN, answers, run_case
+from repository import package
 
-CACHE = "var/db/repos/gentoo/metadata/md5-cache"
+PROFILE = "etc/portage/make.profile"
 KINDS = {"-": PLAIN, "x": EXEC, "l": LINK}
 DONE = "0 done 1 +c/p-1\nemerge: ok 1\n"
 
@@ -13,26 +14,29 @@ def text_file(text):
     return (PLAIN, text.encode())
 
 
-def cached(package, slot="0"):
-    """The cache entry of a package without dependencies that is stable on amd64, whose ebuild is
-    empty: its path, and the object there."""
-    digest = "d41d8cd98f00b204e9800998ecf8427e"
-    text = f"EAPI=8\nKEYWORDS=amd64\nSLOT={slot}\n_md5_={digest}\n"
-    return f"{CACHE}/{package}", text_file(text)
+def texts(files):
+    """A tree of plain files, by their texts."""
+    return {path: text_file(text) for path, text in files.items()}
 
 
-def tree_of(*entries):
-    return dict(entries)
+# a profile on amd64, whose stable packages alone are accepted
+AMD64 = texts({f"{PROFILE}/make.defaults": 'ARCH="amd64"\nACCEPT_KEYWORDS="amd64"\n'})
+
+
+def offered(name, slot="0", **values):
+    """The entry and the ebuild of a package that is stable on amd64, and needs what the values
+    say."""
+    return texts(package(name, SLOT=slot, **values))
+
+
+def tree_of(*parts):
+    """A tree with that profile and these parts."""
+    return {path: held for part in (AMD64, *parts) for path, held in part.items()}
 
 
 def sample_tree():
-    """A tree with nothing installed, a profile for amd64, and one candidate: `c/p-1`."""
-    profile = text_file('ARCH="amd64"\nACCEPT_KEYWORDS="amd64"\n')
-    return tree_of(
-        ("etc/portage/make.profile/make.defaults", profile),
-        ("var/db/repos/gentoo/c/p/p-1.ebuild", text_file("")),
-        cached("c/p-1"),
-    )
+    """A tree with nothing installed, and one candidate: `c/p-1`."""
+    return tree_of(offered("c/p-1"))
 
 
 def image_of(text):
@@ -64,10 +68,17 @@ def contents(image):
     return "".join(lines)
 
 
-def record_files(package, image, slot="0"):
-    """The record of an installed package: its paths and what they hold."""
-    texts = {"CONTENTS": contents(image), "EAPI": "8\n", "SLOT": f"{slot}\n"}
-    return [(f"var/db/pkg/{package}/{name}", text_file(text)) for name, text in texts.items()]
+def record_files(package, image, slot="0", **fields):
+    """The record of an installed package: its paths and what they hold. A further field has one
+    line."""
+    lines = {"EAPI": "8", "SLOT": slot, **fields}
+    held = {"CONTENTS": contents(image), **{name: f"{line}\n" for name, line in lines.items()}}
+    return [(f"var/db/pkg/{package}/{name}", text_file(held[name])) for name in sorted(held)]
+
+
+def installed(package, image=(), slot="0", **fields):
+    """What an installed package holds in a tree: its image and its record."""
+    return {**dict(image), **dict(record_files(package, image, slot, **fields))}
 
 
 def placed(image):
@@ -75,18 +86,25 @@ def placed(image):
     return [*image, *record_files("c/p-1", image)]
 
 
-def merged(tree, image, package="c/p-1", slot="0"):
+def merged(tree, image, package="c/p-1", slot="0", **fields):
     """The tree that a merge of a package leaves."""
-    return {**tree, **dict(image), **dict(record_files(package, image, slot))}
+    return {**tree, **installed(package, image, slot, **fields)}
 
 
-def run(words, tree, image, **faults):
-    """What a run of these words, a space between two, comes to."""
-    return answers([run_case(words.split(), tree, image, **faults)])[0]
+def without(tree, package, image=(), slot="0", **fields):
+    """The tree without an installed package."""
+    gone = installed(package, image, slot, **fields)
+    return {path: it for path, it in tree.items() if path not in gone}
 
 
-def told(words, tree, image, **faults):
-    return run(words, tree, image, **faults).told()
+def case(words, tree, image, package="c/p-1", **faults):
+    """A run of these words, a space between two, where one package has an image."""
+    return run_case(words.split(), tree, {package: image}, **faults)
+
+
+def run(words, tree, image=(), package="c/p-1", **faults):
+    """What such a run comes to."""
+    return answers([case(words, tree, image, package, **faults)])[0]
 
 
 def told_each(cases):

@@ -1,16 +1,19 @@
 """What whole runs say and leave."""
 from in_memory import EXEC, LINK, PLAIN, answers, run_case
+from repository import ebuild_path, entry, entry_path
 from trees import (
     DONE,
     ONE,
-    cached,
+    case,
     check,
     image_of,
+    installed,
+    offered,
     run,
     sample_tree,
-    text_file,
-    told,
     told_each,
+    text_file,
+    texts,
     tree_of,
 )
 
@@ -19,10 +22,10 @@ STANDING = {
     "etc/portage/make.profile/make.defaults": (PLAIN, b'ARCH="amd64"\nACCEPT_KEYWORDS="amd64"\n'),
     "var/db/pkg/c/p-1/EAPI": (PLAIN, b"8\n"),
     "var/db/pkg/c/p-1/SLOT": (PLAIN, b"0\n"),
-    "var/db/repos/gentoo/c/p/p-1.ebuild": (PLAIN, b""),
+    "var/db/repos/gentoo/c/p/p-1.ebuild": (PLAIN, b"# c/p-1\n"),
     "var/db/repos/gentoo/metadata/md5-cache/c/p-1": (
         PLAIN,
-        b"EAPI=8\nKEYWORDS=amd64\nSLOT=0\n_md5_=d41d8cd98f00b204e9800998ecf8427e\n",
+        b"EAPI=8\nKEYWORDS=amd64\nSLOT=0\n_md5_=2550655ccae65e59797f665e80c9c1ef\n",
     ),
 }
 CONTENTS = "var/db/pkg/c/p-1/CONTENTS"
@@ -49,7 +52,7 @@ def words_that_are_no_command():
         "=c/p-", "=c/p-1.", "=/p-1", "=c/-1", "!c/p", "!!=c/p-1", "=c/p-1:", "c/p[x", ">=c/p-1*",
         "c", "c/p::gentoo", "c/p-1", "c /p", "\\",
     )
-    came = told_each([run_case([word], sample_tree(), ONE) for word in words])
+    came = told_each([run_case([word], sample_tree(), {}) for word in words])
     for word, it in zip(words, came):
         check(it, f"2 emerge: Usage: bad atom {word}\n")
 
@@ -63,25 +66,62 @@ def words_and_what_they_come_to():
         ("--jobs 17 =c/p-1", "2 emerge: Usage: bad number 17\n"),
         ("--jobs 2 =c/p-1", DONE),
         ("=c/p-1 --tree x", DONE),
-        ("=c/p-1 =c/p-1", not_built),
-        ("--pretend c/p", not_built),
-        ("--flag-changes 1 c/p", not_built),
+        ("=c/p-1 c/p", DONE),
+        ("--flag-changes 1 c/p", DONE),
+        ("--update c/p", DONE),
+        ("--backtrack 1 c/p", DONE),
+        ("--pretend c/p", "0 plan 1\ngroup 1\nadd c/p-1:0/0\nemerge: ok 0\n"),
+        ("--plan p", not_built),
         ("--unmerge c/p", not_built),
+        ("--load 2", not_built),
+        ("--repair", not_built),
+        ("--repair c/p", not_built),
         ("@world", not_built),
+        ("@world c/p", not_built),
     )
-    came = told_each([run_case(words.split(), sample_tree(), ONE) for words, _ in table])
+    came = told_each([case(words, sample_tree(), ONE) for words, _ in table])
     for (words, wanted), it in zip(table, came):
         check(it, wanted, words)
 
 
+def a_plan_that_is_shown_changes_nothing():
+    """The plan of a package that is there has no group."""
+    there = tree_of(offered("c/p-1"), installed("c/p-1", ONE))
+    for tree, groups in ((sample_tree(), "group 1\nadd c/p-1:0/0\n"), (there, "")):
+        answer = run("--pretend c/p", tree, ONE)
+        check(answer.told(), f"0 plan 1\n{groups}emerge: ok 0\n")
+        check((answer.history, answer.acknowledged, answer.tree), ("", "", tree))
+
+
 def beside(path):
-    """A tree of the sample's cache entry and one more file."""
-    return tree_of(cached("c/p-1"), (path, text_file("\x01")))
+    """The sample, and one more file."""
+    return tree_of(offered("c/p-1"), {path: text_file("\x01")})
 
 
-def trees_that_are_not_built_yet():
-    tree = beside("var/db/repos/gentoo/metadata/md5-cache/c/q-1")
-    check(told("=c/q-1", tree, ONE), "20 emerge: NotBuilt: Repository\n")
+def judged(reason, **values):
+    """A tree whose one candidate has these values, and what a run for it says."""
+    tree = tree_of(offered("c/p-1", **values))
+    return tree, f"7 emerge: NoCandidate: c/p (c/p-1 {reason})\n"
+
+
+def candidates_that_may_not_come():
+    """Each reason why one may not. Of two of them the one is told that is looked at first: the
+    ebuild, the EAPI, the entry's form, its ebuild's bytes, keywords, masks, flags, the atom."""
+    path = entry_path("c/p-1")
+    told = "7 emerge: NoCandidate: c/p (c/p-1 {})\n"
+    masked = texts({"etc/portage/package.mask": "c/p\n"})
+    rows = [
+        (tree_of({path: text_file("\x01")}), told.format("NoEbuild")),
+        judged("Eapi", EAPI="7", KEYWORDS="x86"),
+        (tree_of(offered("c/p-1"), texts({ebuild_path("c/p-1"): ""})), told.format("Stale")),
+        (tree_of(offered("c/p-1"), texts({path: entry("", SLOT="/")})), told.format("BadEntry")),
+        judged("Keyword", KEYWORDS="x86 ~amd64"),
+        (tree_of(offered("c/p-1", IUSE="x", REQUIRED_USE="x"), masked), told.format("Masked")),
+        judged("RequiredUse", IUSE="x", REQUIRED_USE="x"),
+    ]
+    came = told_each([case("c/p", tree, ONE) for tree, _ in rows])
+    for (_, wanted), it in zip(rows, came):
+        check(it, wanted)
 
 
 def images_that_are_refused():
@@ -99,7 +139,7 @@ def images_that_are_refused():
         ("etc/x", "- a\n- b\nl a b", f"{bad}Twice a\n"),
         ("etc/x", "- a\n- a\nl b", f"{bad}Link b\n"),
     )
-    came = answers([run_case(["=c/p-1"], beside(at), image_of(text)) for at, text, _ in table])
+    came = answers([case("=c/p-1", beside(at), image_of(text)) for at, text, _ in table])
     for (at, text, wanted), answer in zip(table, came):
         check(answer.told(), wanted, text)
         check(answer.tree, beside(at), text)
@@ -161,14 +201,14 @@ def last_line_fails():
         ("c", {"write": 1}, "17 "),
         ("=c/p-1", {"write": 1, "fail": 1}, "16 "),
     )
-    came = told_each([run_case([word], sample_tree(), ONE, **faults) for word, faults, _ in rows])
+    came = told_each([case(word, sample_tree(), ONE, **faults) for word, faults, _ in rows])
     for (word, faults, wanted), it in zip(rows, came):
         check(it, wanted, f"{word} {faults}")
 
 
 def builders_are_at_rest_behind_each_ending():
-    cases = [(word, call) for word in ("=c/p-1", "=c/p-2", "c") for call in range(1, 60)]
-    came = answers([run_case([word], sample_tree(), ONE, fail=call) for word, call in cases])
+    cases = [(word, call) for word in ("=c/p-1", "=c/p-2", "c") for call in range(1, 100)]
+    came = answers([case(word, sample_tree(), ONE, fail=call) for word, call in cases])
     for (word, call), answer in zip(cases, came):
         check(answer.resting, "1", f"{word} at call {call}")
 
@@ -176,7 +216,7 @@ def builders_are_at_rest_behind_each_ending():
 def each_failing_call_is_told():
     calls = int(run("=c/p-1", sample_tree(), ONE).calls)
     check(calls > 5, True)
-    cases = [run_case(["=c/p-1"], sample_tree(), ONE, fail=call) for call in range(1, calls + 1)]
+    cases = [case("=c/p-1", sample_tree(), ONE, fail=call) for call in range(1, calls + 1)]
     *others, last = told_each(cases)
     for call, it in enumerate(others, 1):
         check((it[:3], it.endswith("emerge: DeviceFault\n")), ("16 ", True), f"at call {call}")
@@ -187,7 +227,8 @@ TESTS = [
     one_file_into_an_empty_tree,
     words_that_are_no_command,
     words_and_what_they_come_to,
-    trees_that_are_not_built_yet,
+    a_plan_that_is_shown_changes_nothing,
+    candidates_that_may_not_come,
     images_that_are_refused,
     unowned_file_in_the_way,
     a_package_of_files_of_each_kind,
