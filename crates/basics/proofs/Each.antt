@@ -1,5 +1,5 @@
 -- What holds of each element of a list.
-use Rattle.std.specs.List.{AllByRecursion}
+use Rattle.std.specs.List.{AllByRecursion, AllZip}
 use Rattle.std.proofs.Common.{List, [], ◌∷◌, ◌++◌, map, inl, inr, refl, subst}
 use Rattle.basics.specs.Members.{Has}
 
@@ -24,3 +24,11 @@ all-push P xs x all p = all-append P xs (x ∷ []) all (p, tt)
 pub all-map_back : {A B : Type 0} (P : B → Type 0) (f : A → B) (xs : List A) → AllByRecursion P (map f xs) → AllByRecursion (λ x. P (f x)) xs
 all-map_back P f [] all = tt
 all-map_back P f (x ∷ xs) all = (all.0, all-map_back P f xs all.1)
+
+-- a member of the second of two lists that go in pairs has a partner in the first
+pub zip_has : {A B : Type 0} (R : A → B → Type 0) (xs : List A) (ys : List B) (y : B) → AllZip R xs ys → Has ys y → (x : A) × Has xs x × R x y
+zip_has R [] [] y zip is = absurd is
+zip_has R [] (z ∷ zs) y zip is = absurd zip
+zip_has R (x ∷ xs) [] y zip is = absurd is
+zip_has R (x ∷ xs) (z ∷ zs) y zip (inl e) = (x, inl refl, subst (R x) e zip.0)
+zip_has R (x ∷ xs) (z ∷ zs) y zip (inr is) = let r = zip_has R xs zs y zip.1 is in (r.0, inr r.1, r.2)

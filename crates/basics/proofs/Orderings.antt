@@ -3,7 +3,7 @@ use Rattle.std.specs.Cmp.{IsTotalOrder}
 use Rattle.std.specs.Ordering.{is_eq, is_lt, ordering_reverse}
 use Rattle.std.specs.declared.cmp.Ordering.{Ordering}
 use Rattle.std.specs.declared.cmp.Ordering.TheVariants.{Less, Equal, Greater}
-use Rattle.std.proofs.Common.{◌≡◌, ◌⊎◌, ◌∙◌, false, ap, inl, inr, refl, sym}
+use Rattle.std.proofs.Common.{◌≡◌, ◌⊎◌, ◌∙◌, true, false, ap, inl, inr, refl, sym}
 use Rattle.std.proofs.lemmas.Cmp.{tied_itself}
 
 pub ordering_cases : (o : Ordering) → (o ≡ Less) ⊎ ((o ≡ Equal) ⊎ (o ≡ Greater))
@@ -16,6 +16,11 @@ pub less_if : (o p : Ordering) → o ≡ ordering_reverse p → is_lt p ≡ fals
 less_if o Less e h k = absurd (cc h)
 less_if o Equal e h k = absurd (let same = ap is_eq e in cc)
 less_if o Greater e h k = e
+
+pub less_of : (o : Ordering) → is_lt o ≡ true → o ≡ Less
+less_of Less e = refl
+less_of Equal e = absurd (cc e)
+less_of Greater e = absurd (cc e)
 
 -- of two elements at most one is the less
 pub one_way : {K : Type 0} {R : K → K → Ordering} → IsTotalOrder R → (x y : K) → R x y ≡ Less → R y x ≡ Less → ⊥

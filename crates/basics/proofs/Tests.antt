@@ -1,5 +1,6 @@
 -- Tests that agree, and what they pick.
 use Rattle.std.specs.Prelude.{IsSome}
+use Rattle.std.specs.Option.{option_map, option_or}
 use Rattle.std.proofs.Common.{◌≡◌, ◌&&◌, ◌||◌, Bool, true, false, cond, Option, Some, None, refl, subst, sym}
 
 -- tests that pass of one another are the same
@@ -24,6 +25,17 @@ pub or-false : (b : Bool) → (b || false) ≡ b
 or-false true = refl
 or-false false = refl
 
+pub or-true : (b : Bool) → (b || true) ≡ true
+or-true true = refl
+or-true false = refl
+
+-- a test that is passed also where another one is
+pub cond-or : (a b : Bool) → cond a true b ≡ (b || a)
+cond-or true true = refl
+cond-or true false = refl
+cond-or false true = refl
+cond-or false false = refl
+
 pub or-assoc : (a b c : Bool) → ((a || b) || c) ≡ (a || (b || c))
 or-assoc true b c = refl
 or-assoc false b c = refl
@@ -38,3 +50,13 @@ some-IsSome {A = A} x y e = subst (λ (z : Option A). IsSome z) (sym e) refl
 pub none_is_not_some : {A : Type 0} (x : Option A) → x ≡ None → IsSome x → ⊥
 none_is_not_some None e is = absurd (cc is)
 none_is_not_some (Some y) e is = absurd (cc e)
+
+-- ---- one answer or else another
+
+pub or-none : {A : Type 0} (x : Option A) → option_or x None ≡ x
+or-none None = refl
+or-none (Some y) = refl
+
+pub map-or : {A B : Type 0} (f : A → B) (x y : Option A) → option_map f (option_or x y) ≡ option_or (option_map f x) (option_map f y)
+map-or f None y = refl
+map-or f (Some z) y = refl

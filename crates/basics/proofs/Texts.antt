@@ -14,6 +14,9 @@ use Rattle.basics.proofs.Orderings.{not_itself, one_way}
 pub bytes_eq-same : (p : List ℕ) → bytes_eq p p ≡ true
 bytes_eq-same p = (bytes_eq-Decides p p).1 refl
 
+pub same_text : (p q : List ℕ) → bytes_eq p q ≡ true → p ≡ q
+same_text p q e = (bytes_eq-Decides p q).0 e
+
 pub bytes_eq-apart : (p q : List ℕ) → (p ≡ q → ⊥) → bytes_eq p q ≡ false
 bytes_eq-apart p q apart = false_from_ne_true (bytes_eq p q) (λ e. apart ((bytes_eq-Decides p q).0 e))
 

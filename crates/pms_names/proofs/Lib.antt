@@ -1,3 +1,4 @@
 pub mod Ascii
 pub mod Faults
 pub mod Keys
+pub mod Sets
