@@ -10,7 +10,7 @@ use Rattle.std.proofs.lemmas.List.{map-append, reverse-append, take_all, take_mo
 use Rattle.std.proofs.lemmas.List.Concat.{flat_map-append}
 use Rattle.std.proofs.lemmas.List.Elements.{filter-append}
 use mathlib.Core.List.{reverse}
-use Rattle.basics.proofs.Tests.{or-false}
+use Rattle.basics.proofs.Tests.{or-false, or-true}
 use Rattle.pms_names.specs.Flags.{has}
 use Rattle.dep_atom.specs.declared.package.Facts.{Facts}
 use Rattle.pkg_state.specs.Index.{listed}
@@ -28,10 +28,6 @@ or_cond false x o rest = refl
 picked : {A : Type 0} (b : Bool) (x : A) (d : Option A) → cond b (Some x) d ≡ option_or (cond b (Some x) None) d
 picked true x d = refl
 picked false x d = refl
-
-or-true : (b : Bool) → (b || true) ≡ true
-or-true true = refl
-or-true false = refl
 
 -- what a word says, by what it takes back
 abbrev says_of : Option (List ℕ) → List ℕ → List ℕ → Option Bool

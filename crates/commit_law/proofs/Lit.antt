@@ -2,30 +2,20 @@
 use Rattle.std.proofs.Common.{◌≡◌, ◌∙◌, ◌||◌, ℕ, Bool, true, false, List, [], ◌∷◌, Ordering, refl, ap, sym, subst}
 use Rattle.std.specs.Prelude.{bytes_eq}
 use Rattle.std.specs.BTreeSet.{insert_key}
-use Rattle.std.specs.List.{AllByRecursion, list_any}
+use Rattle.std.specs.List.{AllByRecursion}
 use Rattle.std.specs.List.Sorted.{IsStrictlySortedBy}
-use Rattle.std.specs.BTreeMap.{is_at}
 use Rattle.std.specs.Ordering.{match_ordering, ordering_reverse}
 use Rattle.std.specs.declared.cmp.Ordering.TheVariants.{Less, Equal, Greater}
 use Rattle.std.proofs.lemmas.Cmp.{nat_list_cmp_total}
-use Rattle.std.proofs.lemmas.Map.Lookups.{btree_set_from_contains, exact_bytes}
-use Rattle.std.proofs.lemmas.Map.Text.{is_eq-slice_cmp}
+use Rattle.std.proofs.lemmas.Map.Lookups.{exact_bytes}
 use Rattle.pms_names.specs.Flags.{IsRising, byte_order, has}
+use Rattle.pms_names.proofs.Sets.{one_set}
 use Rattle.pkg_state.specs.Package.{Package}
 use Rattle.commit_law.specs.Lit.{lit}
 
 -- with no flags more a package is as it is
 pub lit_none : (p : Package) → lit [] p ≡ p
 lit_none p = refl
-
-same_test : (q : List ℕ) → ◌≡◌ {A = List ℕ → Bool} (is_at (byte_order q)) (bytes_eq q)
-same_test q i k = is_eq-slice_cmp q k i
-
--- rising lists with the same flags are one
-pub one_set : (xs ys : List (List ℕ)) → IsRising xs → IsRising ys → ((q : List ℕ) → has xs q ≡ has ys q) → xs ≡ ys
-one_set xs ys rx ry same =
-    btree_set_from_contains nat_list_cmp_total (record { keys = xs }) (record { keys = ys }) rx ry
-    (λ q. ap (λ (f : List ℕ → Bool). list_any f xs) (same_test q) ∙ (same q ∙ sym (ap (λ (f : List ℕ → Bool). list_any f ys) (same_test q)))) exact_bytes
 
 -- ---- one flag more
 

@@ -19,7 +19,7 @@ abbrev stays_on : Group → Package → Bool
 stays_on g p = not (clears g (line_of p.facts))
 
 -- a change leaves the packages that its group does
-one_change : (flags : List (List ℕ)) (g : Group) (c : Change) (ps mid : List Installed) (s : List Package) → IsOf flags g c → IsAfter ps c.gone c.added mid → AreSame s (packages_of flags ps) → AreSame (changed g s) (packages_of flags mid)
+pub one_change : (flags : List (List ℕ)) (g : Group) (c : Change) (ps mid : List Installed) (s : List Package) → IsOf flags g c → IsAfter ps c.gone c.added mid → AreSame s (packages_of flags ps) → AreSame (changed g s) (packages_of flags mid)
 one_change flags g c ps mid s of step same p = (forth, back) where
   came : (x : Installed) → Has c.added x → Has (packages_of flags mid) (lit flags x.package_is)
   came x h = has-map (λ (y : Installed). lit flags y.package_is) mid x ((step.members x).1 (inr h))

@@ -10,6 +10,7 @@ use Rattle.config_text.specs.declared.assignment.Assignment.{Assignment}
 use Rattle.dep_group.specs.Views.{spot}
 use Rattle.dep_group.specs.Words.{texts}
 use Rattle.dep_group.specs.declared.word.Word.{Word}
+use Rattle.dep_group.proofs.WordLemmas.{each_at}
 use Rattle.pms_names.specs.Names.{IsName}
 use Rattle.pms_names.specs.declared.kind.Kind.TheVariants.{Flag}
 use Rattle.profile_stack.specs.Stacks.{hyphen}
@@ -36,12 +37,6 @@ change_word (b ∷ bytes) = by_tests (is_clear (b ∷ bytes)) (b == hyphen)
 pub either : (a b : Bool) (P : Type 0) → (b ≡ true) ↔ P → ((a || b) ≡ true) ↔ ((a ≡ true) ⊎ P)
 either true b P is = (λ any. inl refl, λ any. refl)
 either false b P is = (λ good. inr (is.0 good), λ (h : (false ≡ true) ⊎ P). elim h [ inl e ↦ absurd (cc e) | inr p ↦ is.1 p ])
-
--- each of the words has what all have
-pub each_at : (P : List ℕ → Type 0) (ws : List Word) (i : ℕ) (d : Word) → i < length ws → AllByRecursion P (texts (map spot ws)) → P (get_or ws i d).text.now
-each_at P [] i d lt all = absurd (omega (arith, lt))
-each_at P (w ∷ ws) zero d lt all = all.0
-each_at P (w ∷ ws) (suc i) d lt all = each_at P ws i d (omega (arith, lt)) all.1
 
 -- one of the words hasn't what all would have
 pub none_all : (P : List ℕ → Type 0) (ws : List Word) (i : ℕ) (d : Word) → i < length ws → (false ≡ true) ↔ P (get_or ws i d).text.now → (false ≡ true) ↔ AllByRecursion P (texts (map spot ws))

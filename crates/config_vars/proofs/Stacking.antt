@@ -1,7 +1,7 @@
 -- One assignment, one file and one word more.
 use denote.Ref.{Bor}
 use Rattle.std.specs.Prelude.{◌≡◌, codes, fold}
-use Rattle.std.proofs.Common.{◌∙◌, ◌+◌, ◌<◌, ℕ, Bool, false, cond, List, [], ◌∷◌, ◌++◌, Option, Some, None, append-nil, append_assoc, ap, filter, get_or, length, map, refl, sym, take}
+use Rattle.std.proofs.Common.{◌∙◌, ◌+◌, ◌<◌, ℕ, Bool, false, cond, List, [], ◌∷◌, ◌++◌, Option, append-nil, append_assoc, ap, filter, get_or, length, map, sym, take}
 use Rattle.std.specs.List.{AllByRecursion, find, flat_map}
 use Rattle.std.specs.Option.{option_map, option_or}
 use Rattle.std.proofs.lemmas.List.{map-append, reverse-append, take_more}
@@ -10,6 +10,7 @@ use Rattle.std.proofs.lemmas.List.Elements.{filter-append}
 use Rattle.std.proofs.lemmas.List.Folds.{find-append}
 use Rattle.std.proofs.lemmas.List.Sums.{fold-append}
 use mathlib.Core.List.{reverse}
+use Rattle.basics.proofs.Tests.{map-or}
 use Rattle.basics.proofs.Texts.{bytes_eq-same}
 use Rattle.config_text.specs.declared.assignment.Assignment.{Assignment}
 use Rattle.dep_group.specs.Views.{spot}
@@ -25,10 +26,6 @@ told xs = map {A = Bor (List ℕ)} {B = List ℕ} (λ x. x.now) xs
 -- what the text holds, if there is one
 abbrev pub held : Option (Bor (List ℕ)) → Option (List ℕ)
 held o = option_map (λ (x : Bor (List ℕ)). x.now) o
-
-map-or : {A B : Type 0} (f : A → B) (a b : Option A) → option_map f (option_or a b) ≡ option_or (option_map f a) (option_map f b)
-map-or f None b = refl
-map-or f (Some x) b = refl
 
 pub value-append : (key : List ℕ) (xs ys : List Assignment) → value_in key (xs ++ ys) ≡ option_or (value_in key ys) (value_in key xs)
 value-append key xs ys =

@@ -1,9 +1,7 @@
 -- The package of a folder's text, and the folder of a path in a package's folder.
-use Rattle.std.proofs.Common.{◌≡◌, ◌∙◌, ℕ, Option, MatchOption, List, ◌∷◌, ◌++◌, drop, refl, ap, sym, subst, lit<, append_assoc}
+use Rattle.std.proofs.Common.{◌≡◌, ◌∙◌, ℕ, List, ◌∷◌, ◌++◌, drop, refl, ap, sym, subst, append_assoc}
 use Rattle.std.specs.Prelude.{codes}
 use Rattle.std.proofs.lemmas.List.{append_cancel_left}
-use Rattle.std.proofs.lemmas.Str.Pattern.{IsSplitOnceResult, split_after}
-use denote.Ref.{Bor}
 use Rattle.dep_atom.specs.Ids.{IsId, id_text, name_and_version}
 use Rattle.dep_atom.specs.declared.package.PackageId.{PackageId}
 use Rattle.dep_atom.proofs.Cuts.{cut_once}
@@ -12,12 +10,6 @@ use Rattle.vdb_text.proofs.Packages.{record_path-parts}
 use Rattle.database_law.specs.Database.{IsCounted, IsOf}
 use Rattle.database_law.proofs.Places.{category_counts, lacks_from, version_counts}
 use Rattle.database_read.specs.Folders.{folder_text}
-use Rattle.database_read.proofs.Cuts.{no_slash_at}
-
--- the text of a package's folder is cut at its slash into the category and the rest
-pub at_slash : (text : List ℕ) (id : PackageId) → IsId id → text ≡ id_text id → (r : Option (Bor (List ℕ) × Bor (List ℕ))) → IsSplitOnceResult 47 text r
-    → MatchOption r ⊥ (λ x. (x.0.now ≡ id.name.category) × (x.1.now ≡ name_and_version id))
-at_slash text id is e r clause = split_after 47 text id.name.category (name_and_version id) r clause (lit< tt) e (no_slash_at id.name.category (category_counts id is).part)
 
 -- a path is in one folder
 pub one_folder : (q : List ℕ) (c d : IsCounted q) → (c.category ≡ d.category) × (c.pf ≡ d.pf)

@@ -9,5 +9,6 @@ pub mod Opened
 pub mod Parts
 pub mod Plain
 pub mod SameParts
+pub mod Slashes
 pub mod Whole
 pub mod Wrong

@@ -1,6 +1,6 @@
 -- The words of a text, one after another from the left.
 use Rattle.std.specs.Prelude.{slice_range, not, nat_lt, ◌&&◌, if◌then◌else◌}
-use Rattle.std.specs.List.{list_all}
+use Rattle.std.specs.List.{AllByRecursion, list_all}
 use Rattle.std.proofs.Common.{◌≡◌, ℕ, zero, suc, ◌+◌, ◌-◌, ◌<◌, ◌≤◌, Bool, true, false, List, [], ◌∷◌, ◌++◌, length, get_or, drop, map, refl, ap, sym, append_assoc, append-nil, below_more, ◌∙◌, arith}
 use Rattle.std.proofs.lemmas.Grind.{common_steps}
 use Rattle.std.proofs.lemmas.List.{get_or-take, get_or-drop}
@@ -117,6 +117,12 @@ pub place-at : (ws : List Word) (i : ℕ) (w : Word) → i < length ws → (get_
 place-at [] i w within = absurd (omega arith)
 place-at (v ∷ ws) zero w within = refl
 place-at (v ∷ ws) (suc i) w within = place-at ws i w (omega arith)
+
+-- each of the words has what all have
+pub each_at : (P : List ℕ → Type 0) (ws : List Word) (i : ℕ) (d : Word) → i < length ws → AllByRecursion P (texts (map spot ws)) → P (get_or ws i d).text.now
+each_at P [] i d lt all = absurd (omega (arith, lt))
+each_at P (w ∷ ws) zero d lt all = all.0
+each_at P (w ∷ ws) (suc i) d lt all = each_at P ws i d (omega (arith, lt)) all.1
 
 -- the words that end before `i` are found, and `start` is where the next one has begun, or may begin
 pub record HasRead (text : List ℕ) (found : List Spot) (start i : ℕ) : Type 0 where

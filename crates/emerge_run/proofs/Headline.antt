@@ -1,14 +1,9 @@
 -- The headline of a run, from its outcome.
-use Rattle.std.proofs.Common.{◌≡◌, ◌∙◌, ℕ, Bool, List, [], ◌∷◌, inl, refl, ap, subst, sym}
-use Rattle.std.specs.Prelude.{bytes_eq}
-use Rattle.std.specs.BTreeMap.{is_at}
-use Rattle.std.specs.List.{list_any}
-use Rattle.std.proofs.lemmas.Cmp.{nat_list_cmp_total}
-use Rattle.std.proofs.lemmas.Map.Lookups.{btree_set_from_contains, exact_bytes}
-use Rattle.std.proofs.lemmas.Map.Text.{is_eq-slice_cmp}
+use Rattle.std.proofs.Common.{◌≡◌, ◌∙◌, ℕ, List, [], ◌∷◌, inl, refl, ap, subst, sym}
 use Rattle.basics.specs.Members.{Has}
 use Rattle.basics.proofs.Each.{all_by_has}
-use Rattle.pms_names.specs.Flags.{IsRising, byte_order, has}
+use Rattle.pms_names.specs.Flags.{has}
+use Rattle.pms_names.proofs.Sets.{one_set}
 use Rattle.file_tree.specs.Disk.{Map, Story}
 use Rattle.file_tree.specs.declared.objects.Entry.{Entry}
 use Rattle.file_tree.proofs.Moments.{since_weaker}
@@ -31,15 +26,6 @@ use Rattle.emerge_run.specs.Builds.{Images}
 use Rattle.emerge_run.specs.Headline.{Headline, TurnsOn}
 use Rattle.emerge_run.specs.Outcomes.{IsChoice, IsChosenFor, IsWantedGroup, Outcome}
 use Rattle.run_status.specs.declared.status.Status.{Status}
-
--- rising lists with the same flags are one
-same_test : (q : List ℕ) → ◌≡◌ {A = List ℕ → Bool} (is_at (byte_order q)) (bytes_eq q)
-same_test q i k = is_eq-slice_cmp q k i
-
-one_set : (xs ys : List (List ℕ)) → IsRising xs → IsRising ys → ((q : List ℕ) → has xs q ≡ has ys q) → xs ≡ ys
-one_set xs ys rx ry same =
-    btree_set_from_contains nat_list_cmp_total (record { keys = xs }) (record { keys = ys }) rx ry
-    (λ q. ap (λ (f : List ℕ → Bool). list_any f xs) (same_test q) ∙ (same q ∙ sym (ap (λ (f : List ℕ → Bool). list_any f ys) (same_test q)))) exact_bytes
 
 -- a sound tree has an opening
 opening_of : (flags : List (List ℕ)) (m : Map) (ps : List Installed) → IsSoundTree flags m ps → HasOpening flags m ps

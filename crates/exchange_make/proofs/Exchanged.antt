@@ -1,23 +1,15 @@
 -- What is made of a group is an exchange once its claim is granted.
-use Rattle.std.proofs.Common.{◌≡◌, ◌∙◌, ◌++◌, ◌==◌, ℕ, Bool, true, false, List, [], ◌∷◌, eq-eqb, eqb-true, refl, ap, map, subst, sym}
+use Rattle.std.proofs.Common.{◌≡◌, ◌∙◌, ◌==◌, ℕ, Bool, true, List, [], ◌∷◌, eq-eqb, eqb-true, refl, ap, map, subst, sym}
 use Rattle.std.specs.Prelude.{filter}
 use Rattle.std.specs.List.{AllByRecursion, AllZip}
 use Rattle.basics.specs.Members.{AreDistinct, Has}
-use Rattle.basics.proofs.Each.{all_by_has, all_has}
+use Rattle.basics.proofs.Each.{all_has}
 use Rattle.basics.proofs.Membership.{has-append_left, has-append_right, has-filter, has-filter_back, has-map, has-map_back}
 use Rattle.basics.proofs.Tests.{same_tests}
 use Rattle.file_tree.specs.Disk.{Map}
-use Rattle.file_tree.specs.declared.objects.Entry.{Entry}
-use Rattle.image_fit.specs.Images as images
-use Rattle.image_fit.specs.Images.{is_good}
 use Rattle.merge_record.specs.declared.record.OwnerKey.{OwnerKey}
-use Rattle.merge_record.proofs.Form.{are_free-words}
-use Rattle.merge_site.specs.Booking.{dying_at, wish_for}
-use Rattle.owner_book.specs.Book as books
 use Rattle.owner_book.specs.Book.{Book}
 use Rattle.owner_book.specs.Rules.{is_dying}
-use Rattle.owner_book.specs.declared.wish.Wish.{Wish}
-use Rattle.contents_text.specs.Contents.{is_dropped}
 use Rattle.pkg_state.specs.Package.{Package}
 use Rattle.plan_law.specs.Plans.{Group}
 use Rattle.plan_law.proofs.Members.{passes_some, some_passes}
@@ -25,30 +17,26 @@ use Rattle.database_law.specs.Database.{IsDatabase, folder_name}
 use Rattle.database_law.specs.Packages.{Installed}
 use Rattle.database_law.proofs.Places.{one_of_rising}
 use Rattle.commit_law.specs.Lit.{lit, packages_of}
-use Rattle.claim_law.proofs.Granted.{free_wish}
-use Rattle.group_run.specs.Granted.{MayChange, wishes_in, wishes_of}
+use Rattle.group_run.specs.Granted.{MayChange}
 use Rattle.group_run.specs.Turns.{changes_of}
-use Rattle.group_run.specs.Working.{all_in, all_of}
 use Rattle.group_run.specs.declared.files.Files.{Files}
 use Rattle.package_law.specs.Packages.{AreFilesOf}
-use Rattle.package_law.proofs.Places.{distinct_back, distinct_front}
-use Rattle.change_law.proofs.Pieces.{has-piece, left, pairs_of, right}
-use Rattle.change_law.proofs.Together.{all_wished, image_wish}
+use Rattle.change_law.proofs.Pieces.{left, pairs_of, right}
 use Rattle.record_write.specs.Recorded.{FilesAreInTheFolder, SortedRecordsAreReadBack}
-use Rattle.std.proofs.lemmas.List.{map-append}
 use Rattle.exchange_make.specs.Keys.{folder_of, folders_with, key_with}
 use Rattle.exchange_make.specs.Laws.{CanBeRecorded, Exchanges, MadeGroupsExchange, RemovesOwned}
 use Rattle.exchange_make.specs.Made.{AreFilesFor, GROUP, IsMadeFor, IsNamed, leaves, package_of}
 use Rattle.exchange_make.specs.declared.made.Made.{Made}
 use Rattle.exchange_make.specs.declared.newcomer.Newcomer.{Newcomer}
-use Rattle.exchange_make.proofs.Brought.{IsTakenImage, brought, ownable_path}
+use Rattle.exchange_make.proofs.Brought.{IsTakenImage, brought}
 use Rattle.exchange_make.proofs.PlaceLemmas.{one_at_a_place}
-use Rattle.exchange_make.proofs.Zips.{chosen, distinct_by, distinct_in_piece, zip_same, zip_weaker}
+use Rattle.exchange_make.proofs.TakenImages.{taken_image}
+use Rattle.exchange_make.proofs.Zips.{chosen, distinct_by, zip_same, zip_weaker}
 
 abbrev Pair : Type 0
 Pair = Newcomer × Files
 
-folders_as : (flags : List (List ℕ)) (ps : List Installed) → map folder_name ps ≡ map folder_of (packages_of flags ps)
+pub folders_as : (flags : List (List ℕ)) (ps : List Installed) → map folder_name ps ≡ map folder_of (packages_of flags ps)
 folders_as flags [] = refl
 folders_as flags (p ∷ ps) = ap (λ (l : List (List ℕ)). folder_name p ∷ l) (folders_as flags ps)
 
@@ -109,48 +97,6 @@ module _ (read : SortedRecordsAreReadBack) (inside : FilesAreInTheFolder) (flags
   abbrev packages : List Files
   packages = made.turn.packages.items
 
-  abbrev removals : List (List ℕ)
-  removals = made.turn.removals.items
-
-  abbrev ws : List Wish
-  ws = wishes_of packages
-
-  abbrev dying : OwnerKey → Bool
-  dying = is_dying (dying_at made.groups.items GROUP)
-
-  -- ---- what the grant says
-
-  entry_there : (f : Files) (e : Entry) → Has packages f → Has f.image.items e → Has (all_of packages) e
-  entry_there f e there has = has-piece all_in packages f e there (has-append_left f.image.items f.folder.items e has)
-
-  wish_there : (f : Files) (e : Entry) → Has packages f → Has f.image.items e → Has ws (wish_for f.owner false e)
-  wish_there f e there has = has-piece wishes_in packages f (wish_for f.owner false e) there (image_wish f e has)
-
-  free_here : (f : Files) (e : Entry) → Has packages f → Has f.image.items e → is_dropped e.path ≡ false
-  free_here f e there has =
-      let w = wish_for f.owner false e in
-      let wished = wish_there f e there has in
-      let free = (free_wish may.book dying ws may.granted.taken.free w wished).1.let_in in
-      let outside = (are_free-words [] (removals ++ map books.path_of ws) may.granted.apart).outside e.path (has-append_right removals (map books.path_of ws) e.path (has-map books.path_of ws w wished)) in
-      ownable_path e.path free outside
-
-  paths_apart : AreDistinct (map images.path_of (all_of packages))
-  paths_apart = subst (λ (l : List (List ℕ)). AreDistinct l) (all_wished packages)
-      (distinct_back removals (map books.path_of ws) (are_free-words [] (removals ++ map books.path_of ws) may.granted.apart).distinct)
-
-  image_apart : (f : Files) → Has packages f → AreDistinct (map images.path_of f.image.items)
-  image_apart f there =
-      distinct_front (map images.path_of f.image.items) (map images.path_of f.folder.items)
-      (subst (λ (l : List (List ℕ)). AreDistinct l) (map-append images.path_of f.image.items f.folder.items)
-      (distinct_in_piece images.path_of all_in packages f paths_apart there))
-
-  taken_image : (f : Files) → Has packages f → IsTakenImage f.image.items
-  taken_image f there = record {
-    good = all_by_has (λ (e : Entry). is_good e ≡ true) f.image.items (λ e has. all_has (λ (x : Entry). is_good x ≡ true) (all_of packages) e may.good (entry_there f e there has));
-    free = λ e has. free_here f e there has;
-    distinct = image_apart f there;
-  }
-
   -- ---- what comes
 
   abbrev IsBrought : Pair → Installed → Type 0
@@ -159,7 +105,7 @@ module _ (read : SortedRecordsAreReadBack) (inside : FilesAreInTheFolder) (flags
   brought_by : (n : Newcomer) (f : Files) → Has newcomers n → Has packages f → AreFilesFor ps g.additions n f → (a : Installed) × IsBrought (n, f) a
   brought_by n f hn hf are =
       let may_record = all_has (CanBeRecorded flags) g.additions n.pkg can (subst (λ (l : List Package). Has l n.pkg) (sym brings) (has-map package_of newcomers n hn)) in
-      let k = brought read inside flags ps g.additions n f are (all_has IsNamed newcomers n is.named hn) may_record (subst IsTakenImage are.image (taken_image f hf)) in
+      let k = brought read inside flags ps g.additions n f are (all_has IsNamed newcomers n is.named hn) may_record (subst IsTakenImage are.image (taken_image m book made.groups.items made.turn GROUP may f hf)) in
       (k.0, (ap (lit flags) k.1 ∙ may_record.enabled, k.2, are.owner ∙ ap (λ (p : Package). key_with ps g.additions (record { package_is = p; owned = [] })) (sym k.1)))
 
   exchanges : Exchanges flags m ps g made

@@ -2,6 +2,7 @@ pub mod PlaceLemmas
 pub mod Taking
 pub mod Zips
 pub mod Brought
+pub mod TakenImages
 pub mod Exchanged
 pub mod Kept
 pub mod Once

@@ -20,7 +20,7 @@ use Rattle.exchange_make.specs.Laws.{AcceptedGroupsBringEachOnce}
 use Rattle.exchange_make.proofs.Zips.{distinct_by}
 
 -- ids with one text are one
-one_of_text : ComesApart → OneSpelling → (a b : PackageId) → IsId a → IsId b → id_text a ≡ id_text b → a ≡ b
+pub one_of_text : ComesApart → OneSpelling → (a b : PackageId) → IsId a → IsId b → id_text a ≡ id_text b → a ≡ b
 unfolding record_path
 one_of_text comes spells a b is also e = one_id comes spells a b [] [] is also (ap (λ (t : List ℕ). codes "var/db/pkg/" ++ (t ++ (47 ∷ []))) e)
 

@@ -7,7 +7,7 @@ use Rattle.std.proofs.lemmas.Slice.Eq.{bytes_eq-Decides}
 use Rattle.basics.specs.Members.{Has}
 use Rattle.basics.proofs.Membership.{has-append_left, has-map}
 use Rattle.basics.proofs.Tests.{or-false}
-use Rattle.basics.proofs.Texts.{bytes_eq-same}
+use Rattle.basics.proofs.Texts.{bytes_eq-same, same_text}
 use Rattle.merge_record.specs.Judging.{is_in}
 use Rattle.merge_record.proofs.Form.{has_if_in, in_if_has}
 use Rattle.pkg_state.specs.Package.{Package}
@@ -17,9 +17,6 @@ use Rattle.run_law.specs.Openings.{key_among, key_at, place_of}
 use Rattle.exchange_make.specs.Keys.{folder_of, key_with}
 use Rattle.exchange_make.specs.Laws.{OwnersKeepTheirKeys}
 use Rattle.exchange_make.specs.Places.{found_place}
-
-same_text : (a b : List ℕ) → bytes_eq a b ≡ true → a ≡ b
-same_text a b e = (bytes_eq-Decides a b).0 e
 
 -- ---- places
 

@@ -13,7 +13,7 @@ use Rattle.std.proofs.Math.Bool.{or_comm}
 use Rattle.std.proofs.lemmas.Slice.Eq.{bytes_eq-Decides}
 use Rattle.basics.specs.Members.{AreDistinct, Has}
 use Rattle.basics.proofs.Membership.{distinct-push, has-append_cases, has-append_left, has-append_right, has-filter, has-filter_back}
-use Rattle.basics.proofs.Tests.{or-false}
+use Rattle.basics.proofs.Tests.{cond-or, or-false}
 use Rattle.file_tree.specs.Disk.{Map}
 use Rattle.image_fit.specs.Images.{path_of}
 use Rattle.merge_record.specs.Judging.{HasSame, is_in}
@@ -155,12 +155,6 @@ module _ (gone : Installed → Bool) (ps : List Installed) (i : ℕ) (p : Instal
 
 -- ---- the lines that are cleared
 
-cond_or : (a b : Bool) → cond a true b ≡ (b || a)
-cond_or true true = refl
-cond_or true false = refl
-cond_or false true = refl
-cond_or false false = refl
-
 -- one removal more
 pub line_more : (rs : List Removal) (i : ℕ) (r : Removal) (l : List ℕ) (old new : List ℕ → Bool) → i < length rs → r ≡ get_or rs i r → l ≡ removed_line r
     → ((line : List ℕ) → old line ≡ list_any (λ x. bytes_eq (removed_line x) line) (take i rs))
@@ -169,7 +163,7 @@ pub line_more : (rs : List Removal) (i : ℕ) (r : Removal) (l : List ℕ) (old 
 line_more rs i r l old new lt is own so_far changed line =
     let f : Removal → Bool = λ x. bytes_eq (removed_line x) line in
     let here : is_at (slice_cmp nat_cmp l) line ≡ f (get_or rs i r) = is_eq-slice_cmp l line ∙ (ap (λ (k : List ℕ). bytes_eq k line) own ∙ ap f is) in
-    changed line ∙ (cond_or (is_at (slice_cmp nat_cmp l) line) (old line)
+    changed line ∙ (cond-or (is_at (slice_cmp nat_cmp l) line) (old line)
     ∙ (ap (λ (b : Bool). old line || b) here ∙ (ap (λ (b : Bool). b || f (get_or rs i r)) (so_far line) ∙ sym (list_any_more f rs i r lt))))
 
 -- ---- the answer of the set

@@ -1,5 +1,5 @@
 -- Sets of texts as the lists of their keys, which rise in byte order.
-use Rattle.std.proofs.Common.{◌≡◌, ◌⊎◌, ◌∙◌, ℕ, true, false, List, [], ◌∷◌, ◌++◌, refl, ap, sym, subst, inl, inr}
+use Rattle.std.proofs.Common.{◌≡◌, ◌⊎◌, ◌∙◌, ℕ, true, false, List, [], ◌∷◌, ◌++◌, ap, sym, subst, inl, inr}
 use Rattle.std.specs.BTreeSet.{insert_key}
 use Rattle.std.specs.Cmp.Lexicographic.{same_text, texts_ties}
 use Rattle.std.specs.List.Sorted.{IsStrictlySortedBy}
@@ -8,7 +8,7 @@ use Rattle.std.specs.declared.cmp.Ordering.{Ordering}
 use Rattle.std.specs.declared.cmp.Ordering.TheVariants.{Less, Equal, Greater}
 use Rattle.std.proofs.lemmas.Cmp.{nat_list_cmp_total}
 use Rattle.basics.specs.Members.{Has}
-use Rattle.basics.proofs.Orderings.{ordering_cases}
+use Rattle.basics.proofs.Orderings.{less_of, ordering_cases}
 use Rattle.basics.proofs.Each.{all_has}
 use Rattle.pms_names.specs.Flags.{IsRising, byte_order}
 
@@ -75,13 +75,8 @@ unfolding IsStrictlySortedBy
 behind_later [] x behind t rising has = all_has (λ (z : List ℕ). byte_order x z ≡ Less) behind t rising.0 has
 behind_later (y ∷ front) x behind t rising has = behind_later front x behind t rising.1 has
 
-is_lt_less : (o : Ordering) → is_lt o ≡ true → o ≡ Less
-is_lt_less Less h = refl
-is_lt_less Equal h = absurd (cc h)
-is_lt_less Greater h = absurd (cc h)
-
 pub if_less : (x y : List ℕ) → is_lt (byte_order x y) ≡ true → byte_order x y ≡ Less
-if_less x y h = is_lt_less (byte_order x y) h
+if_less x y h = less_of (byte_order x y) h
 
 pub not_less_if : (x y : List ℕ) → is_lt (byte_order x y) ≡ false → byte_order x y ≡ Less → ⊥
 not_less_if x y h less = let g : is_lt (byte_order x y) ≡ true = ap is_lt less in cc

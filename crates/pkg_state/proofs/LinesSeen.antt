@@ -1,6 +1,6 @@
 -- The first two packages on one line, by a map of the lines that were seen.
 use denote.Ref.{Bor}
-use Rattle.std.proofs.Common.{◌≡◌, ◌∙◌, ◌<◌, ◌+◌, ℕ, Bool, true, false, cond, List, [], ◌∷◌, ◌++◌, Option, Some, None, drop, get_or, length, refl, ap, sym, subst, take, inl, inr}
+use Rattle.std.proofs.Common.{◌≡◌, ◌∙◌, ◌<◌, ◌+◌, ℕ, Bool, true, false, cond, List, [], ◌∷◌, ◌++◌, Option, Some, None, drop, get_or, length, ap, sym, subst, take, inl, inr}
 use Rattle.std.specs.Prelude.{bytes_eq}
 use Rattle.std.specs.BTreeMap.{is_at}
 use Rattle.std.specs.Cmp.Lexicographic.{slice_cmp}
@@ -14,6 +14,7 @@ use Rattle.std.proofs.lemmas.Map.Text.{is_eq-slice_cmp}
 use Rattle.std.proofs.lemmas.Slice.Eq.{bytes_eq-Decides}
 use Rattle.basics.specs.Members.{Has}
 use Rattle.basics.proofs.Membership.{has-map_back}
+use Rattle.basics.proofs.Tests.{or-none}
 use Rattle.pkg_state.specs.Package.{Package, line_of, lines_of}
 use Rattle.pkg_state.specs.Consistent.{AreApart}
 use Rattle.pkg_state.specs.Fault.{AreFirstTwins}
@@ -45,10 +46,6 @@ none_on_line ps q none has =
     both_ways (bytes_eq (line q) (line r.0)) (none_passes (λ p. bytes_eq (line q) (line p)) ps (none_found (λ p. bytes_eq (line q) (line p)) ps none) r.0 r.1)
     ((bytes_eq-Decides (line q) (line r.0)).1 (sym r.2))
 
-or_nothing : (o : Option Package) → option_or o None ≡ o
-or_nothing None = refl
-or_nothing (Some p) = refl
-
 seen_more : (ps : List Package) (p : Bor Package) (l : List ℕ) (old new : Seen) → HasSeen ps old → l ≡ line p.now → on_line ps l ≡ None
     → ((q : List ℕ) → entry new q ≡ cond (is_at (slice_cmp nat_cmp l) q) (Some p) (entry old q)) → HasSeen (ps ++ p.now ∷ []) new
 seen_more ps p l old new has is none changed q =
@@ -66,7 +63,7 @@ seen_more ps p l old new has is none changed q =
             | inr e ↦ e
           ] in
           ap (λ (b : Bool). option_map (λ (r : Bor Package). r.now) (cond b (Some p) (entry old q))) n
-          ∙ (has q ∙ sym (ap (λ (b : Bool). option_or (on_line ps q) (cond b (Some p.now) None)) apart ∙ or_nothing (on_line ps q))))
+          ∙ (has q ∙ sym (ap (λ (b : Bool). option_or (on_line ps q) (cond b (Some p.now) None)) apart ∙ or-none (on_line ps q))))
     ] ∙ sym (find-append (λ r. bytes_eq q (line r)) ps (p.now ∷ [])))
 
 pub seen_next : (ps : List Package) (i : ℕ) (p : Bor Package) (l : List ℕ) (old new : Seen) → i < length ps → p.now ≡ get_or ps i p.now → AreSeen (take i ps) old → l ≡ line p.now

@@ -10,6 +10,7 @@ use Rattle.std.proofs.lemmas.Bool.{and_parts, cases_Bool}
 use Rattle.std.proofs.lemmas.List.{map-append}
 use Rattle.std.proofs.lemmas.List.Folds.{find-append, list_any-append}
 use Rattle.std.proofs.lemmas.Slice.Eq.{bytes_eq-Decides}
+use Rattle.basics.proofs.Tests.{map-or}
 use Rattle.pms_names.specs.Flags.{has}
 use Rattle.dep_atom.specs.declared.package.Facts.{Facts}
 use Rattle.dep_atom.specs.Match.{accepts_slot, accepts_use, accepts_version, same_name, value_matches}
@@ -83,10 +84,6 @@ find_own f q (a ∷ xs) = elim (cases_Bool (f (q, a))) [
       ∙ (find_own f q xs ∙ sym (ap (λ (b : Bool). cond (b || list_any f (map (λ a. (q, a)) xs)) (Some q) None) e))
 ]
 
-map_or : {A B : Type 0} (g : A → B) (x y : Option A) → option_map g (option_or x y) ≡ option_or (option_map g x) (option_map g y)
-map_or g None y = refl
-map_or g (Some x) y = refl
-
 own_blocks : (q : Package) → blocks_of q ≡ map (λ a. (q, a)) (filter is_block (own_leaves Rdepend q) ++ filter is_block (own_leaves Pdepend q))
 own_blocks q = sym (map-append (λ a. (q, a)) (filter is_block (own_leaves Rdepend q)) (filter is_block (own_leaves Pdepend q)))
 
@@ -102,7 +99,7 @@ first_owner : (p : Package) (ps : List Package) → option_map (λ b. b.0) (find
 first_owner p [] = refl
 first_owner p (q ∷ ps) =
     ap (option_map (λ (b : Package × AtomValue). b.0)) (find-append (keeps_out p) (blocks_of q) (all_blocks ps))
-    ∙ (map_or (λ (b : Package × AtomValue). b.0) (find (keeps_out p) (blocks_of q)) (find (keeps_out p) (all_blocks ps))
+    ∙ (map-or (λ (b : Package × AtomValue). b.0) (find (keeps_out p) (blocks_of q)) (find (keeps_out p) (all_blocks ps))
     ∙ (ap (λ (o : Option Package). option_or o (option_map (λ (b : Package × AtomValue). b.0) (find (keeps_out p) (all_blocks ps)))) (find_in_own (keeps_out p) q)
     ∙ (or_cond (list_any (keeps_out p) (blocks_of q)) q (option_map (λ (b : Package × AtomValue). b.0) (find (keeps_out p) (all_blocks ps)))
     ∙ (ap (λ (b : Bool). cond b (Some q) (option_map (λ (b : Package × AtomValue). b.0) (find (keeps_out p) (all_blocks ps)))) (one_keeps_out p q)

@@ -12,6 +12,7 @@ use Rattle.basics.proofs.Texts.{not_less}
 use Rattle.pms_names.specs.Flags.{IsRising, byte_order}
 use Rattle.pkg_state.specs.Package.{Package, line_of}
 use Rattle.choice_law.specs.Universe.{Offer, Universe, Value, absent, keep, no_offer, offer_at, package_of, variant}
+use Rattle.resolver.proofs.Offers.{nothing_offered}
 use Rattle.single_plan.specs.Single.{AreLinesApart}
 use Rattle.universe_make.specs.Offers.{AreOffers, offer_on}
 
@@ -60,11 +61,6 @@ one_place (k ∷ ks) zero (suc m) x y up at_l at_m e = absurd (not_less k y (at_
 one_place (k ∷ ks) (suc l) zero x y up at_l at_m e = absurd (not_less k x (at_m ∙ sym e) (all_has (λ z. byte_order k z ≡ Less) ks x up.0 (at_has ks l x at_l)))
 one_place (k ∷ ks) (suc l) (suc m) x y up at_l at_m e = ap (λ j. suc j) (one_place ks l m x y up.1 at_l at_m e)
 
-nothing_there : (v : Value) (p : Package) → package_of no_offer v ≡ Some p → ⊥
-nothing_there keep p e = absurd (cc e)
-nothing_there absent p e = absurd (cc e)
-nothing_there (variant i) p e = has-slice_get [] i p e
-
 module _ (installed variants : List Package) where
   own_line : (k : List ℕ) (v : Value) (p : Package) → package_of (offer_on installed variants k) v ≡ Some p → k ≡ line_of p.facts
   own_line k keep p e = (bytes_eq-Decides k (line_of p.facts)).0 (find_passes (λ q. bytes_eq k (line_of q.facts)) installed p e)
@@ -73,7 +69,7 @@ module _ (installed variants : List Package) where
       (filter_passes (λ q. bytes_eq k (line_of q.facts)) variants p (has-slice_get (filter (λ q. bytes_eq k (line_of q.facts)) variants) i p e))
 
   at_line : (ks : List (List ℕ)) (l : ℕ) (v : Value) (p : Package) → package_of (get_or (map (offer_on installed variants) ks) l no_offer) v ≡ Some p → IsAt ks l (line_of p.facts)
-  at_line [] l v p e = nothing_there v p e
+  at_line [] l v p e = nothing_offered v p e
   at_line (k ∷ ks) zero v p e = own_line k v p e
   at_line (k ∷ ks) (suc l) v p e = at_line ks l v p e
 

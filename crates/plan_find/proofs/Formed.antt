@@ -1,7 +1,8 @@
 -- The packages that are offered are in form, with just the implicit flags on.
-use Rattle.std.proofs.Common.{◌≡◌, ◌∙◌, ℕ, List, [], ◌∷◌, inl, inr, map, refl, subst, sym}
-use Rattle.std.specs.List.{AllByRecursion, AllZip, filter_map}
+use Rattle.std.proofs.Common.{◌≡◌, ◌∙◌, ℕ, List, [], ◌∷◌, inl, inr, map, subst, sym}
+use Rattle.std.specs.List.{AllByRecursion, filter_map}
 use Rattle.basics.specs.Members.{Has}
+use Rattle.basics.proofs.Each.{zip_has}
 use Rattle.basics.proofs.Membership.{has-filter_back, has-map_back}
 use Rattle.dep_group.specs.Tokens.{IsInForm}
 use Rattle.dep_tree.specs.Grammar as dependencies
@@ -21,13 +22,6 @@ use Rattle.offer_read.specs.Offers.{AreOffers}
 use Rattle.offer_read.specs.declared.offers.Hidden.{Hidden}
 use Rattle.plan_link.specs.Laws.{AreOffered, IsFormed}
 use Rattle.plan_find.specs.Choices.{bare_of}
-
-zip_has : {A B : Type 0} (R : A → B → Type 0) (xs : List A) (ys : List B) (y : B) → AllZip R xs ys → Has ys y → (x : A) × Has xs x × R x y
-zip_has R [] [] y zip is = absurd is
-zip_has R [] (z ∷ zs) y zip is = absurd zip
-zip_has R (x ∷ xs) [] y zip is = absurd is
-zip_has R (x ∷ xs) (z ∷ zs) y zip (inl e) = (x, inl refl, subst (R x) e zip.0)
-zip_has R (x ∷ xs) (z ∷ zs) y zip (inr is) = let r = zip_has R xs zs y zip.1 is in (r.0, inr r.1, r.2)
 
 entry_needs : (pairs : List Pair) (p : Package) → TellsNeeds pairs p → (on : List (List ℕ)) (class : Class) → IsInForm dependencies.grammar dependencies.is_block (tree_of class (with_enabled on p))
 entry_needs pairs p tells on Rdepend = tells.rdepend.0

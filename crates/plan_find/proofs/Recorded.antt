@@ -5,18 +5,16 @@ use Rattle.std.specs.BTreeSet.{insert_key}
 use Rattle.std.proofs.lemmas.List.Kept.{IsStrictlySortedBy-filter}
 use Rattle.std.proofs.lemmas.Map.Views.{any-filter_same}
 use Rattle.std.proofs.lemmas.Slice.Eq.{bytes_eq-Decides}
+use Rattle.basics.proofs.Tests.{or-true}
 use Rattle.pms_names.specs.Flags.{IsRising, byte_order, has}
+use Rattle.pms_names.proofs.Sets.{one_set}
 use Rattle.pkg_state.specs.Package.{Package}
 use Rattle.commit_law.specs.Lit.{as_recorded, lit, lit_flags, with_enabled}
-use Rattle.commit_law.proofs.Lit.{one_set, set_put}
+use Rattle.commit_law.proofs.Lit.{set_put}
 use Rattle.plan_link.specs.Laws.{IsLit}
 
-or_true : (b : Bool) → (b || true) ≡ true
-or_true true = refl
-or_true false = refl
-
 or_same : (a b : Bool) → (a || b) ≡ (b || a)
-or_same true b = sym (or_true b)
+or_same true b = sym (or-true b)
 or_same false true = refl
 or_same false false = refl
 
@@ -30,7 +28,7 @@ first_in : (f : List ℕ) (fs : List (List ℕ)) → has (f ∷ fs) f ≡ true
 first_in f fs = ap (λ (b : Bool). b || has fs f) ((bytes_eq-Decides f f).1 refl)
 
 later_in : (f : List ℕ) (fs : List (List ℕ)) (q : List ℕ) → has fs q ≡ true → has (f ∷ fs) q ≡ true
-later_in f fs q e = ap (λ (b : Bool). bytes_eq q f || b) e ∙ or_true (bytes_eq q f)
+later_in f fs q e = ap (λ (b : Bool). bytes_eq q f || b) e ∙ or-true (bytes_eq q f)
 
 module _ (on : List (List ℕ)) (rising : IsRising on) where
   has_kept : (test : List ℕ → Bool) (q : List ℕ) → has (filter test on) q ≡ (test q && has on q)

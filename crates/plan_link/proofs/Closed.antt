@@ -16,6 +16,7 @@ use Rattle.dep_tree.specs.Texts.{Dependencies}
 use Rattle.database_law.specs.Fields.{all_bound, bound_alone, tree_bound, without_equals}
 use Rattle.plan_text.specs.Words.{IsBind}
 use Rattle.record_write.specs.Recorded.{AreBound}
+use Rattle.record_write.proofs.Again.{slot_again, slot_kept}
 use Rattle.plan_link.specs.Entering.{all_entered, all_left, asks, bound_slot, entered, entered_leaf, left, left_by, lets_in, slot_with}
 
 abbrev T : Type 0
@@ -30,13 +31,6 @@ binds_if false binds more is are = are
 
 -- ---- slots
 
-without_closed : (s : SlotPart) → without_equals (without_equals s) ≡ without_equals s
-without_closed Free = refl
-without_closed Star = refl
-without_closed Equals = refl
-without_closed (Given slot None equals) = refl
-without_closed (Given slot (Some subslot) equals) = refl
-
 bound_closed : (s : SlotPart) (b : Bind) → without_equals (bound_slot s b) ≡ bound_slot s b
 bound_closed Free b = refl
 bound_closed Star b = refl
@@ -46,18 +40,11 @@ bound_closed (Given slot (Some subslot) equals) b = refl
 
 if_closed : (t : Bool) (s : SlotPart) (b : Bind) → without_equals (if t then bound_slot s b else without_equals s) ≡ (if t then bound_slot s b else without_equals s)
 if_closed true s b = bound_closed s b
-if_closed false s b = without_closed s
+if_closed false s b = slot_again s
 
 slot_closed : (binds : List Bind) (a : AtomValue) → without_equals (slot_with binds a) ≡ slot_with binds a
-slot_closed [] a = without_closed a.slot
+slot_closed [] a = slot_again a.slot
 slot_closed (b ∷ binds) a = if_closed (asks a) a.slot b
-
-without_formed : (s : SlotPart) → IsSlotForm s → IsSlotForm (without_equals s)
-without_formed Free h = h
-without_formed Star h = h
-without_formed Equals h = h
-without_formed (Given slot None equals) h = h
-without_formed (Given slot (Some subslot) equals) h = h
 
 bound_formed : (s : SlotPart) (b : Bind) → IsSlotForm s → IsBind b → IsSlotForm (bound_slot s b)
 bound_formed Free b h is = h
@@ -68,10 +55,10 @@ bound_formed (Given slot (Some subslot) equals) b h is = h
 
 if_formed : (t : Bool) (s : SlotPart) (b : Bind) → IsSlotForm s → IsBind b → IsSlotForm (if t then bound_slot s b else without_equals s)
 if_formed true s b h is = bound_formed s b h is
-if_formed false s b h is = without_formed s h
+if_formed false s b h is = slot_kept s h
 
 slot_formed : (binds : List Bind) (a : AtomValue) → AreBinds binds → IsSlotForm a.slot → IsSlotForm (slot_with binds a)
-slot_formed [] a are h = without_formed a.slot h
+slot_formed [] a are h = slot_kept a.slot h
 slot_formed (b ∷ binds) a are h = if_formed (asks a) a.slot b h are.0
 
 leaf_closed : (binds : List Bind) (a : AtomValue) → bound_alone (entered_leaf binds a) ≡ entered_leaf binds a

@@ -1,10 +1,11 @@
 -- The additions of a linked plan, one by one.
 use Rattle.std.proofs.Common.{◌≡◌, ◌∙◌, ◌||◌, ℕ, ◌+◌, Bool, true, false, List, [], ◌∷◌, Option, Some, None, inl, inr, refl, ap, subst, sym}
 use Rattle.std.specs.Prelude.{bytes_eq}
-use Rattle.std.specs.List.{AllByRecursion, AllZip}
+use Rattle.std.specs.List.{AllByRecursion}
 use Rattle.std.proofs.lemmas.Slice.Eq.{bytes_eq-Decides}
 use Rattle.basics.specs.Members.{Has}
-use Rattle.basics.proofs.Each.{all_has}
+use Rattle.basics.proofs.Each.{all_has, zip_has}
+use Rattle.basics.proofs.Tests.{or-true}
 use Rattle.pms_names.specs.Flags.{has}
 use Rattle.pkg_state.specs.Package.{Package, tree_of}
 use Rattle.pkg_state.specs.declared.class.Class.{Class}
@@ -18,13 +19,6 @@ use Rattle.plan_link.specs.Laws.{AreOffered, CanBeKept, IsFormed, IsLit, LinkedA
 use Rattle.plan_link.specs.Linked.{IsLinkedGroup}
 use Rattle.plan_link.specs.Offers.{AreOn, Brings, IsFirst, entering}
 use Rattle.plan_link.proofs.Closed.{FormIsAtoms, entered_bound}
-
-zip_has : {A B : Type 0} (R : A → B → Type 0) (xs : List A) (ys : List B) (y : B) → AllZip R xs ys → Has ys y → (x : A) × Has xs x × R x y
-zip_has R [] [] y zip is = absurd is
-zip_has R [] (z ∷ zs) y zip is = absurd zip
-zip_has R (x ∷ xs) [] y zip is = absurd is
-zip_has R (x ∷ xs) (z ∷ zs) y zip (inl e) = (x, inl refl, subst (R x) e zip.0)
-zip_has R (x ∷ xs) (z ∷ zs) y zip (inr is) = let r = zip_has R xs zs y zip.1 is in (r.0, inr r.1, r.2)
 
 groups_have : (n : ℕ) (gs : List GroupValue) (t : GroupValue) → AreGroups n gs → Has gs t → AllByRecursion IsAddition t.additions
 groups_have n [] t are is = absurd is
@@ -60,20 +54,16 @@ member : (fs : List (List ℕ)) (flag : List ℕ) → has fs flag ≡ true → H
 member [] flag e = absurd (cc e)
 member (f ∷ fs) flag e = first_or (bytes_eq flag f) f fs flag refl e (member fs flag)
 
-or_true : (b : Bool) → (b || true) ≡ true
-or_true true = refl
-or_true false = refl
-
 module _ (a : AdditionValue) (on : List (List ℕ)) (p : Package) (flags : AreOn a.enabled p.facts.enabled on) (known : (flag : List ℕ) → Has a.enabled flag → has p.facts.iuse flag ≡ true) where
   known_if : (b : Bool) (flag : List ℕ) → has a.enabled flag ≡ b → (b || has p.facts.enabled flag) ≡ true → (has p.facts.iuse flag || has p.facts.enabled flag) ≡ true
   known_if true flag e h = ap (λ (c : Bool). c || has p.facts.enabled flag) (known flag (member a.enabled flag e))
-  known_if false flag e h = ap (λ (c : Bool). has p.facts.iuse flag || c) h ∙ or_true (has p.facts.iuse flag)
+  known_if false flag e h = ap (λ (c : Bool). has p.facts.iuse flag || c) h ∙ or-true (has p.facts.iuse flag)
 
   entering_lit : IsLit p.facts.enabled (entering on a.binds p)
   entering_lit = record {
     rising = flags.rising;
     known = λ flag e. known_if (has a.enabled flag) flag refl (sym (flags.members flag) ∙ e);
-    implicit_on = λ flag e. flags.members flag ∙ (ap (λ (c : Bool). has a.enabled flag || c) e ∙ or_true (has a.enabled flag));
+    implicit_on = λ flag e. flags.members flag ∙ (ap (λ (c : Bool). has a.enabled flag || c) e ∙ or-true (has a.enabled flag));
   }
 
 brought_kept : FormIsAtoms → (implicit : List (List ℕ)) (offered : List Package) (a : AdditionValue) (q : Package) → AreOffered implicit offered → IsAddition a → Brings offered a q → CanBeKept implicit q

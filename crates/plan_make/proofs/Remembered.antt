@@ -8,6 +8,7 @@ use Rattle.std.proofs.lemmas.List.Folds.{list_any_more}
 use Rattle.std.proofs.lemmas.Slice.Eq.{bytes_eq-Decides}
 use Rattle.basics.specs.Members.{AreDistinct, Has}
 use Rattle.basics.proofs.Membership.{has-append_cases, has-append_right, has-map}
+use Rattle.basics.proofs.Tests.{cond-or, or-assoc}
 use Rattle.basics.proofs.Texts.{bytes_eq-same}
 use Rattle.dep_atom.specs.Ids.{id_text}
 use Rattle.file_tree.specs.Disk.{Map}
@@ -82,25 +83,15 @@ module _ (m : Map) (plan : List Group) (ps : List Installed) (p : Installed) (ol
 
 -- ---- the folders that removals name
 
-or_three : (a b c : Bool) → ((a || b) || c) ≡ (a || (b || c))
-or_three true b c = refl
-or_three false b c = refl
-
-or_cond : (a b : Bool) → cond a true b ≡ (b || a)
-or_cond true true = refl
-or_cond true false = refl
-or_cond false true = refl
-or_cond false false = refl
-
 -- one folder more
 pub folder_more : (rs : List Removal) (i : ℕ) (r : Removal) (folder : List ℕ) (was old new : List ℕ → Bool) → i < length rs → r ≡ get_or rs i r → folder ≡ id_text r.id
     → ((q : List ℕ) → old q ≡ (was q || names_folder (take i rs) q)) → ((q : List ℕ) → new q ≡ cond (bytes_eq folder q) true (old q)) → (q : List ℕ) → new q ≡ (was q || names_folder (take (i + 1) rs) q)
 folder_more rs i r folder was old new lt is text so_far changed q =
     let f : Removal → Bool = λ x. bytes_eq (id_text x.id) q in
-    changed q ∙ (or_cond (bytes_eq folder q) (old q)
+    changed q ∙ (cond-or (bytes_eq folder q) (old q)
     ∙ (ap (λ (b : Bool). old q || b) (ap (λ (t : List ℕ). bytes_eq t q) text ∙ ap f is)
     ∙ (ap (λ (b : Bool). b || f (get_or rs i r)) (so_far q)
-    ∙ (or_three (was q) (names_folder (take i rs) q) (f (get_or rs i r)) ∙ ap (λ (b : Bool). was q || b) (sym (list_any_more f rs i r lt))))))
+    ∙ (or-assoc (was q) (names_folder (take i rs) q) (f (get_or rs i r)) ∙ ap (λ (b : Bool). was q || b) (sym (list_any_more f rs i r lt))))))
 
 -- ---- what a site is opened for
 

@@ -1,28 +1,22 @@
 -- The set of flags that rise is their list.
-use Rattle.std.proofs.Common.{◌≡◌, ◌∙◌, ◌||◌, ◌<◌, ◌+◌, ℕ, Bool, true, List, [], ◌∷◌, Ordering, drop, get_or, length, refl, sym, ap}
+use Rattle.std.proofs.Common.{◌≡◌, ◌∙◌, ◌||◌, ◌<◌, ◌+◌, ℕ, Bool, true, List, [], ◌∷◌, drop, get_or, length, refl, sym, ap}
 use Rattle.std.specs.Prelude.{bytes_eq}
-use Rattle.std.specs.BTreeMap.{is_at}
 use Rattle.std.specs.List.{list_any}
 use Rattle.std.specs.List.Sorted.{IsStrictlySortedBy}
-use Rattle.std.specs.Ordering.{is_lt}
-use Rattle.std.specs.declared.cmp.Ordering.TheVariants.{Less, Equal, Greater}
+use Rattle.std.specs.declared.cmp.Ordering.TheVariants.{Less}
 use Rattle.std.proofs.Math.Bool.{or_comm}
-use Rattle.std.proofs.lemmas.Bool.{and_parts, true≢false}
+use Rattle.std.proofs.lemmas.Bool.{and_parts}
 use Rattle.std.proofs.lemmas.Cmp.{nat_list_cmp_total}
 use Rattle.std.proofs.lemmas.Map.Lookups.{btree_set_from_contains, exact_bytes}
-use Rattle.std.proofs.lemmas.Map.Text.{is_eq-slice_cmp}
 use Rattle.basics.proofs.Each.{all_by_has, all_has}
 use Rattle.basics.proofs.Lists.{at_drop}
+use Rattle.basics.proofs.Orderings.{less_of}
 use Rattle.basics.proofs.Tests.{or-assoc, or-false}
 use Rattle.pms_names.specs.Flags.{IsRising, byte_order, has}
+use Rattle.pms_names.proofs.Sets.{same_test}
 use Rattle.plan_text.specs.Words.{is_before, rise}
 
 -- ---- flags each of which stands before the next one rise
-
-less_of : (o : Ordering) → is_lt o ≡ true → o ≡ Less
-less_of Less e = refl
-less_of Equal e = absurd (true≢false (sym e))
-less_of Greater e = absurd (true≢false (sym e))
 
 rising_of : (flags : List (List ℕ)) → rise flags ≡ true → IsRising flags
 unfolding IsStrictlySortedBy
@@ -54,9 +48,6 @@ one_gathered flags i flag old new lt is so_far puts rising = record {
       ∙ so_far.all q);
   rising = rising;
 }
-
-same_test : (q : List ℕ) → ◌≡◌ {A = List ℕ → Bool} (is_at (byte_order q)) (bytes_eq q)
-same_test q i k = is_eq-slice_cmp q k i
 
 -- the set with all flags of a list that rises is that list
 pub all_gathered : (flags set : List (List ℕ)) → rise flags ≡ true → IsGathered flags [] set → set ≡ flags

@@ -5,7 +5,6 @@ use Rattle.std.specs.List.{AllZip}
 use Rattle.std.proofs.lemmas.List.{map-append, take_more}
 use Rattle.std.proofs.lemmas.Option.{slice_get_read}
 use Rattle.basics.specs.Members.{Has}
-use Rattle.basics.proofs.Membership.{has-slice_get}
 use Rattle.build_pool.specs.Pool.{Kept, PoolRose, faults_of}
 use Rattle.build_pool.specs.declared.orders.Order.{Order}
 use Rattle.file_tree.specs.declared.objects.Entry.{Entry}
@@ -24,9 +23,6 @@ use Rattle.plan_run.specs.declared.stop.PlanStop.TheVariants as stops
 
 pub read_at : {A : Type 0} (xs : List A) (i : ℕ) (x : A) → i < length xs → x ≡ get_or xs i x → slice_get xs i ≡ Some x
 read_at xs i x lt is = slice_get_read xs (length xs) i x refl lt is
-
-pub has_at : {A : Type 0} (xs : List A) (i : ℕ) (x : A) → i < length xs → x ≡ get_or xs i x → Has xs x
-has_at xs i x lt is = has-slice_get xs i x (read_at xs i x lt is)
 
 pub orders_here : (jobs : List Job) (place : ℕ) (job : Job) → place < length jobs → job ≡ get_or jobs place job → orders_at jobs place ≡ job.orders.items
 orders_here jobs place job lt is = ap orders_of_job (read_at jobs place job lt is)

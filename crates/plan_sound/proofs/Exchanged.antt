@@ -42,6 +42,7 @@ use Rattle.exchange_make.specs.Keys.{folder_of, folders_with, key_with}
 use Rattle.exchange_make.specs.Laws.{CanBeRecorded}
 use Rattle.exchange_make.specs.Made.{IsNamed, leaves, package_of}
 use Rattle.exchange_make.specs.declared.newcomer.Newcomer.{Newcomer}
+use Rattle.exchange_make.proofs.Exchanged.{folders_as}
 use Rattle.exchange_make.proofs.PlaceLemmas.{one_at_a_place}
 use Rattle.exchange_make.proofs.Zips.{distinct_by}
 use Rattle.plan_make.specs.Held.{Holdings, held_for}
@@ -79,10 +80,6 @@ has_group : (plan : List Group) (place : ℕ) (p : Package) → Has (group_at pl
 has_group [] place p has = absurd has
 has_group (g ∷ plan) zero p has = has-append_left g.additions (coming plan) p has
 has_group (g ∷ plan) (suc place) p has = has-append_right g.additions (coming plan) p (has_group plan place p has)
-
-folders_as : (flags : List (List ℕ)) (ps : List Installed) → map folder_name ps ≡ map folder_of (packages_of flags ps)
-folders_as flags [] = refl
-folders_as flags (p ∷ ps) = ap (λ (l : List (List ℕ)). folder_name p ∷ l) (folders_as flags ps)
 
 -- what a turn of the plan has to do with the packages that are there
 pub record Exchanged (flags : List (List ℕ)) (start : List Installed) (plan : List Group) (place : ℕ) (m : Map) (ps : List Installed) (dying : OwnerKey → Bool) (newcomers : List Newcomer) (t : Turn) : Type 0 where

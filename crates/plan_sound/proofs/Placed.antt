@@ -1,46 +1,34 @@
 -- What a turn of a plan places whose claim is granted: the packages that come, with their files.
-use Rattle.std.proofs.Common.{◌≡◌, ◌∙◌, ◌++◌, ℕ, Bool, true, false, List, [], ◌∷◌, ap, inl, inr, map, refl, subst, sym}
+use Rattle.std.proofs.Common.{◌≡◌, ◌∙◌, ℕ, Bool, List, [], ◌∷◌, ap, inl, inr, map, refl, subst, sym}
 use Rattle.std.specs.Prelude.{if◌then◌else◌}
 use Rattle.std.specs.List.{AllByRecursion, AllZip}
-use Rattle.std.proofs.lemmas.List.{map-append}
 use Rattle.basics.specs.Members.{AreDistinct, Has}
-use Rattle.basics.proofs.Each.{all_by_has, all_has}
-use Rattle.basics.proofs.Membership.{has-append_left, has-append_right, has-map, has-map_back}
+use Rattle.basics.proofs.Each.{all_has}
+use Rattle.basics.proofs.Membership.{has-map, has-map_back}
 use Rattle.basics.proofs.Texts.{bytes_eq-apart, bytes_eq-same}
 use Rattle.file_tree.specs.Disk.{Map}
-use Rattle.file_tree.specs.declared.objects.Entry.{Entry}
 use Rattle.image_fit.specs.Images as images
-use Rattle.image_fit.specs.Images.{is_good}
-use Rattle.merge_record.specs.declared.record.OwnerKey.{OwnerKey}
-use Rattle.merge_record.proofs.Form.{are_free-words}
-use Rattle.merge_site.specs.Booking.{dying_at, wish_for}
 use Rattle.merge_site.specs.declared.group.SiteGroup.{SiteGroup}
-use Rattle.owner_book.specs.Book as books
 use Rattle.owner_book.specs.Book.{Book}
-use Rattle.owner_book.specs.Rules.{is_dying}
-use Rattle.owner_book.specs.declared.wish.Wish.{Wish}
-use Rattle.contents_text.specs.Contents.{is_dropped}
 use Rattle.pkg_state.specs.Package.{Package}
 use Rattle.database_law.specs.Database.{folder_name}
 use Rattle.database_law.specs.Packages.{Installed}
 use Rattle.commit_law.specs.Lit.{lit, packages_of}
-use Rattle.claim_law.proofs.Granted.{free_wish}
-use Rattle.group_run.specs.Granted.{MayChange, wishes_in, wishes_of}
+use Rattle.group_run.specs.Granted.{MayChange}
 use Rattle.group_run.specs.Turns.{changes_of}
-use Rattle.group_run.specs.Working.{all_in, all_of}
+use Rattle.group_run.specs.Working.{all_in}
 use Rattle.group_run.specs.declared.files.Files.{Files}
 use Rattle.group_run.specs.declared.turn.Turn.{Turn}
 use Rattle.package_law.specs.Packages.{AreFilesOf}
-use Rattle.package_law.proofs.Places.{distinct_back, distinct_front}
-use Rattle.change_law.proofs.Pieces.{has-piece, left, pairs_of, right}
-use Rattle.change_law.proofs.Together.{all_wished, image_wish}
+use Rattle.change_law.proofs.Pieces.{left, pairs_of, right}
 use Rattle.record_write.specs.Recorded.{FilesAreInTheFolder, SortedRecordsAreReadBack}
 use Rattle.exchange_make.specs.Keys.{folder_of, key_with}
 use Rattle.exchange_make.specs.Laws.{CanBeRecorded}
 use Rattle.exchange_make.specs.Made.{AreFilesFor, IsNamed, package_of}
 use Rattle.exchange_make.specs.declared.newcomer.Newcomer.{Newcomer}
-use Rattle.exchange_make.proofs.Brought.{IsTakenImage, brought, ownable_path}
-use Rattle.exchange_make.proofs.Zips.{chosen, distinct_in_piece, zip_same, zip_weaker}
+use Rattle.exchange_make.proofs.Brought.{IsTakenImage, brought}
+use Rattle.exchange_make.proofs.TakenImages.{taken_image}
+use Rattle.exchange_make.proofs.Zips.{chosen, zip_same, zip_weaker}
 use Rattle.plan_make.specs.Held.{Holdings, holding, holding_all}
 
 -- members with one value are one where the values differ
@@ -161,64 +149,21 @@ module _ (flags : List (List ℕ)) (ps : List Installed) (coming : List Package)
         let same : y.0 ≡ z = one_with folder_pair k.pairs y.0 z pairs_apart y.1 hz (sym (folder_is y.0 b.0 b.2) ∙ (folder ∙ folder_is z a is)) in
         sym y.2 ∙ ap right same
 
--- ---- what the grant says
+-- ---- what the grant brings
 
 module _ (m : Map) (book : Book) (groups : List SiteGroup) (t : Turn) (may : MayChange m book groups (changes_of t) t.group) where
-  abbrev placed : List Files
-  placed = t.packages.items
-
-  abbrev removals : List (List ℕ)
-  removals = t.removals.items
-
-  abbrev ws : List Wish
-  ws = wishes_of placed
-
-  abbrev dying : OwnerKey → Bool
-  dying = is_dying (dying_at groups t.group)
-
-  entry_there : (f : Files) (e : Entry) → Has placed f → Has f.image.items e → Has (all_of placed) e
-  entry_there f e there has = has-piece all_in placed f e there (has-append_left f.image.items f.folder.items e has)
-
-  wish_there : (f : Files) (e : Entry) → Has placed f → Has f.image.items e → Has ws (wish_for f.owner false e)
-  wish_there f e there has = has-piece wishes_in placed f (wish_for f.owner false e) there (image_wish f e has)
-
-  free_here : (f : Files) (e : Entry) → Has placed f → Has f.image.items e → is_dropped e.path ≡ false
-  free_here f e there has =
-      let w = wish_for f.owner false e in
-      let wished = wish_there f e there has in
-      let free = (free_wish may.book dying ws may.granted.taken.free w wished).1.let_in in
-      let outside = (are_free-words [] (removals ++ map books.path_of ws) may.granted.apart).outside e.path (has-append_right removals (map books.path_of ws) e.path (has-map books.path_of ws w wished)) in
-      ownable_path e.path free outside
-
-  paths_apart : AreDistinct (map images.path_of (all_of placed))
-  paths_apart = subst (λ (l : List (List ℕ)). AreDistinct l) (all_wished placed)
-      (distinct_back removals (map books.path_of ws) (are_free-words [] (removals ++ map books.path_of ws) may.granted.apart).distinct)
-
-  image_apart : (f : Files) → Has placed f → AreDistinct (map images.path_of f.image.items)
-  image_apart f there =
-      distinct_front (map images.path_of f.image.items) (map images.path_of f.folder.items)
-      (subst (λ (l : List (List ℕ)). AreDistinct l) (map-append images.path_of f.image.items f.folder.items)
-      (distinct_in_piece images.path_of all_in placed f paths_apart there))
-
-  pub taken_image : (f : Files) → Has t.packages.items f → IsTakenImage f.image.items
-  taken_image f there = record {
-    good = all_by_has (λ (e : Entry). is_good e ≡ true) f.image.items (λ e has. all_has (λ (x : Entry). is_good x ≡ true) (all_of placed) e may.good (entry_there f e there has));
-    free = λ e has. free_here f e there has;
-    distinct = image_apart f there;
-  }
-
   module _ (read : SortedRecordsAreReadBack) (inside : FilesAreInTheFolder) (flags : List (List ℕ)) (ps : List Installed) (coming : List Package) (newcomers : List Newcomer)
       (named : AllByRecursion IsNamed newcomers) (files_for : AllZip (AreFilesFor ps coming) newcomers t.packages.items) (can : AllByRecursion (CanBeRecorded flags) (map package_of newcomers)) where
-    brought_by : (n : Newcomer) (f : Files) → Has newcomers n → Has placed f → AreFilesFor ps coming n f → (a : Installed) × IsBrought flags ps coming (n, f) a
+    brought_by : (n : Newcomer) (f : Files) → Has newcomers n → Has t.packages.items f → AreFilesFor ps coming n f → (a : Installed) × IsBrought flags ps coming (n, f) a
     brought_by n f hn hf are =
         let may_record = all_has (CanBeRecorded flags) (map package_of newcomers) n.pkg can (has-map package_of newcomers n hn) in
-        let k = brought read inside flags ps coming n f are (all_has IsNamed newcomers n named hn) may_record (subst IsTakenImage are.image (taken_image f hf)) in
+        let k = brought read inside flags ps coming n f are (all_has IsNamed newcomers n named hn) may_record (subst IsTakenImage are.image (taken_image m book groups t t.group may f hf)) in
         (k.0, (ap (lit flags) k.1 ∙ may_record.enabled, k.2, are.owner ∙ ap (λ (p : Package). key_with ps coming (record { package_is = p; owned = [] })) (sym k.1)))
 
     -- the packages that come
     pub turn_brings : Brings flags ps coming newcomers t.packages.items
     turn_brings =
-        let z = pairs_of (AreFilesFor ps coming) newcomers placed files_for in
+        let z = pairs_of (AreFilesFor ps coming) newcomers t.packages.items files_for in
         let came = chosen (IsBrought flags ps coming) z.pairs (λ y has.
         brought_by y.0 y.1 (subst (λ (l : List Newcomer). Has l y.0) z.lefts (has-map left z.pairs y has)) (subst (λ (l : List Files). Has l y.1) z.rights (has-map right z.pairs y has)) (z.each y has)) in
         record { pairs = z.pairs; lefts = z.lefts; rights = z.rights; added = came.0; each = came.1 }

@@ -1,23 +1,21 @@
 -- Which packages are there before a group of a plan, and what its removals name.
-use Rattle.std.proofs.Common.{◌≡◌, ◌∙◌, ◌++◌, ◌≤◌, ◌<◌, ℕ, suc, Bool, true, false, List, [], ◌∷◌, ap, arith, filter, inl, inr, length, map, not, subst, sym}
-use Rattle.std.specs.Prelude.{bytes_eq, codes}
-use Rattle.std.proofs.lemmas.Bool.{not-true, not_from_false}
+use Rattle.std.proofs.Common.{◌≡◌, ◌∙◌, ◌++◌, ◌≤◌, ◌<◌, ℕ, suc, true, List, [], ap, arith, filter, inl, inr, length, map, not, subst, sym}
+use Rattle.std.specs.Prelude.{bytes_eq}
 use Rattle.std.proofs.lemmas.List.{map-append}
 use Rattle.std.proofs.lemmas.Slice.Eq.{bytes_eq-Decides}
 use Rattle.basics.specs.Members.{AreDistinct, Has}
 use Rattle.basics.proofs.Each.{all_has}
-use Rattle.basics.proofs.Membership.{has-append_cases, has-append_left, has-append_right, has-filter, has-filter_back, has-map, has-map_back}
+use Rattle.basics.proofs.Membership.{has-map, has-map_back}
 use Rattle.std.specs.List.{AllByRecursion}
-use Rattle.dep_atom.specs.Ids.{IsId, id_text}
+use Rattle.dep_atom.specs.Ids.{IsId}
 use Rattle.dep_atom.specs.declared.package.PackageId.{PackageId}
 use Rattle.dep_atom.proofs.Joined.{ComesApart}
 use Rattle.pkg_state.specs.Package.{Package, line_of}
 use Rattle.pkg_state.proofs.Lines.{one_on_line}
-use Rattle.vdb_text.specs.Files.{record_path}
-use Rattle.vdb_text.proofs.Packages.{OneSpelling, one_id}
+use Rattle.vdb_text.proofs.Packages.{OneSpelling}
 use Rattle.plan_law.specs.Accepted.{IsAccepted}
 use Rattle.plan_law.specs.Lives.{ComesBefore, Life, Moment, StandsBefore, commit, never, opening}
-use Rattle.plan_law.specs.Plans.{Group, Removal, WaitsForEarlier, after, changed, clears, group_at, removed_line}
+use Rattle.plan_law.specs.Plans.{Group, Removal, WaitsForEarlier, after, clears, group_at, removed_line}
 use Rattle.plan_law.specs.Sound.{IsSound}
 use Rattle.plan_law.proofs.Closed.{HasCome, IsAlive}
 use Rattle.plan_law.proofs.Members.{passes_some, some_passes}
@@ -28,53 +26,18 @@ use Rattle.database_law.specs.Step.{Change, IsAfter}
 use Rattle.commit_law.specs.Commits.{IsOf}
 use Rattle.commit_law.specs.Lit.{lit, packages_of}
 use Rattle.commit_law.proofs.Members.{AreSame}
+use Rattle.commit_law.proofs.Whole.{one_change}
 use Rattle.package_law.proofs.Places.{distinct_front}
 use Rattle.exchange_make.specs.Keys.{folder_of}
+use Rattle.exchange_make.proofs.Once.{one_of_text}
 use Rattle.exchange_make.proofs.Zips.{distinct_by}
 use Rattle.plan_sound.proofs.Beginnings.{after_push, below, below_less, less_below, runs_below}
 
 abbrev pub AcceptedAreSound : Type 0
 AcceptedAreSound = (plan : List Group) (start : List Package) → WaitsForEarlier plan → IsAccepted plan start → IsSound plan start
 
--- ids with one text are one
-one_of_text : ComesApart → OneSpelling → (a b : PackageId) → IsId a → IsId b → id_text a ≡ id_text b → a ≡ b
-unfolding record_path
-one_of_text comes spells a b is also e = one_id comes spells a b [] [] is also (ap (λ (t : List ℕ). codes "var/db/pkg/" ++ (t ++ (47 ∷ []))) e)
-
--- ---- what a change leaves
-
-abbrev stays_on : Group → Package → Bool
-stays_on g p = not (clears g (line_of p.facts))
-
 abbrev lit_of : List (List ℕ) → Installed → Package
 lit_of flags p = lit flags p.package_is
-
--- a change leaves the packages that its group does
-pub one_change : (flags : List (List ℕ)) (g : Group) (c : Change) (ps mid : List Installed) (s : List Package) → IsOf flags g c → IsAfter ps c.gone c.added mid → AreSame s (packages_of flags ps) → AreSame (changed g s) (packages_of flags mid)
-one_change flags g c ps mid s of step same p = (forth, back) where
-  came : (x : Installed) → Has c.added x → Has (packages_of flags mid) (lit flags x.package_is)
-  came x h = has-map (lit_of flags) mid x ((step.members x).1 (inr h))
-
-  forth : Has (changed g s) p → Has (packages_of flags mid) p
-  forth h = elim (has-append_cases g.additions (filter (stays_on g) s) p h) [
-    | inl added ↦ (let k = has-map_back (lit_of flags) c.added p (subst (λ (l : List Package). Has l p) (sym of.comes) added) in
-        subst (λ (x : Package). Has (packages_of flags mid) x) k.2 (came k.0 k.1))
-    | inr left ↦ (let m = has-filter_back (stays_on g) s p left in
-        let k = has-map_back (lit_of flags) ps p ((same p).0 m.0) in
-        let stays : c.gone k.0 ≡ false = of.leaves k.0 ∙ ap (λ (x : Package). clears g (line_of x.facts)) k.2 ∙ not-true (clears g (line_of p.facts)) m.1 in
-        subst (λ (x : Package). Has (packages_of flags mid) x) k.2 (has-map (lit_of flags) mid k.0 ((step.members k.0).1 (inl (k.1, stays)))))
-  ]
-
-  back : Has (packages_of flags mid) p → Has (changed g s) p
-  back h =
-      let k = has-map_back (lit_of flags) mid p h in
-      elim ((step.members k.0).0 k.1) [
-        | inl stays ↦ (let there = (same p).1 (subst (λ (x : Package). Has (packages_of flags ps) x) k.2 (has-map (lit_of flags) ps k.0 stays.0)) in
-            let goes_on : clears g (line_of p.facts) ≡ false = ap (λ (x : Package). clears g (line_of x.facts)) (sym k.2) ∙ sym (of.leaves k.0) ∙ stays.1 in
-            has-append_right g.additions (filter (stays_on g) s) p (has-filter (stays_on g) s p there (not_from_false (clears g (line_of p.facts)) goes_on)))
-        | inr added ↦ has-append_left g.additions (filter (stays_on g) s) p
-            (subst (λ (l : List Package). Has l p) of.comes (subst (λ (x : Package). Has (packages_of flags c.added) x) k.2 (has-map (lit_of flags) c.added k.0 added)))
-      ]
 
 -- ---- who is there before the group at a place
 

@@ -1,7 +1,7 @@
 mod Forms
 mod Gathered
 mod Once
-mod Pieces
+pub mod Pieces
 mod Reached
 mod Readers
 mod Runs

@@ -17,7 +17,7 @@ use Rattle.plan_text.proofs.Steps.{values-snoc}
 abbrev text_of : List LineValue → List ℕ
 text_of ls = flat_map ended ls
 
-joined : (w : List ℕ) (ws : List (List ℕ)) → join_with_byte 32 (w ∷ ws) ≡ w ++ flat_map spaced ws
+pub joined : (w : List ℕ) (ws : List (List ℕ)) → join_with_byte 32 (w ∷ ws) ≡ w ++ flat_map spaced ws
 joined w [] = sym (append-nil w)
 joined w (v ∷ ws) = ap (λ l. w ++ (32 ∷ l)) (joined v ws)
 

@@ -1,7 +1,7 @@
 -- What the words of a line are, from what was found of each.
 use Rattle.std.specs.Prelude.{map}
 use Rattle.std.specs.List.{AllByRecursion}
-use Rattle.std.proofs.Common.{◌≡◌, ◌∙◌, ◌<◌, ◌⊎◌, ℕ, zero, suc, Bool, true, false, List, [], ◌∷◌, Some, ap, arith, get_or, inl, inr, length, refl, subst, sym}
+use Rattle.std.proofs.Common.{◌≡◌, ◌∙◌, ◌⊎◌, ℕ, Bool, true, false, List, ◌∷◌, Some, ap, inl, inr, refl, subst, sym}
 use Rattle.dep_atom.specs.Atoms.{IsAtomValue}
 use Rattle.dep_atom.specs.Text.{value_text}
 use Rattle.dep_atom.specs.Values.{AtomValue, atom_value}
@@ -19,12 +19,6 @@ use Rattle.profile_read.specs.declared.fault.LineFault.{LineFault}
 use Rattle.profile_read.specs.declared.fault.LineFault.TheVariants.{Memory, NoAtom, NoChange}
 use Rattle.profile_read.specs.declared.item.Entry.{Entry}
 use Rattle.profile_read.specs.declared.item.Form.TheVariants.{Rules}
-
--- each of the words has what all have
-pub each_at : (P : List ℕ → Type 0) (ws : List Word) (i : ℕ) (d : Word) → i < length ws → AllByRecursion P (texts (map spot ws)) → P (get_or ws i d).text.now
-each_at P [] i d lt all = absurd (omega (arith, lt))
-each_at P (w ∷ ws) zero d lt all = all.0
-each_at P (w ∷ ws) (suc i) d lt all = each_at P ws i d (omega (arith, lt)) all.1
 
 pub untrue : (b : Bool) → b ≡ false → b ≡ true → ⊥
 untrue b off on = let bad : false ≡ true = sym off ∙ on in absurd (cc bad)

@@ -39,14 +39,14 @@ flag_set ws set are = record { rising = are.rising; names = all_by_has IsFlag se
 
 -- ---- trees whose equals operators are bound
 
-slot_again : (s : SlotPart) → without_equals (without_equals s) ≡ without_equals s
+pub slot_again : (s : SlotPart) → without_equals (without_equals s) ≡ without_equals s
 slot_again Free = refl
 slot_again Star = refl
 slot_again Equals = refl
 slot_again (Given slot None equals) = refl
 slot_again (Given slot (Some subslot) equals) = refl
 
-slot_kept : (s : SlotPart) → IsSlotForm s → IsSlotForm (without_equals s)
+pub slot_kept : (s : SlotPart) → IsSlotForm s → IsSlotForm (without_equals s)
 slot_kept Free h = h
 slot_kept Star h = h
 slot_kept Equals h = h

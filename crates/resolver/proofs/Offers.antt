@@ -32,7 +32,7 @@ offer_plain o kept varied keep p e = kept p e
 offer_plain o kept varied absent p e = absurd (let bad : ◌≡◌ {A = Option Package} None (Some p) = e in cc bad)
 offer_plain o kept varied (variant i) p e = varied p (got_has o.variants.items i p e)
 
-nothing_offered : (v : Value) (p : Package) → package_of no_offer v ≡ Some p → ⊥
+pub nothing_offered : (v : Value) (p : Package) → package_of no_offer v ≡ Some p → ⊥
 nothing_offered keep p e = let bad : ◌≡◌ {A = Option Package} None (Some p) = e in cc bad
 nothing_offered absent p e = let bad : ◌≡◌ {A = Option Package} None (Some p) = e in cc bad
 nothing_offered (variant i) p e = let bad : ◌≡◌ {A = Option Package} None (Some p) = e in cc bad

@@ -1,18 +1,15 @@
 -- The line of an addition, piece by piece.
-use Rattle.std.proofs.Common.{◌≡◌, ◌∙◌, ◌++◌, ℕ, List, [], ◌∷◌, ap, append-nil, append_assoc, sym}
+use Rattle.std.proofs.Common.{◌≡◌, ◌∙◌, ◌++◌, ℕ, List, [], ◌∷◌, ap, append_assoc, sym}
 use Rattle.std.specs.Prelude.{codes}
-use Rattle.std.specs.List.{flat_map, join_with_byte}
+use Rattle.std.specs.List.{flat_map}
 use Rattle.pkg_state.specs.Package.{Package}
 use Rattle.plan_text.specs.Printed.{spaced}
 use Rattle.plan_text.specs.Words.{addition_word}
+use Rattle.plan_text.proofs.Pieces.{joined}
 use Rattle.dep_atom.specs.Ids.{id_text}
 use Rattle.single_plan.specs.Lined.{line_begun}
 use Rattle.single_plan.specs.Order.{enabled_of, entry_of, text_of}
 use Rattle.single_plan.specs.declared.change.Change.TheVariants as changes
-
-joined : (w : List ℕ) (ws : List (List ℕ)) → join_with_byte 32 (w ∷ ws) ≡ w ++ flat_map spaced ws
-joined w [] = sym (append-nil w)
-joined w (v ∷ ws) = ap (λ l. w ++ (32 ∷ l)) (joined v ws)
 
 cut : (a b c d : List ℕ) → (((a ++ (58 ∷ b)) ++ (47 ∷ [])) ++ c) ++ d ≡ (a ++ (58 ∷ (b ++ (47 ∷ c)))) ++ d
 cut a b c d = ap (λ l. l ++ d) (append_assoc (a ++ (58 ∷ b)) (47 ∷ []) c ∙ append_assoc a (58 ∷ b) (47 ∷ c))

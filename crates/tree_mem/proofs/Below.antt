@@ -18,14 +18,14 @@ use Rattle.basics.specs.Members.{Has}
 use Rattle.file_tree.specs.Disk.{HasBelow}
 use Rattle.file_tree.specs.Paths.{is_below}
 use Rattle.tree_mem.specs.Items.{Item, path_cmp, paths, held, front, AllBelow, AllAbove, NoneBelow, IsRising, GoesAt, StandsAt, StartsAt}
-use Rattle.tree_mem.proofs.Order.{AllBelow-front, AllAbove-back, less-irrefl, less-trans, same_bytes, same_path}
+use Rattle.tree_mem.proofs.Order.{AllBelow-front, AllAbove-back, less-irrefl, less-trans, same_path}
 use Rattle.tree_mem.proofs.Held.{around, held-found, held-skip, stands}
-use Rattle.basics.proofs.Texts.{bytes_eq-same}
+use Rattle.basics.proofs.Texts.{bytes_eq-same, same_text}
 use Rattle.basics.proofs.Membership.{contains-from_has, has-from_contains}
 
 -- a text that begins with another is that text and a rest
 pub parts : (q x : List ℕ) → starts_with nat_eq q x ≡ true → q ≡ x ++ drop (length x) q
-parts q x h = sym (take-append-drop (length x) q) ∙ ap (λ (y : List ℕ). y ++ drop (length x) q) (sym (same_bytes x (take (length x) q) h))
+parts q x h = sym (take-append-drop (length x) q) ∙ ap (λ (y : List ℕ). y ++ drop (length x) q) (sym (same_text x (take (length x) q) h))
 
 pub starts_with-append : (x r : List ℕ) → starts_with nat_eq (x ++ r) x ≡ true
 starts_with-append x r = subst (λ (y : List ℕ). bytes_eq x y ≡ true) (sym (take-whole x r)) (bytes_eq-same x)
@@ -75,7 +75,7 @@ above-held p q [] a s = cc
 above-held p q (e ∷ es) a s = go (bytes_eq e.0 q) refl s (above-held p q es a.1)
   where
     go : (b : Bool) → bytes_eq e.0 q ≡ b → IsSome (cond b (Some e.1) (held es q)) → (IsSome (held es q) → path_cmp p q ≡ Less) → path_cmp p q ≡ Less
-    go true h s rec = subst (λ (y : List ℕ). path_cmp p y ≡ Less) (same_bytes e.0 q h) a.0
+    go true h s rec = subst (λ (y : List ℕ). path_cmp p y ≡ Less) (same_text e.0 q h) a.0
     go false h s rec = rec s
 
 -- where the first item doesn't begin with the text, no path that begins with it holds anything
@@ -84,7 +84,7 @@ none_begins x r [] n up first s = cc
 none_begins x r (e ∷ es) n up first s = go (bytes_eq e.0 (x ++ r)) refl s
   where
     go : (b : Bool) → bytes_eq e.0 (x ++ r) ≡ b → IsSome (cond b (Some e.1) (held es (x ++ r))) → ⊥
-    go true h s = let b = subst (λ (y : List ℕ). starts_with nat_eq y x ≡ true) (sym (same_bytes e.0 (x ++ r) h)) (starts_with-append x r) in let f = first e es refl in cc
+    go true h s = let b = subst (λ (y : List ℕ). starts_with nat_eq y x ≡ true) (sym (same_text e.0 (x ++ r) h)) (starts_with-append x r) in let f = first e es refl in cc
     go false h s =
         let t = between x e.0 r n.0 (above-held e.0 (x ++ r) es up.0 s) in
         let b = subst (λ (y : List ℕ). starts_with nat_eq y x ≡ true) (sym t.1) (starts_with-append x t.0) in
@@ -169,7 +169,7 @@ front-has x r [] n up s = cc
 front-has x r (e ∷ es) n up s = go (starts_with nat_eq e.0 x) refl (front-has x r es n.1 up.1)
   where
     pick : (b : Bool) → bytes_eq e.0 (x ++ r) ≡ b → IsSome (cond b (Some e.1) (held es (x ++ r))) → (IsSome (held es (x ++ r)) → Has (front x es) (x ++ r)) → (e.0 ≡ x ++ r) ⊎ Has (front x es) (x ++ r)
-    pick true h s rec = inl (same_bytes e.0 (x ++ r) h)
+    pick true h s rec = inl (same_text e.0 (x ++ r) h)
     pick false h s rec = inr (rec s)
 
     go : (b : Bool) → starts_with nat_eq e.0 x ≡ b → (IsSome (held es (x ++ r)) → Has (front x es) (x ++ r)) → Has (cond b (e.0 ∷ front x es) []) (x ++ r)

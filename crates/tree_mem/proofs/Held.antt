@@ -11,8 +11,8 @@ use Rattle.basics.specs.Members.{AreDistinct, Has}
 use Rattle.file_tree.specs.Thing.{Thing}
 use Rattle.file_tree.specs.Disk.{with_path}
 use Rattle.tree_mem.specs.Items.{Item, path_cmp, paths, held, AllBelow, AllAbove, IsRising, StandsAt, GoesAt}
-use Rattle.tree_mem.proofs.Order.{less-irrefl, same_bytes, bytes_eq-less, bytes_eq-greater, AllBelow-front, AllAbove-back, IsRising-insert, IsRising-without}
-use Rattle.basics.proofs.Texts.{bytes_eq-same}
+use Rattle.tree_mem.proofs.Order.{less-irrefl, bytes_eq-less, bytes_eq-greater, AllBelow-front, AllAbove-back, IsRising-insert, IsRising-without}
+use Rattle.basics.proofs.Texts.{bytes_eq-same, same_text}
 use Rattle.basics.proofs.Membership.{contains-from_has, has-from_contains}
 
 -- two choices of which at most one applies, in either order
@@ -29,7 +29,7 @@ cond-twice false x y z = refl
 
 pub apart : (p q r : List ℕ) → path_cmp p q ≡ Less → bytes_eq p r ≡ true → bytes_eq q r ≡ true → ⊥
 apart p q r h a b =
-    let same : q ≡ p = same_bytes q r b ∙ sym (same_bytes p r a) in
+    let same : q ≡ p = same_text q r b ∙ sym (same_text p r a) in
     less-irrefl p (subst (λ (y : List ℕ). path_cmp p y ≡ Less) same h)
 
 pub held-insert : (xs ys : List Item) (p : List ℕ) (t : Thing) (q : List ℕ) → AllBelow p xs → held (xs ++ (p, t) ∷ ys) q ≡ cond (bytes_eq p q) (Some t) (held (xs ++ ys) q)
@@ -51,7 +51,7 @@ pub held-without : (xs ys : List Item) (p : List ℕ) (t : Thing) (q : List ℕ)
 held-without xs ys p t q b a = go (bytes_eq p q) refl
   where
     go : (c : Bool) → bytes_eq p q ≡ c → held (xs ++ ys) q ≡ cond c None (held (xs ++ (p, t) ∷ ys) q)
-    go true e = subst (λ (r : List ℕ). held (xs ++ ys) r ≡ None) (same_bytes p q e) (held-skip p xs ys b ∙ held-above p ys a)
+    go true e = subst (λ (r : List ℕ). held (xs ++ ys) r ≡ None) (same_text p q e) (held-skip p xs ys b ∙ held-above p ys a)
     go false e = sym (held-insert xs ys p t q b ∙ ap (λ (c : Bool). cond c (Some t) (held (xs ++ ys) q)) e)
 
 pub held-at : (xs ys : List Item) (p : List ℕ) (t : Thing) → AllBelow p xs → held (xs ++ (p, t) ∷ ys) p ≡ Some t
@@ -111,7 +111,7 @@ IsRising-removed es p at r s = IsRising-without (take at es) (drop (suc at) es) 
 -- the item in the middle has the path
 pub stands : (es : List Item) (m : ℕ) (e : Item) (p : List ℕ) → m < length es → e ≡ get_or es m e → path_cmp e.0 p ≡ Equal → StandsAt es p m
 stands es m e p lt at h =
-    let same : e.0 ≡ p = same_bytes e.0 p (sym (is_eq-slice_cmp e.0 p) ∙ ap is_eq h) in
+    let same : e.0 ≡ p = same_text e.0 p (sym (is_eq-slice_cmp e.0 p) ∙ ap is_eq h) in
     record {
       thing = e.1;
       in_range = lt;
@@ -127,7 +127,7 @@ pub held-cleared : (m : List ℕ → Option Thing) (p : List ℕ) → m p ≡ No
 held-cleared m p h = λ i q. go (bytes_eq p q) q refl i
   where
     go : (c : Bool) (q : List ℕ) → bytes_eq p q ≡ c → m q ≡ cond c None (m q)
-    go true q e = subst (λ (r : List ℕ). m r ≡ None) (same_bytes p q e) h
+    go true q e = subst (λ (r : List ℕ). m r ≡ None) (same_text p q e) h
     go false q e = refl
 
 -- the item at the place of a path is what the path holds
@@ -146,7 +146,7 @@ held-from_has (e ∷ es) p x d (inl same) = subst (λ (y : Item). held (e ∷ es
 held-from_has (e ∷ es) p x d (inr h) = go (bytes_eq e.0 p) refl (held-from_has es p x d.1 h)
   where
     go : (b : Bool) → bytes_eq e.0 p ≡ b → held es p ≡ Some x → cond b (Some e.1) (held es p) ≡ Some x
-    go true eq rec = absurd (d.0 (subst (Has (paths es)) (sym (same_bytes e.0 p eq)) (Has-paths es p x h)))
+    go true eq rec = absurd (d.0 (subst (Has (paths es)) (sym (same_text e.0 p eq)) (Has-paths es p x h)))
     go false eq rec = rec
 
 pub has-from_held : (es : List Item) (p : List ℕ) (x : Thing) → held es p ≡ Some x → Has es (p, x)
@@ -154,7 +154,7 @@ has-from_held [] p x h = cc
 has-from_held (e ∷ es) p x h = go (bytes_eq e.0 p) refl h (has-from_held es p x)
   where
     go : (b : Bool) → bytes_eq e.0 p ≡ b → cond b (Some e.1) (held es p) ≡ Some x → (held es p ≡ Some x → Has es (p, x)) → Has (e ∷ es) (p, x)
-    go true eq h rec = let same = same_bytes e.0 p eq in let thing : e.1 ≡ x = cc in inl (λ i. (same i, thing i))
+    go true eq h rec = let same = same_text e.0 p eq in let thing : e.1 ≡ x = cc in inl (λ i. (same i, thing i))
     go false eq h rec = inr (rec h)
 
 AllAbove-fresh : (p : List ℕ) (es : List Item) → AllAbove p es → Has (paths es) p → ⊥

@@ -1,11 +1,10 @@
 -- The byte order of paths, and lists of items in that order.
-use Rattle.std.proofs.Common.{◌≡◌, ◌∙◌, ℕ, ◌+◌, ◌<◌, suc, true, false, List, [], ◌∷◌, ◌++◌, length, take, drop, get_or, sym, ap, subst}
+use Rattle.std.proofs.Common.{◌≡◌, ◌∙◌, ℕ, ◌+◌, ◌<◌, suc, false, List, [], ◌∷◌, ◌++◌, length, take, drop, get_or, sym, ap, subst}
 use Rattle.std.specs.Prelude.{bytes_eq}
 use Rattle.std.specs.declared.cmp.Ordering.TheVariants.{Less, Equal, Greater}
 use Rattle.std.specs.Ordering.{is_eq, ordering_reverse}
 use Rattle.std.proofs.lemmas.Cmp.{nat_list_cmp_total, tied_itself}
 use Rattle.std.proofs.lemmas.Map.Text.{is_eq-slice_cmp}
-use Rattle.std.proofs.lemmas.Slice.Eq.{bytes_eq-Decides}
 use Rattle.std.proofs.lemmas.List.{take_more}
 use Rattle.std.proofs.Math.Seq.{drop-cons, split_at}
 use Rattle.tree_mem.specs.Items.{Item, path_cmp, AllBelow, AllAbove, IsRising}
@@ -25,9 +24,6 @@ bytes_eq-less p q h = sym (is_eq-slice_cmp p q) ∙ ap is_eq h
 
 pub bytes_eq-greater : (p q : List ℕ) → path_cmp p q ≡ Less → bytes_eq q p ≡ false
 bytes_eq-greater p q h = sym (is_eq-slice_cmp q p) ∙ ap is_eq (nat_list_cmp_total.antisymm q p ∙ ap ordering_reverse h)
-
-pub same_bytes : (p q : List ℕ) → bytes_eq p q ≡ true → p ≡ q
-same_bytes p q h = (bytes_eq-Decides p q).0 h
 
 pub AllAbove-trans : (p q : List ℕ) (es : List Item) → path_cmp p q ≡ Less → AllAbove q es → AllAbove p es
 AllAbove-trans p q [] h a = tt

@@ -10,9 +10,8 @@ use Rattle.tree_mem.specs.declared.fault.MemFault.{MemFault}
 use Rattle.tree_mem.specs.declared.fault.MemFault.TheVariants.{Twice, Memory}
 use Rattle.tree_mem.specs.Fault.{IsFaultAt, IsMemFault}
 use Rattle.tree_mem.specs.Items.{Item, held, paths}
-use Rattle.tree_mem.proofs.Order.{same_bytes}
 use Rattle.tree_mem.proofs.Held.{cond-swap}
-use Rattle.basics.proofs.Texts.{bytes_eq-same}
+use Rattle.basics.proofs.Texts.{bytes_eq-same, same_text}
 use Rattle.basics.proofs.Membership.{contains-from_has, distinct-push}
 
 pub paths-append : (xs ys : List Item) → paths (xs ++ ys) ≡ paths xs ++ paths ys
@@ -33,7 +32,7 @@ has-of_held [] p s = cc
 has-of_held (e ∷ es) p s = go (bytes_eq e.0 p) refl s (has-of_held es p)
   where
     go : (b : Bool) → bytes_eq e.0 p ≡ b → IsSome (cond b (Some e.1) (held es p)) → (IsSome (held es p) → Has (paths es) p) → (e.0 ≡ p) ⊎ Has (paths es) p
-    go true eq s rec = inl (same_bytes e.0 p eq)
+    go true eq s rec = inl (same_text e.0 p eq)
     go false eq s rec = inr (rec s)
 
 pub distinct-item : (done : List Item) (e : Item) → AreDistinct (paths done) → held done e.0 ≡ None → AreDistinct (paths (done ++ e ∷ []))
@@ -54,7 +53,7 @@ held-item done e none = λ i q. at done q none i
         go false h none rec =
             ap (cond (bytes_eq d.0 q) (Some d.1)) (rec none)
             ∙ cond-swap (bytes_eq d.0 q) (bytes_eq e.0 q) (Some d.1) (Some e.1) (held done q)
-            (λ a b. let same : d.0 ≡ e.0 = same_bytes d.0 q a ∙ sym (same_bytes e.0 q b) in
+            (λ a b. let same : d.0 ≡ e.0 = same_text d.0 q a ∙ sym (same_text e.0 q b) in
             let t : bytes_eq d.0 e.0 ≡ true = subst (λ (y : List ℕ). bytes_eq d.0 y ≡ true) same (bytes_eq-same d.0) in cc)
 
 pub front-item : (all done : List Item) (e : Item) → done ≡ take (length done) all → length done < length all → e ≡ get_or all (length done) e → done ++ e ∷ [] ≡ take (length (done ++ e ∷ [])) all

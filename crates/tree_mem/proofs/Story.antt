@@ -4,13 +4,13 @@ use Rattle.std.proofs.Common.{◌≡◌, ◌∙◌, ℕ, Bool, true, false, cond
 use Rattle.std.proofs.lemmas.List.{reverse-append}
 use Rattle.std.proofs.lemmas.Map.Text.{is_eq-slice_cmp}
 use Rattle.std.specs.BTreeMap.{is_at}
+use Rattle.basics.proofs.Texts.{same_text}
 use Rattle.file_tree.specs.Thing.{Thing}
 use Rattle.file_tree.specs.Disk.{Map, Disk, Story, next, settled, with_path, write}
 use Rattle.tree_mem.specs.declared.record.Change.{Change}
 use Rattle.tree_mem.specs.declared.record.Change.TheVariants.{Wrote, Touched}
 use Rattle.tree_mem.specs.Items.{Item, held, path_cmp}
 use Rattle.tree_mem.specs.Record.{disk_of, earlier, is_among, story_of, undo}
-use Rattle.tree_mem.proofs.Order.{same_bytes}
 use Rattle.tree_mem.proofs.Held.{cond-twice}
 
 reverse-push : (cs : List Change) (c : Change) → reverse (cs ++ c ∷ []) ≡ c ∷ reverse cs
@@ -28,7 +28,7 @@ stays : {A : Type 0} (f : List ℕ → A) (p q : List ℕ) → cond (bytes_eq p 
 stays f p q = go (bytes_eq p q) refl
   where
     go : (b : Bool) → bytes_eq p q ≡ b → cond b (f p) (f q) ≡ f q
-    go true e = ap f (same_bytes p q e)
+    go true e = ap f (same_text p q e)
     go false e = refl
 
 -- the value of a function at one point, put back

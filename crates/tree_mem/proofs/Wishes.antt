@@ -4,9 +4,9 @@ use Rattle.std.specs.Prelude.{bytes_eq}
 use Rattle.std.proofs.lemmas.List.{append-nil, take-append-drop, take_more}
 use Rattle.std.proofs.Math.Seq.{split_at}
 use Rattle.std.proofs.Math.ListN.{drop_of_length-le}
+use Rattle.basics.proofs.Texts.{same_text}
 use Rattle.file_tree.specs.Disk.{Map, with_path}
 use Rattle.tree_mem.specs.Image.{AllTouched, IsFirstUntouched, Wish, chosen}
-use Rattle.tree_mem.proofs.Order.{same_bytes}
 
 touched-push : (f : List ℕ → Bool) (ws : List Wish) (w : Wish) → AllTouched f ws → f w.0 ≡ true → AllTouched f (ws ++ w ∷ [])
 touched-push f [] w a h = (h, tt)
@@ -37,5 +37,5 @@ chosen-apart f [] m q a h = λ i. m q
 chosen-apart f (w ∷ ws) m q a h = chosen-apart f ws (with_path m w.0 w.1) q a.1 h ∙ go (bytes_eq w.0 q) (λ i. bytes_eq w.0 q)
   where
     go : (b : Bool) → bytes_eq w.0 q ≡ b → cond b w.1 (m q) ≡ m q
-    go true e = let same : f w.0 ≡ f q = ap f (same_bytes w.0 q e) in let t = a.0 in cc
+    go true e = let same : f w.0 ≡ f q = ap f (same_text w.0 q e) in let t = a.0 in cc
     go false e = λ i. m q

@@ -14,7 +14,7 @@ use Rattle.std.proofs.lemmas.Map.Text.{is_eq-slice_cmp}
 use Rattle.std.proofs.lemmas.Slice.Eq.{bytes_eq-Decides}
 use Rattle.basics.specs.Members.{AreDistinct, Has}
 use Rattle.basics.proofs.Membership.{has-at, has-map}
-use Rattle.basics.proofs.Tests.{or-false}
+use Rattle.basics.proofs.Tests.{or-false, or-none}
 use Rattle.basics.proofs.Texts.{bytes_eq-apart, bytes_eq-same, bytes_eq-swap}
 use Rattle.pms_names.specs.Flags.{IsRising, byte_order, has}
 use Rattle.pkg_state.specs.Package.{Package, line_of, lines_of}
@@ -52,10 +52,6 @@ installed_more : (ps : List Package) (p : Package) (q : List ℕ) (b : Bool) →
 installed_more ps p q b e =
     find-append (λ (r : Package). bytes_eq q (line_of r.facts)) ps (p ∷ [])
     ∙ ap (λ (c : Bool). option_or (on_line ps q) (cond c (Some p) None)) e
-
-or_none : (o : Option Package) → option_or o None ≡ o
-or_none None = refl
-or_none (Some p) = refl
 
 -- the test of another line
 here : (line q : List ℕ) (p : Package) (b : Bool) → line ≡ line_of p.facts → bytes_eq line q ≡ b → bytes_eq q (line_of p.facts) ≡ b
@@ -132,7 +128,7 @@ put_installed before p line old new put is free one no_variants back rising fill
         )
     | inr n ↦ ap offer_found (back q ∙ ap (λ (b : Bool). cond b (Some put) (found old q)) n)
         ∙ (filled.each q ∙ ap (λ (o : Option Package). pair o [])
-        (sym (installed_more before p q false (here line q p false is n) ∙ or_none (on_line before q))))
+        (sym (installed_more before p q false (here line q p false is n) ∙ or-none (on_line before q))))
   ]
 
 -- of packages on lines of their own none stands on the line of a later one

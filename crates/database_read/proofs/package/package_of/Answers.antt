@@ -1,6 +1,6 @@
 use Rattle.std.proofs.Common.{◌∙◌, ◌++◌, ◌∷◌, List, None, Some, ap, lit<, sym, ℕ}
 use Rattle.std.proofs.lemmas.Str.Pattern.{split_parts}
-use Rattle.database_read.proofs.Owners.{at_slash}
+use Rattle.dep_atom.proofs.Slashes.{at_slash}
 use Rattle.database_read.proofs.package.package_of.Goals as goal
 
 pub returns-in_default : goal.returns-in_default

@@ -1,8 +1,9 @@
 use Rattle.std.proofs.Common.{◌∙◌, ◌<◌, arith, length}
 use Rattle.std.proofs.lemmas.Result.{err_from_is_err_and}
+use Rattle.basics.proofs.Membership.{has-at}
 use Rattle.build_pool.specs.Pool.{PoolRose}
 use Rattle.image_build.specs.Images.{IsBuilt, IsPastLimit}
-use Rattle.plan_run.proofs.Ordered.{alike_then, brings_more, built_before, has_at, images_more, order_stops, past_before, rose_before}
+use Rattle.plan_run.proofs.Ordered.{alike_then, brings_more, built_before, images_more, order_stops, past_before, rose_before}
 use Rattle.plan_run.proofs.newcomers.newcomers_of.Goals as goal
 
 pub returns-in_err-image-clause-stops : goal.returns-in_err-image-clause-stops
@@ -14,7 +15,7 @@ returns-in_err-image-clause-stops g c =
     let old = c.args.pool.now in
     let mid = c.loop-place.pool in
     let new = c.image_of.new.pool in
-    let has = has_at c.args.orders.now c.loop-place.place o (omega (arith, c.loop-place-test.true)) c.index-orders-place.is in
+    let has = has-at c.args.orders.now c.loop-place.place o (omega (arith, c.loop-place-test.true)) c.index-orders-place.is in
     rw (p.1, p.2)
     (order_stops (IsPastLimit B.tells B.told mid.resting) (IsPastLimit B.tells B.told old.resting) (PoolRose B.faults mid new) (PoolRose B.faults old new)
     (λ x past. past_before B.told B.tells old.resting mid.resting x inv.2 past) (λ rose. rose_before B.faults old mid new inv.6 rose)

@@ -1,7 +1,7 @@
 use Rattle.std.proofs.Common.{inr, refl, subst, sym}
+use Rattle.dep_group.proofs.WordLemmas.{each_at}
 use Rattle.profile_stack.proofs.Followed.{none_of}
 use Rattle.use_flags.specs.Changes.{IsChange}
-use Rattle.profile_read.proofs.WordLemmas.{each_at}
 use Rattle.profile_read.proofs.words.changes_of.Goals as goal
 
 pub returns-in_default-clause-fault : goal.returns-in_default-clause-fault
