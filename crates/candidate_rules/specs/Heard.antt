@@ -1,6 +1,6 @@
 -- What is remembered of words about keywords.
 use denote.Ref.{Bor}
-use Rattle.std.specs.Prelude.{◌≡◌, ℕ, Bool, false, List, Option, None, Some, if◌then◌else◌, is_some}
+use Rattle.std.specs.Prelude.{◌≡◌, ℕ, Bool, false, List, Option, None, Some, if◌then◌else◌, is_some, ⊤}
 use Rattle.std.specs.BTreeMap.{BTreeMap, get_by}
 use Rattle.std.specs.Cmp.Lexicographic.{slice_cmp}
 use Rattle.std.specs.List.{find}
@@ -29,5 +29,5 @@ abbrev pub Remembers : Said → List (List ℕ) → Type 0
 Remembers said words = (keyword : List ℕ) → told said keyword ≡ heard words keyword
 
 -- the text is in the set
-abbrev pub is_in : BTreeMap (Bor (List ℕ)) (Unit {0}) → List ℕ → Bool
+abbrev pub is_in : BTreeMap (Bor (List ℕ)) ⊤ → List ℕ → Bool
 is_in set text = is_some (get_by (λ k. slice_cmp nat_cmp text k.now) set)

@@ -1,5 +1,5 @@
-ghost use Rattle.std.specs.Prelude.{◌≡◌, ◌⊎◌, ◌++◌, ◌+◌, ◌<◌, ℕ, IfErr, IfOk, List, MatchOption, OnOk};
-ghost use Rattle.std.specs.Prelude.{length, map};
+ghost use Rattle.std.specs.Prelude.{◌≡◌, ◌⊎◌, ◌++◌, ◌+◌, ◌<◌, ℕ, IfErr, IfOk, List};
+ghost use Rattle.std.specs.Prelude.{MatchOption, OnOk, length, map};
 ghost use Rattle.owner_book.specs.declared.limits.TheConstants.{MOST_PATHS};
 ghost use Rattle.contents_text.specs.Contents.{path_of};
 ghost use Rattle.database_law.specs.Database.{IsTidy};

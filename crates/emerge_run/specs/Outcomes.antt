@@ -111,8 +111,8 @@ IsToDo words Image m ps (work.Show text) = IsToShow words m ps (string_bytes tex
 IsToDo words Image m ps (work.Merge ready) =
     IsChoice words Image m ps (group_of ready) (images_of ready)
 
--- the words ask for a merge, and what they choose in what recovery makes of a tree is this group; of
--- a tree that tells nothing only that they ask for one
+-- the words ask for a merge, and what they choose in what recovery makes of a tree is this group;
+-- of a tree that tells nothing only that they ask for one
 pub record IsNamed (words : List (List ℕ)) (tells : Bool) (opening : Map) (g : Group) :
     Type 0 where
   pub asked : Asked

@@ -1,5 +1,5 @@
 -- What the merge of the one group of an accepted plan leaves of a sound tree: such a tree.
-use Rattle.std.specs.Prelude.{◌≡◌, ◌⊎◌, ℕ, List, [], ◌∷◌, IsErrOf, Result, map}
+use Rattle.std.specs.Prelude.{◌≡◌, ◌⊎◌, ℕ, List, [], ◌∷◌, IsErrOf, Result, map, ⊤}
 use Rattle.std.specs.List.{AllByRecursion}
 use Rattle.file_tree.specs.Disk.{Map, Story}
 use Rattle.file_tree.specs.Moments.{Leaves, Since}
@@ -58,7 +58,7 @@ abbrev pub PlansRunSoundly : Type 0
 PlansRunSoundly =
     (flags : List (List ℕ)) (book : Book) (ps : List Installed) (g : Group)
     (newcomers : List Newcomer) (line : List ℕ) (old new : Story) (history : List ℕ)
-    (end : Result (Unit {0}) Stop) →
+    (end : Result ⊤ Stop) →
     IsPlannedFor flags old.now.holds ps book g → g.additions ≡ map package_of newcomers →
     WentFor book ps g newcomers line old new history end →
     RunsSoundly flags ps g old new history end

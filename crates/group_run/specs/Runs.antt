@@ -1,6 +1,6 @@
 -- A run that takes its turns one by one: where it stands between two, and how it ended.
 use Rattle.std.specs.Prelude.{◌≡◌, ℕ, suc, Bool, List, map}
-use Rattle.std.specs.Prelude.{Err, IfErr, OnOk, Result, length, take}
+use Rattle.std.specs.Prelude.{Err, IfErr, OnOk, Result, length, take, ⊤}
 use Rattle.basics.specs.Members.{Has}
 use Rattle.file_tree.specs.Disk.{Map}
 use Rattle.merge_core.specs.Roll.{resting}
@@ -46,4 +46,4 @@ pub record IsOver {A T S : Type 0} (tells : Bool) (opening : Map) (turns : List 
 abbrev pub EndsAt : {T S : Type 0} → Bool → Map → List Turn → List ℕ → List ℕ → Account T S → Stop →
     Type 0
 EndsAt tells opening turns history acknowledged a e =
-    IsOver {A = Unit {0}} tells opening turns history acknowledged (Err e) a
+    IsOver {A = ⊤} tells opening turns history acknowledged (Err e) a

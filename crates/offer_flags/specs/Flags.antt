@@ -36,7 +36,8 @@ after_items facts items flag had =
     fold (λ on changes. has_after changes flag on) had (changes_for facts items)
 
 -- whether a flag that is on or off by default is on behind all that is configured: first the
--- profile's variables count, then its `package.use`, then `make.conf`, then the user's `package.use`
+-- profile's variables count, then its `package.use`, then `make.conf`, then the user's
+-- `package.use`
 abbrev pub is_configured : FlagConfigValue → Facts → List ℕ → Bool → Bool
 is_configured c facts flag on =
     after_items facts c.uses flag (after_words c.conf flag

@@ -27,7 +27,8 @@ abbrev pub changes_by : List FlagWord → List (List ℕ) → List Change
 changes_by words flags = flat_map (change_said words) flags
 
 -- the layers of changes for a package: the two given ones, with those of the items behind each
-abbrev pub layers_of : Facts → List Change → List Item → List Change → List Item → List (List Change)
+abbrev pub layers_of : Facts → List Change → List Item → List Change → List Item →
+    List (List Change)
 layers_of facts defaults profile_uses conf uses =
     (defaults ∷ changes_for facts profile_uses) ++ (conf ∷ changes_for facts uses)
 

@@ -1,5 +1,5 @@
--- What the variables of the configuration say of flags (PMS 5.2.4, 5.3.1): each word of a value says
--- that one flag is on or off, and `-*` says it of all flags of its variable that they are off.
+-- What the variables of the configuration say of flags (PMS 5.2.4, 5.3.1): each word of a value
+-- says that one flag is on or off, and `-*` says it of all flags of its variable that they are off.
 use Rattle.std.specs.Prelude.{◌++◌, ℕ, Bool, ◌||◌, false, List, [], ◌∷◌, Option, None, Some, bytes_eq, codes, drop, filter, fold, if◌then◌else◌, length, map, take, unwrap_or}
 use Rattle.std.specs.List.{flat_map}
 use Rattle.std.specs.Option.{is_none, option_map_or, option_or}
@@ -66,7 +66,8 @@ arch_of files = option_map_or (λ value. value ∷ []) (last_value (codes "ARCH"
 
 -- the variables that are expanded and that USE_EXPAND_IMPLICIT names
 abbrev pub implicit_variables : List FileVars → List (List ℕ)
-implicit_variables files = filter (has (stacked (codes "USE_EXPAND_IMPLICIT") files)) (expanded files)
+implicit_variables files =
+    filter (has (stacked (codes "USE_EXPAND_IMPLICIT") files)) (expanded files)
 
 -- what the words of the variable make that stand over all files
 abbrev pub flags_of : List FileVars → List ℕ → List (List ℕ)

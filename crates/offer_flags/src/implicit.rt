@@ -1,4 +1,5 @@
-ghost use Rattle.std.specs.Prelude.{◌≡◌, ◌↔◌, ◌⊎◌, ◌∷◌, ◌++◌, ℕ, [], true, IfOk, List, OnOk, bytes_eq, filter, map};
+ghost use Rattle.std.specs.Prelude.{◌≡◌, ◌↔◌, ◌⊎◌, ◌∷◌, ◌++◌, ℕ, [], true, IfOk, List, OnOk};
+ghost use Rattle.std.specs.Prelude.{bytes_eq, filter, map};
 ghost use Rattle.pms_names.specs.Flags.{has};
 ghost use Rattle.pms_names.specs.Names.{IsName};
 ghost use Rattle.pms_names.specs.declared.kind.Kind.TheVariants.{Flag as FlagKind};

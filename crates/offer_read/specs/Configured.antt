@@ -87,7 +87,8 @@ pub record IsSetup (m : Map) (s : Setup) : Type 0 where
 
 -- the keyword `~ARCH`, which a line of keywords without words has, where ARCH has a value
 abbrev pub own_keyword : List FileVars → List (List ℕ)
-own_keyword files = option_map_or (λ arch. (codes "~" ++ arch) ∷ []) (last_value (codes "ARCH") files) []
+own_keyword files =
+    option_map_or (λ arch. (codes "~" ++ arch) ∷ []) (last_value (codes "ARCH") files) []
 
 -- the item is one of keywords for some packages
 abbrev pub is_for_some : Item → Bool

@@ -27,7 +27,8 @@ pub(crate) fn accepted_by(
     ensures standing { IfOk result (λ a. a.standing.items ≡
         stacked (codes "ACCEPT_KEYWORDS") files.now) }
     ensures bare { IfOk result (λ a. a.bare.items ≡ own_keyword files.now) }
-    ensures lines { IfOk result (λ a. AllZip IsLineOf (filter is_for_some items.now) a.lines.items) }
+    ensures lines { IfOk result (λ a. AllZip IsLineOf (filter is_for_some items.now)
+        a.lines.items) }
 {
     Ok(Accepted {
         standing: standing(alloc, files)?,

@@ -102,8 +102,8 @@ abbrev pub IsUnchosen : Choices → Asked → NotChosen → Type 0
 IsUnchosen k asked fault = OfUniverse k asked (λ u.
     Tells (installed_of k) (offered_of k) (hidden_of k) asked.update asked.limit u fault)
 
--- the candidates are those of the map's offers; the packages are installed in it, within the limits,
--- go together with the flags on, and no other list tells them
+-- the candidates are those of the map's offers; the packages are installed in it, within the
+-- limits, go together with the flags on, and no other list tells them
 pub record AreChoices (m : Map) (flips : ℕ) (k : Choices) : Type 0 where
   pub offers : AreOffers m flips k.implicit k.candidates k.hidden
   pub opening : HasOpening k.implicit m k.packages

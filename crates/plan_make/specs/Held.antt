@@ -1,5 +1,5 @@
--- The paths that are held for the folders of packages: what a package owns, as it was read before the
--- first group, or as it was brought.
+-- The paths that are held for the folders of packages: what a package owns, as it was read before
+-- the first group, or as it was brought.
 use Rattle.std.specs.Prelude.{◌≡◌, ◌↔◌, ℕ, true, List, [], ◌∷◌, Option, None, Some, Vec, bytes_eq, map, if◌then◌else◌}
 use Rattle.std.specs.BTreeMap.{get_by_text}
 use Rattle.std.specs.Global.{Global}
@@ -45,7 +45,8 @@ holding_all (n ∷ newcomers) (f ∷ files) held =
 abbrev pub held_for : Holdings → List Removal → List (List ℕ)
 held_for held removals = flat_map (λ r. held (id_text r.id)) removals
 
--- these paths are removed: those for the packages that the removals name, but for those of the files
+-- these paths are removed: those for the packages that the removals name, but for those of the
+-- files
 abbrev pub AreHeldRemovals : Holdings → List Removal → List Files → List (List ℕ) → Type 0
 AreHeldRemovals held removals files paths = (q : List ℕ) →
     Has paths q ↔ (Has (held_for held removals) q × ¬ Has (map path_of (all_of files)) q)

@@ -1,4 +1,5 @@
--- What is known of the groups of a plan before the first of them is merged. They are numbered from 1.
+-- What is known of the groups of a plan before the first of them is merged. They are numbered
+-- from 1.
 use Rattle.std.specs.Prelude.{◌≡◌, ◌<◌, ◌∷◌, ℕ, zero, suc, Bool, List, [], Option, None, Some, bytes_eq, length, map, slice_get}
 use Rattle.std.specs.List.{flat_map, list_any}
 use Rattle.build_pool.specs.declared.orders.Order.{Order}
@@ -67,8 +68,8 @@ bytes_of_job job = job.line.items
 abbrev pub removed_keys : List Installed → List Group → Group → List OwnerKey
 removed_keys ps plan g = map (λ r. key_of_id ps plan r.id) g.removals
 
--- what a site is opened for: the groups of the plan behind one that is never begun. With each go the
--- packages that its removals name
+-- what a site is opened for: the groups of the plan behind one that is never begun. With each go
+-- the packages that its removals name
 pub record AreSiteGroups (ps : List Installed) (plan : List Group) (jobs : List Job)
     (groups : List SiteGroup) : Type 0 where
   pub dying : map dying_keys groups ≡ [] ∷ map (removed_keys ps plan) plan

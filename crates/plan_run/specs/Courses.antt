@@ -1,5 +1,5 @@
 -- How the turns of a plan's run went, before its journal is cleared.
-use Rattle.std.specs.Prelude.{◌≡◌, ℕ, suc, Bool, List, [], ◌∷◌, Result, length}
+use Rattle.std.specs.Prelude.{◌≡◌, ℕ, suc, Bool, List, [], ◌∷◌, Result, length, ⊤}
 use Rattle.build_pool.specs.declared.orders.Order.{Order}
 use Rattle.file_tree.specs.Disk.{Map}
 use Rattle.file_tree.specs.declared.objects.Entry.{Entry}
@@ -31,7 +31,7 @@ pub record AreMade (Image : Order → List Entry → Type 0) (plan : List Group)
 -- the run ended so with turns that were made of the plan
 pub record RanPlan {T S : Type 0} (Image : Order → List Entry → Type 0) (plan : List Group)
     (jobs : List Job) (places : Places) (held : Holdings) (tells : Bool) (opening : Map)
-    (history acknowledged : List ℕ) (end : Result (Unit {0}) Stop) (a : Account T S) :
+    (history acknowledged : List ℕ) (end : Result ⊤ Stop) (a : Account T S) :
     Type 0 where
   pub turns : List Turn
   pub are : AreMade Image plan jobs places held turns

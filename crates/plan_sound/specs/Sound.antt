@@ -69,7 +69,7 @@ AnyImage order image = ⊤
 abbrev pub PlanRunsAreSound : Type 0
 PlanRunsAreSound =
     (flags : List (List ℕ)) (book : Book) (ps : List Installed) (plan : List Group)
-    (jobs : List Job) (old new : Story) (history : List ℕ) (end : Result (Unit {0}) Stop) →
+    (jobs : List Job) (old new : Story) (history : List ℕ) (end : Result ⊤ Stop) →
     IsPlanFor flags old.now.holds ps book plan →
     WentFor AnyImage book ps plan jobs old new history end →
     IsSoundRun flags ps plan old new history end
