@@ -1,6 +1,6 @@
--- A run of a plan with images of some kind is one with whatever images. No clause can speak of each
--- kind of image, so the law of such runs asks for no more.
-use Rattle.std.proofs.Common.{◌≡◌, ◌⊎◌, ℕ, suc, List, [], ◌∷◌, Result, inl, inr}
+-- Turns with images of some kind are turns with whatever images, and so is a run of a plan. No
+-- clause can speak of each kind of image, so the laws of such runs ask for no more.
+use Rattle.std.proofs.Common.{ℕ, suc, List, [], ◌∷◌, Result, inl, inr}
 use Rattle.std.specs.List.{AllZip}
 use Rattle.build_pool.specs.declared.orders.Order.{Order}
 use Rattle.file_tree.specs.Disk.{Story}
@@ -25,7 +25,7 @@ module _ (Image : Order → List Entry → Type 0) where
   any_images (o ∷ os) [] all = absurd all
   any_images (o ∷ os) (n ∷ ns) all = (tt, any_images os ns all.1)
 
-  any_turns : (ps : List Installed) (plan : List Group) (jobs : List Job) (place : ℕ) (held : Holdings) (ts : List Turn) → AreTurns Image ps plan jobs place held ts → AreTurns AnyImage ps plan jobs place held ts
+  pub any_turns : (ps : List Installed) (plan : List Group) (jobs : List Job) (place : ℕ) (held : Holdings) (ts : List Turn) → AreTurns Image ps plan jobs place held ts → AreTurns AnyImage ps plan jobs place held ts
   any_turns ps plan jobs place held [] are = tt
   any_turns ps plan jobs place held (t ∷ ts) (number, (newcomers, brings, of, later)) = (
     number,

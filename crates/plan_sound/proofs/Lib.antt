@@ -1,4 +1,5 @@
 pub mod Beginnings
+pub mod Ended
 pub mod Exchanged
 pub mod Holding
 pub mod Images

@@ -1,5 +1,5 @@
 -- The run of an accepted plan leaves a sound tree.
-use Rattle.std.proofs.Common.{◌≡◌, ◌∙◌, ◌≤◌, ◌∷◌, ℕ, zero, suc, true, List, [], Result, ap, arith, inl, inr, length, map, refl, subst, sym, take}
+use Rattle.std.proofs.Common.{◌≡◌, ◌∙◌, ◌∷◌, ℕ, zero, suc, true, List, [], Result, ap, arith, inl, inr, length, map, refl, subst, sym, take}
 use Rattle.std.proofs.lemmas.List.{length-append}
 use Rattle.basics.specs.Members.{Has}
 use Rattle.basics.proofs.Membership.{has-append_left, has-map}
@@ -15,6 +15,7 @@ use Rattle.recovery.proofs.Lists.{distinct_if_sorted}
 use Rattle.plan_law.specs.Plans.{Group, group_at, no_group}
 use Rattle.database_law.specs.Database.{folder_name}
 use Rattle.database_law.specs.Packages.{Installed}
+use Rattle.database_law.specs.Step.{GroupsKeepDatabase}
 use Rattle.commit_law.specs.Commits.{IsSoundTree}
 use Rattle.group_run.specs.Applied.{AreOf, ReadsWith, RecoversWith, number}
 use Rattle.group_run.specs.Turns.{AreFirst}
@@ -31,7 +32,8 @@ use Rattle.plan_make.specs.Plans.{AreSiteGroups, coming, is_named}
 use Rattle.plan_make.specs.Turns.{AreTurns}
 use Rattle.plan_make.specs.declared.job.Job.{Job}
 use Rattle.plan_run.specs.Runs.{upto}
-use Rattle.plan_sound.specs.Sound.{AnyImage, HoldsAfterGroups, IsPlanFor, PlanRunsAreSound, RecoversAfterFirst, IsSoundRun}
+use Rattle.plan_sound.specs.Ends.{AreMadeOver, FirstTurnsLeaveSoundTrees}
+use Rattle.plan_sound.specs.Sound.{AnyImage, HoldsAfterGroups, IsPlanFor, IsSoundRun, LeavesSound, PlanRunsAreSound, RecoversAfterFirst}
 use Rattle.plan_sound.proofs.Beginnings.{first_turns, turns_numbered, turns_within}
 use Rattle.plan_sound.proofs.Turning.{Facts, Stands, turns_sound}
 
@@ -47,17 +49,9 @@ named_group (g ∷ plan) (suc h) p e = inr (named_group plan h p e)
 
 module _ (flags : List (List ℕ)) (P Q : List Installed → Type 0) (so : (qs : List Installed) → P qs → Q qs) where
   -- what follows of the packages holds after the groups, too
-  after_weaker : (gs : List Group) (ps : List Installed) → HoldsAfterGroups flags ps gs P → HoldsAfterGroups flags ps gs Q
+  pub after_weaker : (gs : List Group) (ps : List Installed) → HoldsAfterGroups flags ps gs P → HoldsAfterGroups flags ps gs Q
   after_weaker [] ps h = so ps h
   after_weaker (g ∷ gs) ps (added, comes, (qs, after, h)) = (added, comes, (qs, after, after_weaker gs qs h))
-
--- the map with these groups is a sound tree: with the packages after some first groups of the plan,
--- those with these numbers
-pub record LeavesSound (flags : List (List ℕ)) (ps : List Installed) (plan : List Group) (m : Map) (xs : List journal.Group) : Type 0 where
-  pub count : ℕ
-  pub within : count ≤ length plan
-  pub numbered : map number xs ≡ upto count
-  pub sound : HoldsAfterGroups flags ps (take count plan) (IsSoundTree flags (applied m xs))
 
 module _ (flags : List (List ℕ)) (ps : List Installed) (plan : List Group) (m : Map) (Run : List journal.Group → Type 0) (leave : (xs : List journal.Group) → Run xs → LeavesSound flags ps plan m xs) where
   recovers_first : (among : List ℕ) (c : Map) → RecoversWith Run m among c → RecoversAfterFirst flags ps plan among c
@@ -105,11 +99,6 @@ module _ (facts : Facts) (stay : OwnersKeepTheirKeys) (flags : List (List ℕ)) 
     holds = λ p h has le named q. owned (distinct_if_sorted (map folder_name ps) planned.sound.database.rising) p (group_at plan h) has (named_group plan h p named) named q;
   }
 
-  -- nothing came in
-  none_leaves : (xs : List journal.Group) → AreOf (λ x. ⊥) xs → LeavesSound flags ps plan m xs
-  none_leaves [] of = record { count = 0; within = omega arith; numbered = refl; sound = none_sound flags m ps no_group facts.keep planned.sound }
-  none_leaves (y ∷ ys) of = absurd (of y (inl refl))
-
   -- first turns came in
   first_leaves : (Image : Order → List Entry → Type 0) (jobs : List Job) (groups : List SiteGroup) (turns : List Turn) (held : Holdings) → AreSiteGroups ps plan jobs groups → HoldOwned m ps plan held → AreTurns Image ps plan jobs 0 held turns
       → (xs : List journal.Group) → AreFirst m book groups turns xs → LeavesSound flags ps plan m xs
@@ -126,9 +115,18 @@ module _ (facts : Facts) (stay : OwnersKeepTheirKeys) (flags : List (List ℕ)) 
             (turns_sound facts flags ps plan planned.earlier planned.accepted planned.recordable Image jobs groups sites first 0 m ps book held (begins held owned) turns_made are.let_in);
       }
 
-pub plan_runs_sound : Facts → OwnersKeepTheirKeys → PlanRunsAreSound
-plan_runs_sound facts stay flags book ps plan jobs old new history end planned (inl went) =
-    run_soundly flags ps plan old new history end (AreOf (λ x. ⊥)) (none_leaves facts stay flags book ps plan old.now.holds planned) went.0
-plan_runs_sound facts stay flags book ps plan jobs old new history end planned (inr w) =
-    run_soundly flags ps plan old new history end (AreFirst old.now.holds book w.groups w.turns)
-    (first_leaves facts stay flags book ps plan old.now.holds planned AnyImage jobs w.groups w.turns w.held w.opened_for w.owned w.made) w.went
+pub first_turns_sound : Facts → OwnersKeepTheirKeys → FirstTurnsLeaveSoundTrees
+first_turns_sound facts stay flags m ps plan jobs book groups turns xs planned made =
+    first_leaves facts stay flags book ps plan m planned AnyImage jobs groups turns made.held made.opened_for made.owned made.made xs
+
+-- nothing came in
+none_leaves : (keep : GroupsKeepDatabase) (flags : List (List ℕ)) (m : Map) (ps : List Installed) (plan : List Group) → IsSoundTree flags m ps → (xs : List journal.Group) → AreOf (λ x. ⊥) xs → LeavesSound flags ps plan m xs
+none_leaves keep flags m ps plan sound [] of = record { count = 0; within = omega arith; numbered = refl; sound = none_sound flags m ps no_group keep sound }
+none_leaves keep flags m ps plan sound (y ∷ ys) of = absurd (of y (inl refl))
+
+pub plan_runs_sound : GroupsKeepDatabase → FirstTurnsLeaveSoundTrees → PlanRunsAreSound
+plan_runs_sound keep law flags book ps plan jobs old new history end planned (inl went) =
+    run_soundly flags ps plan old new history end (AreOf (λ x. ⊥)) (none_leaves keep flags old.now.holds ps plan planned.sound) went.0
+plan_runs_sound keep law flags book ps plan jobs old new history end planned (inr w) =
+    let made : AreMadeOver AnyImage old.now.holds ps plan jobs book w.groups w.turns = record { owners = planned.owners; opened_for = w.opened_for; held = w.held; owned = w.owned; made = w.made } in
+    run_soundly flags ps plan old new history end (AreFirst old.now.holds book w.groups w.turns) (λ xs. law flags old.now.holds ps plan jobs book w.groups w.turns xs planned made) w.went

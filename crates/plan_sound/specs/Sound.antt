@@ -1,18 +1,21 @@
 -- What the merge of the groups of an accepted plan, one after another, leaves of a sound tree: such
 -- a tree.
-use Rattle.std.specs.Prelude.{◌≡◌, ◌≤◌, ℕ, List, [], ◌∷◌, IsErrOf, Result, length, take, ⊤}
+use Rattle.std.specs.Prelude.{◌≡◌, ◌≤◌, ℕ, List, [], ◌∷◌, IsErrOf, Result, length, map, take, ⊤}
 use Rattle.std.specs.List.{AllByRecursion}
 use Rattle.basics.specs.Members.{Has}
 use Rattle.build_pool.specs.declared.orders.Order.{Order}
 use Rattle.file_tree.specs.Disk.{Map, Story}
 use Rattle.file_tree.specs.Moments.{Leaves, Since}
 use Rattle.file_tree.specs.declared.objects.Entry.{Entry}
+use Rattle.journal.specs.Group as journal
+use Rattle.journal.specs.Group.{applied}
 use Rattle.owner_book.specs.Book.{Book}
 use Rattle.plan_law.specs.Accepted.{IsAccepted}
 use Rattle.plan_law.specs.Plans.{Group, WaitsForEarlier}
 use Rattle.database_law.specs.Packages.{Installed}
 use Rattle.commit_law.specs.Commits.{IsSoundTree}
 use Rattle.commit_law.specs.Lit.{packages_of}
+use Rattle.group_run.specs.Applied.{number}
 use Rattle.group_run.specs.declared.stop.Stop.{Stop}
 use Rattle.group_run.specs.declared.stop.Stop.TheVariants as stops
 use Rattle.run_law.specs.Openings.{AreOwners}
@@ -39,6 +42,15 @@ abbrev pub HoldsAfterGroups : List (List ℕ) → List Installed → List Group 
 HoldsAfterGroups flags ps [] P = P ps
 HoldsAfterGroups flags ps (g ∷ gs) P =
     HoldsAfterGroup flags ps g (λ qs. HoldsAfterGroups flags qs gs P)
+
+-- the map with these groups is a sound tree: with the packages after some first groups of the plan,
+-- those with these numbers
+pub record LeavesSound (flags : List (List ℕ)) (ps : List Installed) (plan : List Group) (m : Map)
+    (xs : List journal.Group) : Type 0 where
+  pub count : ℕ
+  pub within : count ≤ length plan
+  pub numbered : map number xs ≡ upto count
+  pub sound : HoldsAfterGroups flags ps (take count plan) (IsSoundTree flags (applied m xs))
 
 -- a crash image recovers to a sound tree: with the packages after some first groups of the plan,
 -- those with these numbers among them
