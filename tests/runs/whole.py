@@ -71,7 +71,7 @@ def words_and_what_they_come_to():
         ("--update c/p", DONE),
         ("--backtrack 1 c/p", DONE),
         ("--pretend c/p", "0 plan 1\ngroup 1\nadd c/p-1:0/0\nemerge: ok 0\n"),
-        ("--plan p", not_built),
+        ("--plan p", "3 emerge: BadText: p 0\n"),
         ("--unmerge c/p", not_built),
         ("--load 2", not_built),
         ("--repair", not_built),

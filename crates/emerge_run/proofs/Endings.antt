@@ -1,12 +1,11 @@
 -- How a run's outcome comes of its stages.
-use Rattle.std.proofs.Common.{◌≡◌, ◌∙◌, ◌⊎◌, ℕ, Bool, true, false, List, [], ◌∷◌, Option, None, Some, inl, inr, refl, ap, sym, subst}
+use Rattle.std.proofs.Common.{◌≡◌, ◌∙◌, ◌⊎◌, ℕ, Bool, true, false, List, [], Option, None, Some, inl, inr, length, refl, ap, sym, subst}
 use Rattle.std.specs.Prelude.{if◌then◌else◌}
 use Rattle.file_tree.specs.Disk.{IsUntouched, Map, Story}
 use Rattle.file_tree.specs.Moments.{Since}
 use Rattle.file_tree.specs.Paths.{is_below}
 use Rattle.file_tree.specs.declared.limits.Quantity.TheVariants.{Candidates, Groups, Packages, Paths, RecordBytes}
 use Rattle.file_tree.proofs.Moments.{since_same, since_start, since_then, since_weaker}
-use Rattle.file_tree.specs.declared.objects.Entry.{Entry}
 use Rattle.dep_atom.specs.declared.package.PackageId.{PackageId}
 use Rattle.database_law.specs.Packages.{Installed}
 use Rattle.journal.specs.Group as journal
@@ -17,87 +16,75 @@ use Rattle.merge_record.specs.Recovered.{IsRecovered}
 use Rattle.recovery.specs.Promise.{IsFaultOf}
 use Rattle.recovery.specs.declared.fault.RecoverFault.{RecoverFault}
 use Rattle.recovery.specs.declared.fault.RecoverFault.TheVariants as recovery
-use Rattle.group_run.specs.Applied.{Recovers}
+use Rattle.group_run.specs.Applied.{LeavesWith, ReadsWith, RecoversWith}
 use Rattle.run_law.specs.Ends.{IsKept}
 use Rattle.plan_law.specs.Plans.{Group}
-use Rattle.plan_find.specs.Refusals.{Refuses}
 use Rattle.plan_find.specs.declared.asked.Asked.{Asked}
-use Rattle.plan_find.specs.declared.ends.NoPlan.{NoPlan}
-use Rattle.plan_find.specs.declared.ends.NoPlan.TheVariants as ends
 use Rattle.plan_find.specs.declared.found.Found.{Found}
-use Rattle.exchange_law.specs.Ends.{IsGroupOf, IsReached, Merge}
-use Rattle.emerge_run.specs.Answers.{Asks, AsksFor, AsksMerge, IsReady, IsRefused}
-use Rattle.emerge_run.specs.Builds.{AreBuilt, Images}
-use Rattle.emerge_run.specs.Outcomes.{HasRecovered, IsChoice, IsOfTree, MergedTo, Outcome}
-use Rattle.emerge_run.specs.Package.{IsGroupMade, Making}
-use Rattle.emerge_run.specs.Refusals.{status_of}
-use Rattle.emerge_run.specs.Words.{AskForMerge, EndsAtWords, IsOfWords, IsRequest}
+use Rattle.plan_make.specs.declared.job.Job.{Job}
+use Rattle.plan_run.specs.Runs.{upto}
+use Rattle.plan_sound.specs.Ends.{Course, Images, IsReached, IsRunOf}
+use Rattle.emerge_run.specs.Answers.{Asks, AsksEarly, AsksMerge, AsksPlan}
+use Rattle.emerge_run.specs.Outcomes.{EndsEarly, HasRecovered, IsChoice, IsChosenFor, IsEarly, IsOfTree, IsToShow, MergedTo, Outcome}
+use Rattle.emerge_run.specs.Package.{AreMade, Making}
+use Rattle.emerge_run.specs.Words.{AskForMerge, AskForOther, EndsAtWords, IsOfWords, IsRequest, IsUsage}
 use Rattle.emerge_words.specs.declared.request.WordFault.{WordFault}
 use Rattle.run_status.specs.Faults.{status_of_recovery}
 use Rattle.run_status.specs.declared.status.Part.TheVariants as part
 use Rattle.run_status.specs.declared.status.Status.{Status}
 use Rattle.run_status.specs.declared.status.Status.TheVariants as status
-use Rattle.emerge_run.proofs.Merged.{has_weaker, leaves_weaker, recovers_weaker}
 
--- what reading the words answers
-pub word_refused : (words : List (List ℕ)) (m : Map) (Image : Images) (s : Status) → EndsAtWords words s → Asks words m Image s
-word_refused words m Image (status.Ok groups) ends = absurd ends
-word_refused words m Image (status.Usage fault) ends = ends
-word_refused words m Image (status.BadText path line) ends = absurd ends
-word_refused words m Image (status.BadDatabase fault) ends = absurd ends
-word_refused words m Image (status.BadJournal fault) ends = absurd ends
-word_refused words m Image (status.Inconsistent fault) ends = absurd ends
-word_refused words m Image (status.NoCandidate atom reasons) ends = absurd ends
-word_refused words m Image status.NoSolution ends = absurd ends
-word_refused words m Image (status.BacktrackLimit refuted) ends = absurd ends
-word_refused words m Image (status.Collision c) ends = absurd ends
-word_refused words m Image (status.BadImage b) ends = absurd ends
-word_refused words m Image (status.BuildFailed id) ends = absurd ends
-word_refused words m Image status.DeviceFault ends = tt
-word_refused words m Image status.OutputFault ends = tt
-word_refused words m Image (status.Limit Groups) ends = absurd ends
-word_refused words m Image (status.Limit Packages) ends = absurd ends
-word_refused words m Image (status.Limit Candidates) ends = absurd ends
-word_refused words m Image (status.Limit Paths) ends = absurd ends
-word_refused words m Image (status.Limit RecordBytes) ends = absurd ends
-word_refused words m Image status.Memory ends = tt
-word_refused words m Image (status.NotBuilt part.Command) ends = ends
-word_refused words m Image (status.NotBuilt part.Result) ends = absurd ends
+-- ---- what reading the words answers
 
--- what a refused journal asks for
-pub recovery_asks : (words : List (List ℕ)) (opening : Map) (Image : Images) (f : RecoverFault) → AskForMerge words → IsFaultOf f opening → Asks words opening Image (status_of_recovery f)
-recovery_asks words opening Image (recovery.BadRecord g) command is = (command, is)
-recovery_asks words opening Image (recovery.BadStage g i) command is = (command, is)
-recovery_asks words opening Image recovery.Limit command is = (command, is)
-recovery_asks words opening Image recovery.Failed command is = tt
-recovery_asks words opening Image recovery.Memory command is = tt
+module _ (words : List (List ℕ)) (P : Status → Type 0) (usage : (f : WordFault) → IsUsage words f → P (status.Usage f)) (other : AskForOther words → P (status.NotBuilt part.Command)) (memory : P status.Memory) where
+  -- what holds of each of these answers
+  pub at_words : (s : Status) → EndsAtWords words s → P s
+  at_words (status.Ok groups) ends = absurd ends
+  at_words (status.Usage fault) ends = usage fault ends
+  at_words (status.BadText path line) ends = absurd ends
+  at_words (status.BadDatabase fault) ends = absurd ends
+  at_words (status.BadJournal fault) ends = absurd ends
+  at_words (status.Inconsistent fault) ends = absurd ends
+  at_words (status.NoCandidate atom reasons) ends = absurd ends
+  at_words status.NoSolution ends = absurd ends
+  at_words (status.BacktrackLimit refuted) ends = absurd ends
+  at_words (status.PlanRefused fault) ends = absurd ends
+  at_words (status.Collision c) ends = absurd ends
+  at_words (status.BadImage b) ends = absurd ends
+  at_words (status.BuildFailed id) ends = absurd ends
+  at_words status.DeviceFault ends = absurd ends
+  at_words status.OutputFault ends = absurd ends
+  at_words (status.Limit quantity) ends = absurd ends
+  at_words status.Memory ends = memory
+  at_words (status.NotBuilt part.Command) ends = other ends
+  at_words (status.NotBuilt part.Result) ends = absurd ends
 
--- neither the words nor recovery answer how it went in a recovered tree
-pub words_not_of_tree : (words : List (List ℕ)) (s : Status) → EndsAtWords words s → IsOfTree s → ⊥
-words_not_of_tree words (status.Ok groups) ends of = ends
-words_not_of_tree words (status.Usage fault) ends of = of
-words_not_of_tree words (status.BadText path line) ends of = ends
-words_not_of_tree words (status.BadDatabase fault) ends of = ends
-words_not_of_tree words (status.BadJournal fault) ends of = ends
-words_not_of_tree words (status.Inconsistent fault) ends of = ends
-words_not_of_tree words (status.NoCandidate atom reasons) ends of = ends
-words_not_of_tree words status.NoSolution ends of = ends
-words_not_of_tree words (status.BacktrackLimit refuted) ends of = ends
-words_not_of_tree words (status.Collision c) ends of = ends
-words_not_of_tree words (status.BadImage b) ends of = ends
-words_not_of_tree words (status.BuildFailed id) ends of = ends
-words_not_of_tree words status.DeviceFault ends of = ends
-words_not_of_tree words status.OutputFault ends of = ends
-words_not_of_tree words (status.Limit Groups) ends of = ends
-words_not_of_tree words (status.Limit Packages) ends of = ends
-words_not_of_tree words (status.Limit Candidates) ends of = ends
-words_not_of_tree words (status.Limit Paths) ends of = ends
-words_not_of_tree words (status.Limit RecordBytes) ends of = ends
-words_not_of_tree words status.Memory ends of = of
-words_not_of_tree words (status.NotBuilt part.Command) ends of = of
-words_not_of_tree words (status.NotBuilt part.Result) ends of = ends
+pub early_words : (words : List (List ℕ)) (s : Status) → EndsAtWords words s → IsEarly s
+early_words words = at_words words IsEarly (λ f h. tt) (λ h. tt) tt
 
-pub recovery_not_of_tree : (f : RecoverFault) → IsOfTree (status_of_recovery f) → ⊥
+asks_words : (words : List (List ℕ)) (m : Map) (s : Status) → EndsAtWords words s → AsksEarly words m s
+asks_words words m = at_words words (AsksEarly words m) (λ f h. h) (λ h. h) tt
+
+words_not_of_tree : (words : List (List ℕ)) (s : Status) → EndsAtWords words s → IsOfTree s → ⊥
+words_not_of_tree words = at_words words (λ s. IsOfTree s → ⊥) (λ f h of. of) (λ h of. of) (λ of. of)
+
+-- ---- what recovery answers
+
+recovery_asks : (words : List (List ℕ)) (opening : Map) (f : RecoverFault) → AskForMerge words → IsFaultOf f opening → AsksEarly words opening (status_of_recovery f)
+recovery_asks words opening (recovery.BadRecord g) command is = (command, is)
+recovery_asks words opening (recovery.BadStage g i) command is = (command, is)
+recovery_asks words opening recovery.Limit command is = inl (command, is)
+recovery_asks words opening recovery.Failed command is = tt
+recovery_asks words opening recovery.Memory command is = tt
+
+pub early_recovery : (f : RecoverFault) → IsEarly (status_of_recovery f)
+early_recovery (recovery.BadRecord g) = tt
+early_recovery (recovery.BadStage g i) = tt
+early_recovery recovery.Limit = tt
+early_recovery recovery.Failed = tt
+early_recovery recovery.Memory = tt
+
+recovery_not_of_tree : (f : RecoverFault) → IsOfTree (status_of_recovery f) → ⊥
 recovery_not_of_tree (recovery.BadRecord g) of = of
 recovery_not_of_tree (recovery.BadStage g i) of = of
 recovery_not_of_tree recovery.Limit of = of
@@ -111,76 +98,53 @@ recovery_not_of_words recovery.Limit of = of
 recovery_not_of_words recovery.Failed of = of
 recovery_not_of_words recovery.Memory of = of
 
--- a last line makes no refusal of the words of another status
-pub usage_kept : {X : Type 0} (came s : Status) (f : WordFault) → (s ≡ came) ⊎ ((s ≡ status.Memory) ⊎ ((s ≡ status.OutputFault) × X)) → s ≡ status.Usage f → came ≡ status.Usage f
-usage_kept came s f (inl is) e = sym is ∙ e
-usage_kept came s f (inr (inl is)) e = absurd (cc (is, e))
-usage_kept came s f (inr (inr (is, x))) e = absurd (cc (is, e))
+pub usage_recovery : (r : RecoverFault) (f : WordFault) → status_of_recovery r ≡ status.Usage f → ⊥
+usage_recovery r f is = recovery_not_of_words r (subst IsOfWords (sym is) tt)
+
+-- ---- a run that finds no plan
 
 -- a crash of an unchanged tree leaves one of its own images
-pub kept_same : (old new : Story) → new ≡ old → Since (IsKept old.now) old new
+kept_same : (old new : Story) → new ≡ old → Since (IsKept old.now) old new
 kept_same old new same = since_same (IsKept old.now) old old new (since_start (IsKept old.now) old (λ c is. inl is)) same
 
 pub at_rest : (opening : Map) (s : Story) → IsRecovered opening s.now.holds × IsUntouched s.now → IsAtRest s.now.holds s.now
 at_rest opening s h = record { untouched = h.1; reads = λ q. refl; empty = h.0.cleared }
 
--- a run that ended without a look at the recovered tree
-pub outcome_before : (words : List (List ℕ)) (Image : Images) (old new : Story) (s : Status) → Asks words old.now.holds Image s → (IsOfTree s → ⊥) → Since (IsKept old.now) old new → Outcome words Image old new [] s
-outcome_before words Image old new s asks other since = record {
-  answer = asks;
-  moments = since_weaker (IsKept old.now) (IsReached (IsChoice words Image) [] old.now) (λ c h. inl (refl, h)) old new since;
-  crash = λ c is. inl (refl, since.now c is);
-  left = λ healthy. inl (refl, since.now);
-  tree = λ of. absurd (other of);
-}
+pub ends_at_words : (words : List (List ℕ)) (old : Story) (s : Status) → EndsAtWords words s → EndsEarly words old old s
+ends_at_words words old s ends = record { answer = asks_words words old.now.holds s ends; moments = kept_same old old refl; tree = λ of. absurd (words_not_of_tree words s ends of) }
 
--- too many groups are only found in the journal
-no_groups : (m : Map) (asked : Asked) → Refuses m asked (ends.Limit Groups) → ⊥
-no_groups m asked refuses = refuses.refused.2
+pub ends_at_recovery : (words : List (List ℕ)) (old new : Story) (f : RecoverFault) → AskForMerge words → IsFaultOf f old.now.holds → Since (IsKept old.now) old new → EndsEarly words old new (status_of_recovery f)
+ends_at_recovery words old new f command is since = record { answer = recovery_asks words old.now.holds f command is; moments = since; tree = λ of. absurd (recovery_not_of_tree f of) }
 
-groups_refused : (m : Map) (asked : Asked) (e : NoPlan) → Refuses m asked e → status.Limit Groups ≡ status_of e → ⊥
-groups_refused m asked (ends.Text path line) refuses is = cc is
-groups_refused m asked (ends.Limit Groups) refuses is = no_groups m asked refuses
-groups_refused m asked (ends.Limit Packages) refuses is = cc is
-groups_refused m asked (ends.Limit Candidates) refuses is = cc is
-groups_refused m asked (ends.Limit Paths) refuses is = cc is
-groups_refused m asked (ends.Limit RecordBytes) refuses is = cc is
-groups_refused m asked (ends.BadDatabase fault) refuses is = cc is
-groups_refused m asked (ends.Inconsistent fault packages) refuses is = cc is
-groups_refused m asked (ends.NoCandidate atom reasons packages) refuses is = cc is
-groups_refused m asked (ends.NoSolution packages) refuses is = cc is
-groups_refused m asked (ends.BacktrackLimit refuted packages) refuses is = cc is
-groups_refused m asked (ends.NotPlanned packages) refuses is = cc is
-groups_refused m asked ends.Failed refuses is = cc is
-groups_refused m asked ends.Memory refuses is = cc is
+pub recovered_same : (old mid new : Story) → new ≡ mid → HasRecovered old mid → HasRecovered old new
+recovered_same old mid new same has = subst (HasRecovered old) (sym same) has
 
-groups_unasked : (m : Map) (asked : Asked) (Image : Images) → AsksFor asked m Image (status.Limit Groups) → ⊥
-groups_unasked m asked Image (inl (e, refuses, is)) = groups_refused m asked e refuses is
-groups_unasked m asked Image (inr whole) = whole.3.2
+pub early_kept : (words : List (List ℕ)) (old mid new : Story) (s : Status) → new ≡ mid → HasRecovered old mid → AsksEarly words old.now.holds s → EndsEarly words old new s
+early_kept words old mid new s same has asks =
+    let here = recovered_same old mid new same has in
+    record { answer = asks; moments = here.moments; tree = λ of. here }
 
-asks_after : (words : List (List ℕ)) (asked : Asked) (opening m : Map) (Image : Images) (s : Status) → IsRequest words asked → IsRecovered opening m → AsksFor asked m Image s → Asks words opening Image s
-asks_after words asked opening m Image (status.Ok groups) is recovered asks = (asked, is, (m, recovered, asks))
-asks_after words asked opening m Image (status.Usage fault) is recovered asks = absurd asks
-asks_after words asked opening m Image (status.BadText path line) is recovered asks = (asked, is, (m, recovered, asks))
-asks_after words asked opening m Image (status.BadDatabase fault) is recovered asks = (asked, is, (m, recovered, asks))
-asks_after words asked opening m Image (status.BadJournal fault) is recovered asks = absurd asks
-asks_after words asked opening m Image (status.Inconsistent fault) is recovered asks = (asked, is, (m, recovered, asks))
-asks_after words asked opening m Image (status.NoCandidate atom reasons) is recovered asks = (asked, is, (m, recovered, asks))
-asks_after words asked opening m Image status.NoSolution is recovered asks = (asked, is, (m, recovered, asks))
-asks_after words asked opening m Image (status.BacktrackLimit refuted) is recovered asks = (asked, is, (m, recovered, asks))
-asks_after words asked opening m Image (status.Collision c) is recovered asks = (asked, is, (m, recovered, asks))
-asks_after words asked opening m Image (status.BadImage b) is recovered asks = (asked, is, (m, recovered, asks))
-asks_after words asked opening m Image (status.BuildFailed id) is recovered asks = (asked, is, (m, recovered, asks))
-asks_after words asked opening m Image status.DeviceFault is recovered asks = tt
-asks_after words asked opening m Image status.OutputFault is recovered asks = tt
-asks_after words asked opening m Image (status.Limit Groups) is recovered asks = absurd (groups_unasked m asked Image asks)
-asks_after words asked opening m Image (status.Limit Packages) is recovered asks = (asked, is, (m, recovered, asks))
-asks_after words asked opening m Image (status.Limit Candidates) is recovered asks = (asked, is, (m, recovered, asks))
-asks_after words asked opening m Image (status.Limit Paths) is recovered asks = (asked, is, (m, recovered, asks))
-asks_after words asked opening m Image (status.Limit RecordBytes) is recovered asks = (asked, is, (m, recovered, asks))
-asks_after words asked opening m Image status.Memory is recovered asks = tt
-asks_after words asked opening m Image (status.NotBuilt part.Command) is recovered asks = absurd asks
-asks_after words asked opening m Image (status.NotBuilt part.Result) is recovered asks = (asked, is, (m, recovered, asks))
+-- what such a run asks for, whatever the images
+early_asks : (words : List (List ℕ)) (opening : Map) (Image : Images) (s : Status) → IsEarly s → AsksEarly words opening s → Asks words opening Image [] s
+early_asks words opening Image (status.Ok groups) of asks = absurd of
+early_asks words opening Image (status.Usage fault) of asks = asks
+early_asks words opening Image (status.BadText path line) of asks = asks
+early_asks words opening Image (status.BadDatabase fault) of asks = asks
+early_asks words opening Image (status.BadJournal fault) of asks = asks
+early_asks words opening Image (status.Inconsistent fault) of asks = asks
+early_asks words opening Image (status.NoCandidate atom reasons) of asks = asks
+early_asks words opening Image status.NoSolution of asks = asks
+early_asks words opening Image (status.BacktrackLimit refuted) of asks = asks
+early_asks words opening Image (status.PlanRefused fault) of asks = asks
+early_asks words opening Image (status.Collision c) of asks = absurd of
+early_asks words opening Image (status.BadImage b) of asks = absurd of
+early_asks words opening Image (status.BuildFailed id) of asks = absurd of
+early_asks words opening Image status.DeviceFault of asks = tt
+early_asks words opening Image status.OutputFault of asks = absurd of
+early_asks words opening Image (status.Limit quantity) of asks = inl asks
+early_asks words opening Image status.Memory of asks = tt
+early_asks words opening Image (status.NotBuilt part.Command) of asks = asks
+early_asks words opening Image (status.NotBuilt part.Result) of asks = asks
 
 -- a tree at rest reads as itself, with no group
 rest_reads : (m : Map) → ((q : List ℕ) → is_below jobs q ≡ true → m q ≡ None) → (q : List ℕ) → m q ≡ applied m [] q
@@ -190,85 +154,148 @@ rest_reads m empty q = at (is_below jobs q) refl
     at true e = empty q e ∙ sym (ap (λ (b : Bool). if b then None else m q) e)
     at false e = sym (ap (λ (b : Bool). if b then None else m q) e)
 
--- a run that merged nothing in the tree that recovery made
-pub outcome_over : (words : List (List ℕ)) (asked : Asked) (Image : Images) (old mid new : Story) (s : Status) → IsRequest words asked → HasRecovered old mid → new ≡ mid → AsksFor asked mid.now.holds Image s → Outcome words Image old new [] s
-outcome_over words asked Image old mid new s is has same asks = subst (λ (x : Story). Outcome words Image old x [] s) (sym same) (record {
-  answer = asks_after words asked old.now.holds mid.now.holds Image s is has.recovered asks;
-  moments = since_weaker (IsKept old.now) (IsReached (IsChoice words Image) [] old.now) (λ c h. inl (refl, h)) old mid has.moments;
-  crash = λ c k. inl (refl, has.moments.now c k);
-  left = λ healthy. inl (refl, has.moments.now);
-  tree = λ of. (mid.now.holds, has.recovered, (None, record { groups = []; of = λ x there. absurd there; are = refl; reads = rest_reads mid.now.holds has.rest.empty; untouched = has.rest.untouched }));
-})
+module _ (words : List (List ℕ)) (Image : Images) (old new : Story) (s : Status) where
+  -- a run that merged nothing
+  outcome_kept : Asks words old.now.holds Image [] s → Since (IsKept old.now) old new → (IsOfTree s → HasRecovered old new) → Outcome words Image old new [] s
+  outcome_kept asks since tree = record {
+    answer = asks;
+    moments = since_weaker (IsKept old.now) (IsReached (IsChoice words) Image [] old.now) (λ c h. inl (refl, h)) old new since;
+    crash = λ c is. inl (refl, since.now c is);
+    left = λ healthy. inl (refl, since.now);
+    tree = λ of.
+        let has = tree of in (
+          new.now.holds,
+          has.recovered,
+          (None, record { groups = []; of = λ x there. absurd there; are = refl; reads = rest_reads new.now.holds has.rest.empty; untouched = has.rest.untouched }),
+        );
+  }
 
--- the answer of a merge is one of the run
-module _ (asked : Asked) (m : Map) (Image : Images) (found : Found) (g : Group) (images : List (List Entry)) (ready : IsReady m asked found g) (built : AreBuilt Image found.chosen images) where
-  merge_asks : (s : Status) → AsksMerge found.packages.items g images m s → AsksFor asked m Image s
-  merge_asks (status.Ok groups) asks = inl (found, g, ready, (images, built, asks))
-  merge_asks (status.Usage fault) asks = absurd asks
-  merge_asks (status.BadText path line) asks = absurd asks
-  merge_asks (status.BadDatabase fault) asks = absurd asks
-  merge_asks (status.BadJournal fault) asks = absurd asks
-  merge_asks (status.Inconsistent fault) asks = absurd asks
-  merge_asks (status.NoCandidate atom reasons) asks = absurd asks
-  merge_asks status.NoSolution asks = absurd asks
-  merge_asks (status.BacktrackLimit refuted) asks = absurd asks
-  merge_asks (status.Collision c) asks = (found, g, ready, (images, built, asks))
-  merge_asks (status.BadImage b) asks = (found, g, ready, (images, built, asks))
-  merge_asks (status.BuildFailed id) asks = absurd asks
-  merge_asks status.DeviceFault asks = tt
-  merge_asks status.OutputFault asks = tt
-  merge_asks (status.Limit Groups) asks = absurd asks
-  merge_asks (status.Limit Packages) asks = absurd asks
-  merge_asks (status.Limit Candidates) asks = absurd asks
-  merge_asks (status.Limit Paths) asks = inr (inr (found, g, ready, (images, built, asks)))
-  merge_asks (status.Limit RecordBytes) asks = inr (found, g, ready, (images, built, asks))
-  merge_asks status.Memory asks = tt
-  merge_asks (status.NotBuilt part.Command) asks = absurd asks
-  merge_asks (status.NotBuilt part.Result) asks = absurd asks
+  outcome_early : IsEarly s → EndsEarly words old new s → Outcome words Image old new [] s
+  outcome_early of ends = outcome_kept (early_asks words old.now.holds Image s of ends.answer) ends.moments ends.tree
 
--- a run whose group was merged
-module _ (words : List (List ℕ)) (Image : Images) (old mid new : Story) (ps : List Installed) (g : Group) (images : List (List Entry)) (history : List ℕ) (s : Status)
-    (has : HasRecovered old mid) (choice : IsChoice words Image mid.now.holds ps g images) (merged : MergedTo ps g images mid new history s) where
+  outcome_over : HasRecovered old new → Asks words old.now.holds Image [] s → Outcome words Image old new [] s
+  outcome_over has asks = outcome_kept asks has.moments (λ of. has)
+
+-- a run that merged nothing has no history
+outcome_none : (words : List (List ℕ)) (Image : Images) (old new : Story) (history : List ℕ) (s : Status) → history ≡ [] → Outcome words Image old new [] s → Outcome words Image old new history s
+outcome_none words Image old new history s none outcome = subst (λ (h : List ℕ). Outcome words Image old new h s) (sym none) outcome
+
+-- ---- a plan that is only shown, and one without groups
+
+shown_asks : (words : List (List ℕ)) (opening m : Map) (Image : Images) (ps : List Installed) (text : List ℕ) (plan : List Group) (s : Status) → IsRecovered opening m → IsToShow words m ps text plan → (s ≡ status.Ok 0) ⊎ (s ≡ status.OutputFault) → Asks words opening Image [] s
+shown_asks words opening m Image ps text plan s recovered is (inl ok) = subst (Asks words opening Image []) (sym ok) (is.asked, is.is, (m, recovered, inr ((is.found, is.in_map, is.only), refl)))
+shown_asks words opening m Image ps text plan s recovered is (inr fault) = subst (Asks words opening Image []) (sym fault) tt
+
+rest_asks : (words : List (List ℕ)) (opening m : Map) (Image : Images) (ps : List Installed) (plan : List Group) → IsRecovered opening m → IsChoice words m ps plan [] → plan ≡ [] → Asks words opening Image [] (status.Ok 0)
+rest_asks words opening m Image ps plan recovered (found, chosen, same, jobs) none =
+    let empty : found.chosen.plan ≡ [] = same ∙ none in (
+      chosen.asked,
+      chosen.is,
+      (m, recovered, inl (record { found = found; ready = chosen.ready; jobs = []; are = jobs; asks = (sym (ap (λ (p : List Group). upto (length p)) empty), sym (ap (λ (p : List Group). length p) empty)) })),
+    )
+
+module _ (words : List (List ℕ)) (Image : Images) (old mid new : Story) (ps : List Installed) (plan : List Group) (history : List ℕ) (s : Status) (same : new ≡ mid) (none : history ≡ []) where
+  pub outcome_shown : (text : List ℕ) (t : Status) → HasRecovered old mid → IsToShow words mid.now.holds ps text plan → s ≡ t → (t ≡ status.Ok 0) ⊎ (t ≡ status.OutputFault) → Outcome words Image old new history s
+  outcome_shown text t has is told ends =
+      outcome_none words Image old new history s none (outcome_over words Image old new s (recovered_same old mid new same has)
+      (subst (Asks words old.now.holds Image []) (sym told) (shown_asks words old.now.holds mid.now.holds Image ps text plan t has.recovered is ends)))
+
+  pub outcome_rest : HasRecovered old mid → IsChoice words mid.now.holds ps plan [] → plan ≡ [] → s ≡ status.Ok 0 → Outcome words Image old new history s
+  outcome_rest has choice empty told =
+      outcome_none words Image old new history s none (outcome_over words Image old new s (recovered_same old mid new same has)
+      (subst (Asks words old.now.holds Image []) (sym told) (rest_asks words old.now.holds mid.now.holds Image ps plan has.recovered choice empty)))
+
+  pub outcome_unfound : (t : Status) → EndsEarly words old mid t → IsEarly t → s ≡ t → Outcome words Image old new history s
+  outcome_unfound t ends early told =
+      outcome_none words Image old new history s none (subst (λ (x : Status). Outcome words Image old new [] x) (sym told)
+      (subst (λ (x : Story). Outcome words Image old x [] t) (sym same) (outcome_early words Image old mid t early ends)))
+
+-- ---- a run that merges a plan
+
+module _ (words : List (List ℕ)) (opening m : Map) (Image : Images) (history : List ℕ) (asked : Asked) (is : IsRequest words asked) (recovered : IsRecovered opening m) where
+  -- the answer of its merge is one of the run
+  merge_asks : (ps : List Installed) (plan : List Group) (js : List Job) (s : Status) → AsksMerge Image ps plan js m history s → AsksPlan asked m Image history s → Asks words opening Image history s
+  merge_asks ps plan js (status.Ok groups) asks whole = (asked, is, (m, recovered, inl whole))
+  merge_asks ps plan js (status.Usage fault) asks whole = absurd asks
+  merge_asks ps plan js (status.BadText path line) asks whole = absurd asks
+  merge_asks ps plan js (status.BadDatabase fault) asks whole = absurd asks
+  merge_asks ps plan js (status.BadJournal fault) asks whole = absurd asks
+  merge_asks ps plan js (status.Inconsistent fault) asks whole = absurd asks
+  merge_asks ps plan js (status.NoCandidate atom reasons) asks whole = absurd asks
+  merge_asks ps plan js status.NoSolution asks whole = absurd asks
+  merge_asks ps plan js (status.BacktrackLimit refuted) asks whole = absurd asks
+  merge_asks ps plan js (status.PlanRefused fault) asks whole = absurd asks
+  merge_asks ps plan js (status.Collision c) asks whole = (asked, is, (m, recovered, whole))
+  merge_asks ps plan js (status.BadImage b) asks whole = (asked, is, (m, recovered, whole))
+  merge_asks ps plan js (status.BuildFailed id) asks whole = (asked, is, (m, recovered, whole))
+  merge_asks ps plan js status.DeviceFault asks whole = tt
+  merge_asks ps plan js status.OutputFault asks whole = tt
+  merge_asks ps plan js (status.Limit quantity) asks whole = inr (asked, is, (m, recovered, whole))
+  merge_asks ps plan js status.Memory asks whole = tt
+  merge_asks ps plan js (status.NotBuilt what) asks whole = absurd asks
+
+-- a run whose plan was merged
+module _ (words : List (List ℕ)) (Image : Images) (old mid new : Story) (ps : List Installed) (plan : List Group) (js : List Job) (history : List ℕ) (s : Status)
+    (has : HasRecovered old mid) (choice : IsChoice words mid.now.holds ps plan js) (merged : MergedTo Image ps plan js mid new history s) where
   abbrev m : Map
   m = mid.now.holds
 
   -- what was made is what the run merges
-  abbrev merge : Option (Making ps g images m) → Option (Merge (IsChoice words Image) m)
-  merge None = None
-  merge (Some k) = Some (record { packages = ps; group = g; images = images; book = k.book; made = k.made; chosen = choice; is = k.is })
+  abbrev course : Option (Making Image ps plan js m) → Option (Course (IsChoice words) Image m)
+  course None = None
+  course (Some k) = Some (record { packages = ps; plan = plan; jobs = js; book = k.book; groups = k.groups; turns = k.turns; chosen = choice; made = k.is })
 
-  same_groups : (k : Option (Making ps g images m)) (x : journal.Group) → IsGroupMade k x → IsGroupOf (merge k) x
-  same_groups None x none = none
-  same_groups (Some k) x is = is
+  abbrev Reached : List ℕ → Map → Type 0
+  Reached among c = IsReached (IsChoice words) Image among old.now c
 
-  abbrev Of : journal.Group → Type 0
-  Of = IsGroupMade merged.made
+  same_run : (k : Option (Making Image ps plan js m)) (P : (List journal.Group → Type 0) → Type 0) → P (AreMade k) → P (IsRunOf (course k))
+  same_run None P h = h
+  same_run (Some k) P h = h
 
-  abbrev Its : journal.Group → Type 0
-  Its = IsGroupOf (merge merged.made)
+  reached : (among : List ℕ) (c : Map) → RecoversWith (AreMade merged.made) m among c → Reached among c
+  reached among c h = inr (m, has.recovered, (course merged.made, same_run merged.made (λ Run. RecoversWith Run m among c) h))
 
-  reached : (among : List ℕ) (c : Map) → Recovers Of m among c → IsReached (IsChoice words Image) among old.now c
-  reached among c h = inr (m, has.recovered, (merge merged.made, recovers_weaker Of Its (same_groups merged.made) m among c h))
+  whole : IsChosenFor words m ps choice.0 → AsksMerge Image ps plan js m history s → AsksPlan choice.1.asked m Image history s
+  whole chosen asks = record {
+    found = choice.0;
+    ready = choice.1.ready;
+    jobs = js;
+    are = choice.3;
+    asks = subst (λ (p : List Group). AsksMerge Image choice.0.packages.items p js m history s) (sym choice.2) (subst (λ (qs : List Installed). AsksMerge Image qs plan js m history s) chosen.packages asks);
+  }
 
-  answered : Asks words old.now.holds Image s
+  answered : Asks words old.now.holds Image history s
   answered =
       let chosen = choice.1 in
-      asks_after words chosen.asked old.now.holds m Image s chosen.is has.recovered
-      (merge_asks chosen.asked m Image choice.0 g images chosen.ready choice.2 s (subst (λ (qs : List Installed). AsksMerge qs g images m s) chosen.packages merged.answer))
+      merge_asks words old.now.holds m Image history chosen.asked chosen.is has.recovered ps plan js s merged.answer (whole chosen merged.answer)
 
   pub outcome_merged : Outcome words Image old new history s
   outcome_merged = record {
     answer = answered;
-    moments = since_then (IsReached (IsChoice words Image) [] old.now) old mid new (since_weaker (IsKept old.now) (IsReached (IsChoice words Image) [] old.now) (λ c h. inl (refl, h)) old mid has.moments)
-        (since_weaker (Recovers Of m []) (IsReached (IsChoice words Image) [] old.now) (λ c h. reached [] c h) mid new merged.moments);
+    moments = since_then (Reached []) old mid new (since_weaker (IsKept old.now) (Reached []) (λ c h. inl (refl, h)) old mid has.moments)
+        (since_weaker (RecoversWith (AreMade merged.made) m []) (Reached []) (λ c h. reached [] c h) mid new merged.moments);
     crash = λ c k. reached history c (merged.crash c k);
-    left = λ healthy. inr (m, has.recovered, (merge merged.made, leaves_weaker Of Its (same_groups merged.made) m history new.now (merged.left healthy)));
-    tree = λ of. (m, has.recovered, (merge merged.made, has_weaker Of Its (same_groups merged.made) m history new.now (merged.tree (λ e. subst IsOfTree e of) (λ e. subst IsOfTree e of))));
+    left = λ healthy. inr (m, has.recovered, (course merged.made, same_run merged.made (λ Run. LeavesWith Run m history new.now) (merged.left healthy)));
+    tree = λ of. (m, has.recovered, (course merged.made, same_run merged.made (λ Run. ReadsWith Run m history new.now) (merged.tree (λ e. subst IsOfTree e of) (λ e. subst IsOfTree e of))));
   }
+
+-- ---- behind the last line
+
+-- a last line makes no refusal of the words of another status
+pub usage_kept : {X : Type 0} (came s : Status) (f : WordFault) → (s ≡ came) ⊎ ((s ≡ status.Memory) ⊎ ((s ≡ status.OutputFault) × X)) → s ≡ status.Usage f → came ≡ status.Usage f
+usage_kept came s f (inl is) e = sym is ∙ e
+usage_kept came s f (inr (inl is)) e = absurd (cc (is, e))
+usage_kept came s f (inr (inr (is, x))) e = absurd (cc (is, e))
+
+-- what a status has that want of memory and a failed output don't have, it has before
+pub kept_before : {X Y : Type 0} (P : Status → Type 0) (came s : Status) → (P status.Memory → ⊥) → (P status.OutputFault → ⊥) → (s ≡ came) ⊎ ((s ≡ status.Memory) ⊎ ((s ≡ status.OutputFault) × X)) → (P came → Y) → P s → Y
+kept_before P came s memory output (inl same) h of = h (subst P same of)
+kept_before P came s memory output (inr (inl is)) h of = absurd (memory (subst P is of))
+kept_before P came s memory output (inr (inr (is, x))) h of = absurd (output (subst P is of))
 
 -- a run that came to one status ends with another one, which asks for nothing
 outcome_as : (words : List (List ℕ)) (Image : Images) (old new : Story) (history : List ℕ) (s s' : Status) → (s ≡ status.DeviceFault → s' ≡ status.DeviceFault)
-    → Asks words old.now.holds Image s' → (IsOfTree s' → ⊥) → Outcome words Image old new history s → Outcome words Image old new history s'
+    → Asks words old.now.holds Image history s' → (IsOfTree s' → ⊥) → Outcome words Image old new history s → Outcome words Image old new history s'
 outcome_as words Image old new history s s' stays asks other outcome = record {
   answer = asks;
   moments = outcome.moments;
@@ -283,9 +310,9 @@ pub outcome_finished : (words : List (List ℕ)) (Image : Images) (old new : Sto
     → Outcome words Image old new history s → Outcome words Image old new history s'
 outcome_finished words Image old new history s s' rose (inl same) stays h = subst (λ (x : Status). Outcome words Image old new history x) (sym same) h
 outcome_finished words Image old new history s s' rose (inr (inl memory)) stays h =
-    outcome_as words Image old new history s s' stays (subst (λ (x : Status). Asks words old.now.holds Image x) (sym memory) tt) (λ of. subst IsOfTree memory of) h
+    outcome_as words Image old new history s s' stays (subst (λ (x : Status). Asks words old.now.holds Image history x) (sym memory) tt) (λ of. subst IsOfTree memory of) h
 outcome_finished words Image old new history s s' rose (inr (inr (output, r))) stays h =
-    outcome_as words Image old new history s s' stays (subst (λ (x : Status). Asks words old.now.holds Image x) (sym output) tt) (λ of. subst IsOfTree output of) h
+    outcome_as words Image old new history s s' stays (subst (λ (x : Status). Asks words old.now.holds Image history x) (sym output) tt) (λ of. subst IsOfTree output of) h
 
 -- a run that ends with a builder's failure came to it
 pub built_before : (s s' : Status) (id : PackageId) (rose : Type 0) → (s' ≡ s) ⊎ ((s' ≡ status.Memory) ⊎ ((s' ≡ status.OutputFault) × rose)) → s' ≡ status.BuildFailed id → s ≡ status.BuildFailed id

@@ -1,15 +1,14 @@
--- What a run gives back of the packages that were installed.
-use Rattle.std.proofs.Common.{◌≡◌, ◌⊎◌, ℕ, List, [], Result, Ok, Err, inl, inr, refl, subst, sym}
-use Rattle.std.specs.Prelude.{IfErr, IsErrOf}
+-- What a run gives back of the packages that were installed, and of its plan.
+use Rattle.std.proofs.Common.{◌≡◌, ◌⊎◌, ◌∙◌, ℕ, List, [], Option, None, Some, Result, Ok, Err, inl, inr, refl, subst, sym}
+use Rattle.std.specs.Prelude.{IfErr, IfSome, MatchOption}
 use Rattle.file_tree.specs.Disk.{Map, Story}
 use Rattle.file_tree.specs.declared.limits.Quantity.{Quantity}
 use Rattle.file_tree.specs.declared.limits.Quantity.TheVariants.{Candidates, Groups, Packages, Paths, RecordBytes}
 use Rattle.database_law.specs.Packages.{Installed}
 use Rattle.merge_record.specs.Recovered.{IsRecovered}
-use Rattle.emerge_words.specs.declared.request.WordFault.{WordFault}
 use Rattle.opening.specs.Faults as openings
-use Rattle.plan_choose.specs.declared.fault.NotChosen.{NotChosen}
-use Rattle.plan_find.specs.Choices.{AreChoices, Choices, IsFound}
+use Rattle.plan_law.specs.Plans.{Group}
+use Rattle.plan_find.specs.Choices.{AreChoices, Choices, IsFound, flips_of}
 use Rattle.plan_find.specs.Refusals.{HasNoPlan, Refuses}
 use Rattle.plan_find.specs.declared.asked.Asked.{Asked}
 use Rattle.plan_find.specs.declared.ends.NoPlan.{NoPlan}
@@ -17,9 +16,8 @@ use Rattle.plan_find.specs.declared.ends.NoPlan.TheVariants as ends
 use Rattle.plan_find.specs.declared.found.Found.{Found}
 use Rattle.recovery.specs.declared.fault.RecoverFault.{RecoverFault}
 use Rattle.recovery.specs.declared.fault.RecoverFault.TheVariants as recovery
-use Rattle.emerge_run.specs.Builds.{Images}
-use Rattle.emerge_run.specs.Openings.{AreInstalled, AreInstalledAfter, GivesBack, HasRead, HasTooMuchAfter, IsUnread}
-use Rattle.emerge_run.specs.Outcomes.{HasRecovered, IsEarly, IsOfMerge, IsToDo, IsUnmerged}
+use Rattle.emerge_run.specs.Openings.{AreInstalled, AreInstalledAfter, GivesBack, HasPlan, HasRead, HasTooMuchAfter, IsUnread}
+use Rattle.emerge_run.specs.Outcomes.{HasRecovered, IsEarly, IsOfMerge, IsPlanOf, IsToDo, IsWantedPlan}
 use Rattle.emerge_run.specs.Refusals.{packages_with, status_of}
 use Rattle.emerge_run.specs.Words.{EndsAtWords}
 use Rattle.emerge_run.specs.declared.choosing.Work.{Work}
@@ -28,51 +26,9 @@ use Rattle.run_status.specs.Faults.{status_of_recovery}
 use Rattle.run_status.specs.declared.status.Part.TheVariants as part
 use Rattle.run_status.specs.declared.status.Status.{Status}
 use Rattle.run_status.specs.declared.status.Status.TheVariants as status
+use Rattle.emerge_run.proofs.Endings.{at_words}
 
--- a run that merges nothing of what it has found answers early, and tells that it has read its tree
-pub unmerged_early : (s : Status) → IsUnmerged s → IsEarly s
-unmerged_early (status.Ok groups) h = h
-unmerged_early (status.Usage fault) h = tt
-unmerged_early (status.BadText path line) h = tt
-unmerged_early (status.BadDatabase fault) h = tt
-unmerged_early (status.BadJournal fault) h = tt
-unmerged_early (status.Inconsistent fault) h = tt
-unmerged_early (status.NoCandidate atom reasons) h = tt
-unmerged_early status.NoSolution h = tt
-unmerged_early (status.BacktrackLimit refuted) h = tt
-unmerged_early (status.Collision c) h = tt
-unmerged_early (status.BadImage b) h = tt
-unmerged_early (status.BuildFailed id) h = tt
-unmerged_early status.DeviceFault h = tt
-unmerged_early status.OutputFault h = absurd h
-unmerged_early (status.Limit quantity) h = tt
-unmerged_early status.Memory h = tt
-unmerged_early (status.NotBuilt what) h = tt
-
-pub unmerged_read : (s : Status) → IsUnmerged s → IsUnread s → ⊥
-unmerged_read (status.Ok groups) h of = of
-unmerged_read (status.Usage fault) h of = h
-unmerged_read (status.BadText path line) h of = h
-unmerged_read (status.BadDatabase fault) h of = h
-unmerged_read (status.BadJournal fault) h of = h
-unmerged_read (status.Inconsistent fault) h of = of
-unmerged_read (status.NoCandidate atom reasons) h of = of
-unmerged_read status.NoSolution h of = of
-unmerged_read (status.BacktrackLimit refuted) h of = of
-unmerged_read (status.Collision c) h of = of
-unmerged_read (status.BadImage b) h of = of
-unmerged_read (status.BuildFailed id) h of = of
-unmerged_read status.DeviceFault h of = of
-unmerged_read status.OutputFault h of = of
-unmerged_read (status.Limit Groups) h of = h
-unmerged_read (status.Limit Packages) h of = h
-unmerged_read (status.Limit Candidates) h of = h
-unmerged_read (status.Limit Paths) h of = of
-unmerged_read (status.Limit RecordBytes) h of = of
-unmerged_read status.Memory h of = of
-unmerged_read (status.NotBuilt part.Command) h of = h
-unmerged_read (status.NotBuilt part.Result) h of = of
-
+-- a run that merged has read its tree
 pub merge_read : (s : Status) → IsOfMerge s → IsUnread s → ⊥
 merge_read (status.Ok groups) h of = of
 merge_read (status.Usage fault) h of = h
@@ -83,6 +39,7 @@ merge_read (status.Inconsistent fault) h of = of
 merge_read (status.NoCandidate atom reasons) h of = of
 merge_read status.NoSolution h of = of
 merge_read (status.BacktrackLimit refuted) h of = of
+merge_read (status.PlanRefused fault) h of = of
 merge_read (status.Collision c) h of = of
 merge_read (status.BadImage b) h of = of
 merge_read (status.BuildFailed id) h of = of
@@ -97,30 +54,30 @@ merge_read status.Memory h of = of
 merge_read (status.NotBuilt part.Command) h of = h
 merge_read (status.NotBuilt part.Result) h of = of
 
+-- one that found no plan has none
+pub early_planless : (s : Status) → IsEarly s → HasPlan s → ⊥
+early_planless (status.Ok groups) h of = h
+early_planless (status.Usage fault) h of = of
+early_planless (status.BadText path line) h of = of
+early_planless (status.BadDatabase fault) h of = of
+early_planless (status.BadJournal fault) h of = of
+early_planless (status.Inconsistent fault) h of = of
+early_planless (status.NoCandidate atom reasons) h of = of
+early_planless status.NoSolution h of = of
+early_planless (status.BacktrackLimit refuted) h of = of
+early_planless (status.PlanRefused fault) h of = of
+early_planless (status.Collision c) h of = h
+early_planless (status.BadImage b) h of = h
+early_planless (status.BuildFailed id) h of = h
+early_planless status.DeviceFault h of = of
+early_planless status.OutputFault h of = of
+early_planless (status.Limit quantity) h of = of
+early_planless status.Memory h of = of
+early_planless (status.NotBuilt what) h of = of
+
 -- the words are refused before anything is read
 pub words_not_read : (words : List (List ℕ)) (s : Status) → EndsAtWords words s → HasRead s → ⊥
-words_not_read words (status.Ok groups) ends of = ends
-words_not_read words (status.Usage fault) ends of = of
-words_not_read words (status.BadText path line) ends of = ends
-words_not_read words (status.BadDatabase fault) ends of = ends
-words_not_read words (status.BadJournal fault) ends of = ends
-words_not_read words (status.Inconsistent fault) ends of = ends
-words_not_read words (status.NoCandidate atom reasons) ends of = ends
-words_not_read words status.NoSolution ends of = ends
-words_not_read words (status.BacktrackLimit refuted) ends of = ends
-words_not_read words (status.Collision c) ends of = ends
-words_not_read words (status.BadImage b) ends of = ends
-words_not_read words (status.BuildFailed id) ends of = ends
-words_not_read words status.DeviceFault ends of = ends
-words_not_read words status.OutputFault ends of = ends
-words_not_read words (status.Limit Groups) ends of = ends
-words_not_read words (status.Limit Packages) ends of = ends
-words_not_read words (status.Limit Candidates) ends of = ends
-words_not_read words (status.Limit Paths) ends of = ends
-words_not_read words (status.Limit RecordBytes) ends of = ends
-words_not_read words status.Memory ends of = of
-words_not_read words (status.NotBuilt part.Command) ends of = of
-words_not_read words (status.NotBuilt part.Result) ends of = ends
+words_not_read words = at_words words (λ s. HasRead s → ⊥) (λ f h of. of) (λ h of. of) (λ of. of)
 
 pub words_no_paths : (words : List (List ℕ)) (s : Status) → EndsAtWords words s → s ≡ status.Limit Paths → ⊥
 words_no_paths words s ends is = subst (EndsAtWords words) is ends
@@ -152,20 +109,15 @@ module _ (Such : List Installed → Type 0) (TooMuch : Quantity → Type 0) wher
   gives_finished came s rose ps (inr (inl memory)) gives = record { read = λ of. absurd (subst HasRead memory of); paths = λ is. absurd (cc (memory, is)); whole = gives.whole }
   gives_finished came s rose ps (inr (inr (output, r))) gives = record { read = λ of. absurd (subst HasRead output of); paths = λ is. absurd (cc (output, is)); whole = gives.whole }
 
-pub unread_finished : (came s : Status) (rose X : Type 0) → (s ≡ came) ⊎ ((s ≡ status.Memory) ⊎ ((s ≡ status.OutputFault) × rose)) → (IsUnread came → X) → IsUnread s → X
-unread_finished came s rose X (inl same) h of = h (subst IsUnread same of)
-unread_finished came s rose X (inr (inl memory)) h of = absurd (subst IsUnread memory of)
-unread_finished came s rose X (inr (inr (output, r))) h of = absurd (subst IsUnread output of)
-
 -- the packages of what there is to choose from are installed
 of_choices : (m : Map) (flips : ℕ) (k : Choices) (ps : List Installed) → AreChoices m flips k → ps ≡ k.packages → AreInstalled m ps
 of_choices m flips k ps are same = subst (AreInstalled m) (sym same) (record { database = are.opening.database; tidy = are.opening.tidy })
 
 pub installed : (m : Map) (asked : Asked) (found : Found) → IsFound m asked found → AreInstalled m found.packages.items
-installed m asked found is = of_choices m asked.flips is.all found.packages.items is.are is.inside.packages
+installed m asked found is = of_choices m (flips_of asked.aim) is.all found.packages.items is.are is.inside.packages
 
-beside_no_plan : (m : Map) (asked : Asked) (ps : List Installed) (fault : NotChosen) → HasNoPlan m asked ps fault → AreInstalled m ps
-beside_no_plan m asked ps fault none = of_choices m asked.flips none.all ps none.are none.packages
+beside_no_plan : (m : Map) (asked : Asked) (ps : List Installed) (e : NoPlan) → HasNoPlan m asked ps e → AreInstalled m ps
+beside_no_plan m asked ps e none = of_choices m (flips_of asked.aim) none.all ps none.are none.packages
 
 module _ (m : Map) (asked : Asked) where
   abbrev Gives : NoPlan → List Installed → Type 0
@@ -190,7 +142,8 @@ module _ (m : Map) (asked : Asked) where
   gives_refused (ends.NoCandidate atom reasons packages) ps refuses is = all_given (ends.NoCandidate atom reasons packages) ps (beside_no_plan m asked packages.items _ refuses) is
   gives_refused (ends.NoSolution packages) ps refuses is = all_given (ends.NoSolution packages) ps (beside_no_plan m asked packages.items _ refuses) is
   gives_refused (ends.BacktrackLimit refuted packages) ps refuses is = all_given (ends.BacktrackLimit refuted packages) ps (beside_no_plan m asked packages.items _ refuses) is
-  gives_refused (ends.NotPlanned packages) ps refuses is = all_given (ends.NotPlanned packages) ps (beside_no_plan m asked packages.items refuses.0 refuses.2) is
+  gives_refused (ends.Refused fault packages) ps refuses is = all_given (ends.Refused fault packages) ps (beside_no_plan m asked packages.items _ refuses) is
+  gives_refused (ends.NotPlanned packages) ps refuses is = all_given (ends.NotPlanned packages) ps (beside_no_plan m asked packages.items _ refuses) is
   gives_refused ends.Failed ps refuses is = none_given ends.Failed ps (λ of. of) (λ is_paths. absurd (cc is_paths)) is
   gives_refused ends.Memory ps refuses is = none_given ends.Memory ps (λ of. of) (λ is_paths. absurd (cc is_paths)) is
 
@@ -206,6 +159,7 @@ refused_unread (ends.Inconsistent fault packages) of = absurd of
 refused_unread (ends.NoCandidate atom reasons packages) of = absurd of
 refused_unread (ends.NoSolution packages) of = absurd of
 refused_unread (ends.BacktrackLimit refuted packages) of = absurd of
+refused_unread (ends.Refused fault packages) of = absurd of
 refused_unread (ends.NotPlanned packages) of = absurd of
 refused_unread ends.Failed of = refl
 refused_unread ends.Memory of = refl
@@ -217,26 +171,35 @@ gives_after opening m s ps is gives = record {
   whole = elim gives.whole [ inl none ↦ inl none | inr all ↦ inr (m, is, all) ];
 }
 
-pub unmerged_no_usage : {X : Type 0} (r : Result X Status) (f : WordFault) → IfErr r IsUnmerged → IsErrOf r (status.Usage f) → ⊥
-unmerged_no_usage (Ok x) f h e = absurd (cc e)
-unmerged_no_usage (Err s) f h e = let is : s ≡ status.Usage f = cc e in subst IsUnmerged is h
+-- ---- what there is beside what is to be done
 
-pub unmerged_healthy : {X : Type 0} (r : Result X Status) → IfErr r IsUnmerged → IsErrOf r status.DeviceFault → ⊥
-unmerged_healthy (Ok x) h e = absurd (cc e)
-unmerged_healthy (Err s) h e = let is : s ≡ status.DeviceFault = cc e in subst IsUnmerged is h
+wanted_installed : (words : List (List ℕ)) (m : Map) (ps : List Installed) (plan : List Group) → IsWantedPlan words m ps plan → AreInstalled m ps
+wanted_installed words m ps plan (found, chosen, same) = subst (AreInstalled m) (sym chosen.packages) (installed m chosen.asked found chosen.ready.is)
 
--- a run that has read its tree gives back what is installed
-pub gives_read : {X : Type 0} (m : Map) (ps : List Installed) (r : Result X Status) → AreInstalled m ps → IfErr r (λ s. GivesBack (AreInstalled m) (openings.HasTooMuch m) s ps)
-gives_read m ps (Ok x) are = tt
-gives_read m ps (Err s) are = gives_all (AreInstalled m) (openings.HasTooMuch m) s ps are
+todo_installed : (words : List (List ℕ)) (m : Map) (ps : List Installed) (w : Work) → IsToDo words m ps w → AreInstalled m ps
+todo_installed words m ps (work.Show text plan) is = subst (AreInstalled m) (sym is.packages) (installed m is.asked is.found is.in_map)
+todo_installed words m ps (work.Rest plan) (choice, none) = wanted_installed words m ps plan (choice.0, choice.1, choice.2)
+todo_installed words m ps (work.Merge plan task) choice = wanted_installed words m ps plan (choice.0, choice.1, choice.2)
 
--- what was installed beside what is to be done
-pub todo_installed : (words : List (List ℕ)) (Image : Images) (m : Map) (ps : List Installed) (w : Work) → IsToDo words Image m ps w → AreInstalled m ps
-todo_installed words Image m ps (work.Show text) is = subst (AreInstalled m) (sym is.packages) (installed m is.asked is.found is.in_map)
-todo_installed words Image m ps (work.Merge ready) is =
-    let chosen = is.1 in
-    subst (AreInstalled m) (sym chosen.packages) (installed m chosen.asked is.0 chosen.ready.is)
+pub beside_work : (words : List (List ℕ)) (old new : Story) (ps qs : List Installed) (w : Work) → HasRecovered old new → IsToDo words new.now.holds ps w → qs ≡ ps → AreInstalledAfter old.now.holds qs
+beside_work words old new ps qs w has is same =
+    subst (AreInstalledAfter old.now.holds) (sym same) (new.now.holds, has.recovered, todo_installed words new.now.holds ps w is)
 
-pub beside_work : (words : List (List ℕ)) (Image : Images) (old new : Story) (ps qs : List Installed) (w : Work) → HasRecovered old new → IsToDo words Image new.now.holds ps w → qs ≡ ps → AreInstalledAfter old.now.holds qs
-beside_work words Image old new ps qs w has is same =
-    subst (AreInstalledAfter old.now.holds) (sym same) (new.now.holds, has.recovered, todo_installed words Image new.now.holds ps w is)
+-- the plan of what is to be done
+abbrev pub plan_in : Work → List Group
+plan_in (work.Show text plan) = plan
+plan_in (work.Rest plan) = plan
+plan_in (work.Merge plan task) = plan
+
+todo_plan : (words : List (List ℕ)) (opening m : Map) (ps : List Installed) (w : Work) → IsRecovered opening m → IsToDo words m ps w → IsPlanOf words opening (plan_in w)
+todo_plan words opening m ps (work.Show text plan) recovered is = (is.asked, is.is, (m, recovered, (is.found, is.in_map, is.plan_is)))
+todo_plan words opening m ps (work.Rest plan) recovered (choice, none) = (choice.1.asked, choice.1.is, (m, recovered, (choice.0, choice.1.ready.is, choice.2)))
+todo_plan words opening m ps (work.Merge plan task) recovered choice = (choice.1.asked, choice.1.is, (m, recovered, (choice.0, choice.1.ready.is, choice.2)))
+
+pub plan_beside : (words : List (List ℕ)) (old new : Story) (ps : List Installed) (w : Work) (o : Option (List Group)) → HasRecovered old new → IsToDo words new.now.holds ps w → MatchOption o ⊥ (λ p. p ≡ plan_in w) → IfSome o (IsPlanOf words old.now.holds)
+plan_beside words old new ps w None has is some = tt
+plan_beside words old new ps w (Some p) has is some = subst (IsPlanOf words old.now.holds) (sym some) (todo_plan words old.now.holds new.now.holds ps w has.recovered is)
+
+pub is_there : {A : Type 0} (P : A → Type 0) (o : Option A) → MatchOption o ⊥ P → ¬ (o ≡ None)
+is_there P None none = λ e. none
+is_there P (Some x) some = λ e. cc e

@@ -1,249 +1,288 @@
--- How the merge of the group that is ready tells what a run leaves.
-use Rattle.std.proofs.Common.{◌≡◌, ◌≢◌, ◌∙◌, ℕ, Bool, true, List, [], ◌∷◌, Option, None, Some, Result, Ok, Err, inl, inr, length, map, refl, ap, subst, sym, slice_get}
-use Rattle.std.specs.Prelude.{IfErr, IsErrOf, OnOk, ⊤}
-use Rattle.basics.specs.Members.{Has}
-use Rattle.file_tree.specs.Disk.{Disk, Map, Story}
+-- How the merge of a plan tells what a run leaves.
+use Rattle.std.proofs.Common.{◌≡◌, ◌≢◌, ◌∙◌, ◌<◌, ◌++◌, ◌⊎◌, ℕ, zero, suc, Bool, true, false, List, [], ◌∷◌, Option, None, Some, Result, Ok, Err, inl, inr, arith, length, refl, ap, subst, sym, slice_get}
+use Rattle.std.specs.Prelude.{Contains, IfErr, IsErrOf, OnOk, ⊤}
+use Rattle.std.proofs.lemmas.List.{length-append}
+use Rattle.build_pool.specs.declared.orders.Order.{Order}
+use Rattle.dep_atom.specs.declared.package.PackageId.{PackageId}
+use Rattle.file_tree.specs.Disk.{Map, Story}
+use Rattle.file_tree.specs.declared.limits.Quantity.{Quantity}
+use Rattle.file_tree.specs.declared.limits.Quantity.TheVariants.{Paths, RecordBytes}
 use Rattle.file_tree.specs.declared.objects.Entry.{Entry}
+use Rattle.file_tree.specs.declared.objects.Kind.TheVariants.{Plain}
+use Rattle.image_build.specs.Images.{IsBuilt}
+use Rattle.image_build.specs.Images as seen
+use Rattle.image_fit.specs.declared.limits.TheConstants.{MOST_ENTRIES}
 use Rattle.database_law.specs.Packages.{Installed}
-use Rattle.journal.specs.Group as journal
 use Rattle.run_law.specs.Openings.{AreOwners}
 use Rattle.owner_book.specs.Book.{Book}
 use Rattle.owner_book.specs.declared.fault.Collision as books
+use Rattle.owner_book.specs.declared.fault.ImageBad.{ImageBad}
 use Rattle.owner_book.specs.declared.fault.Collision.TheVariants as met
 use Rattle.plan_law.specs.Plans.{Group}
 use Rattle.merge_site.specs.declared.fault.ClaimStop.{ClaimStop}
 use Rattle.merge_site.specs.declared.fault.ClaimStop.TheVariants as claims
 use Rattle.group_run.specs.Causes.{IsOfGroup}
-use Rattle.group_run.specs.Applied.{HasHistory, LeavesHistory, Recovers, number}
-use Rattle.group_run.specs.Went.{Went}
+use Rattle.group_run.specs.Went.{WentWith}
 use Rattle.group_run.specs.declared.stop.Stop.{Stop}
 use Rattle.group_run.specs.declared.stop.Stop.TheVariants as stops
-use Rattle.exchange_make.specs.Made.{GROUP, package_of}
-use Rattle.exchange_make.specs.declared.newcomer.Newcomer.{Newcomer}
-use Rattle.exchange_run.specs.Runs.{StopsMerge, WentFor}
-use Rattle.exchange_law.specs.Ends.{image_of}
-use Rattle.emerge_run.specs.Answers.{AsksMerge, MayCome}
-use Rattle.emerge_run.specs.Outcomes.{IsOfMerge, IsRefusal, MergedTo}
-use Rattle.emerge_run.specs.Package.{IsGroupMade, Making, StopsAt}
-use Rattle.emerge_run.specs.Collisions.{owned_by, status_of_collision}
-use Rattle.emerge_run.specs.Refusals.{EndsAtCollision, IsStatusOf, status_of_claim, status_of_end, status_of_stop}
+use Rattle.plan_make.specs.Plans.{orders_at}
+use Rattle.plan_make.specs.declared.job.Job.{Job}
+use Rattle.plan_run.specs.Runs.{SaysBuild, WentFor, WentOn, merge_end, upto}
+use Rattle.plan_run.specs.declared.stop.PlanStop.{PlanStop}
+use Rattle.plan_run.specs.declared.stop.PlanStop.TheVariants as plans
+use Rattle.plan_sound.specs.Ends.{Images}
+use Rattle.emerge_run.specs.Answers.{AsksMerge}
+use Rattle.emerge_run.specs.Builds.{IsPastLimit}
+use Rattle.emerge_run.specs.Outcomes.{IsOfMerge, IsTold, MergedTo}
+use Rattle.emerge_run.specs.Package.{AreMade, Making, StopsAt}
+use Rattle.emerge_run.specs.Collisions.{ids_with, owned_by, status_of_collision}
+use Rattle.emerge_run.specs.Refusals.{EndsAtCollision, IsStatusOf, status_of_claim, status_of_end, status_of_plan_stop, status_of_stop}
 use Rattle.run_status.specs.declared.collision.Collision.{Collision}
 use Rattle.run_status.specs.declared.status.Status.{Status}
 use Rattle.run_status.specs.declared.status.Status.TheVariants as status
 
--- what holds of some groups holds of them as groups of a wider kind
-module _ (P Q : journal.Group → Type 0) (so : (x : journal.Group) → P x → Q x) where
-  pub recovers_weaker : (m : Map) (among : List ℕ) (c : Map) → Recovers P m among c → Recovers Q m among c
-  recovers_weaker m among c h = record { groups = h.groups; of = λ x there. so x (h.of x there); has = h.has; is = h.is }
+-- ---- images with too many entries
 
-  pub leaves_weaker : (m : Map) (history : List ℕ) (d : Disk) → LeavesHistory P m history d → LeavesHistory Q m history d
-  leaves_weaker m history d h = record { groups = h.groups; of = λ x there. so x (h.of x there); are = h.are; each = h.each }
+an_entry : Entry
+an_entry = record { path = []; object = record { kind = Plain; bytes = [] } }
 
-  pub has_weaker : (m : Map) (history : List ℕ) (d : Disk) → HasHistory P m history d → HasHistory Q m history d
-  has_weaker m history d h = record { groups = h.groups; of = λ x there. so x (h.of x there); are = h.are; reads = h.reads; untouched = h.untouched }
+longer : (n : ℕ) → (image : List Entry) × (n < length image)
+longer zero = (an_entry ∷ [], omega arith)
+longer (suc n) = let rest = longer n in (an_entry ∷ rest.0, omega (arith, rest.1))
 
--- the first group of a history that has one
-first_group : (P : journal.Group → Type 0) (groups : List journal.Group) (n : ℕ) → ((x : journal.Group) → Has groups x → P x) → map number groups ≡ n ∷ [] → (x : journal.Group) × P x
-first_group P [] n of are = absurd (cc are)
-first_group P (x ∷ xs) n of are = (x, of x (inl refl))
+-- of a builder that tells nothing any image is one that it makes
+module _ {B : Type 0} (told : B → Order → List Entry) (resting : List B) (order : Order) where
+  untold : (b : B) → Contains resting b → (image : List Entry) × (MOST_ENTRIES < length image) → (image : List Entry) × IsBuilt false told resting order image × (MOST_ENTRIES < length image)
+  untold b has (image, many) = (image, (b, has, λ t. absurd (cc t)), many)
+
+  many_built : (tells : Bool) → seen.IsPastLimit tells told resting order → (image : List Entry) × IsBuilt tells told resting order image × (MOST_ENTRIES < length image)
+  many_built true (b, has, many) = (told b order, (b, has, λ t. refl), many refl)
+  many_built false (b, has, many) = untold b has (longer MOST_ENTRIES)
+
+-- what is said of the builds, for these images
+abbrev pub Builds : (Image : Images) → (Failed : Type 0) → List Job → List ℕ → PlanStop → Type 0
+Builds Image Failed jobs history = SaysBuild (λ o. (image : List Entry) × Image o image × (MOST_ENTRIES < length image)) Failed (orders_at jobs (length history))
+
+module _ {B : Type 0} (told : B → Order → List Entry) (resting : List B) (tells : Bool) (Failed : Type 0) (jobs : List Job) (history : List ℕ) where
+  builds_stop : (e : PlanStop) → SaysBuild (seen.IsPastLimit tells told resting) Failed (orders_at jobs (length history)) e → Builds (IsBuilt tells told resting) Failed jobs history e
+  builds_stop (plans.Merge s) says = tt
+  builds_stop (plans.Build id) says = says
+  builds_stop (plans.Image id) (o, has, is, many) = (o, has, is, many_built told resting o tells many)
+
+  pub builds_end : (end : Result ⊤ PlanStop) → IfErr end (SaysBuild (seen.IsPastLimit tells told resting) Failed (orders_at jobs (length history))) → IfErr end (Builds (IsBuilt tells told resting) Failed jobs history)
+  builds_end (Ok x) says = tt
+  builds_end (Err e) says = builds_stop e says
+
+-- ---- collisions
 
 -- a collision of the book is told as one, or as want of memory
-owned_kind : (P : Status → Type 0) → P status.Memory → ((c : Collision) → P (status.Collision c)) → (path : List ℕ) (o : Option Installed) → P (owned_by path o)
+owned_kind : (P : Status → Type 0) → P status.Memory → ((c : Collision) → P (status.Collision c)) → (path : List ℕ) (o : Option PackageId) → P (owned_by path o)
 owned_kind P memory some path None = memory
-owned_kind P memory some path (Some p) = some _
+owned_kind P memory some path (Some id) = some _
 
-collision_kind : (P : Status → Type 0) → P status.Memory → ((c : Collision) → P (status.Collision c)) → (ps : List Installed) (k : books.Collision) → P (status_of_collision ps k)
-collision_kind P memory some ps (met.Owned path key) = owned_kind P memory some path (slice_get ps key.number)
-collision_kind P memory some ps (met.Claimed path group) = some _
-collision_kind P memory some ps (met.Ancestor path other) = some _
-collision_kind P memory some ps (met.Unowned path) = some _
+collision_kind : (P : Status → Type 0) → P status.Memory → ((c : Collision) → P (status.Collision c)) → (ids : List PackageId) (k : books.Collision) → P (status_of_collision ids k)
+collision_kind P memory some ids (met.Owned path key) = owned_kind P memory some path (slice_get ids key.number)
+collision_kind P memory some ids (met.Claimed path group) = some _
+collision_kind P memory some ids (met.Ancestor path other) = some _
+collision_kind P memory some ids (met.Unowned path) = some _
 
-module _ (ps : List Installed) (g : Group) (images : List (List Entry)) (m : Map) where
-  owned_asks : (k : books.Collision) (path : List ℕ) (o : Option Installed) → status_of_collision ps k ≡ owned_by path o → StopsAt ps g images m (stops.Claim (claims.Collision k)) → AsksMerge ps g images m (owned_by path o)
+-- ---- how it ended
+
+-- a stop of the merge is one of its groups' merge
+stop_in : (end : Result ⊤ PlanStop) (s : Stop) → IsErrOf (merge_end tt end) s → end ≡ Err (plans.Merge s)
+stop_in (Ok x) s e = absurd (cc e)
+stop_in (Err (plans.Merge t)) s e = let same : t ≡ s = cc e in ap (λ (x : Stop). Err (plans.Merge x)) same
+stop_in (Err (plans.Build id)) s e = absurd (cc e)
+stop_in (Err (plans.Image id)) s e = absurd (cc e)
+
+module _ (Image : Images) (ps : List Installed) (plan : List Group) (jobs : List Job) (book : Book) (old new : Story) (owners : AreOwners old.now.holds ps book) (history : List ℕ) where
+  abbrev m : Map
+  m = old.now.holds
+
+  abbrev ids : List PackageId
+  ids = ids_with ps plan
+
+  abbrev Made : Type 0
+  Made = Making Image ps plan jobs m
+
+  abbrev Stops : Stop → Type 0
+  Stops s = StopsAt Image ps plan jobs m (length history) s
+
+  abbrev Asked : Status → Type 0
+  Asked s = AsksMerge Image ps plan jobs m history s
+
+  abbrev Goes : Result ⊤ Stop → Type 0
+  Goes e = WentFor Image book ps plan jobs old new history e
+
+  abbrev making : (e : Result ⊤ Stop) → WentOn Image book ps plan jobs old new history e → Made
+  making e w = record { book = book; groups = w.groups; turns = w.turns; is = record { owners = owners; opened_for = w.opened_for; held = w.held; owned = w.owned; made = w.made } }
+
+  -- what was made, if anything was, and how its merge went
+  way_of : (e : Result ⊤ Stop) → Goes e → (k : Option Made) × WentWith (AreMade k) old new history e
+  way_of e (inl w) = (None, w.0)
+  way_of e (inr w) = (Some (making e w), w.went)
+
+  stopped : (s : Stop) → IsOfGroup s → Goes (Err s) → Stops s
+  stopped s of (inl w) = absurd (w.1 of)
+  stopped s of (inr w) = record { making = making (Err s) w; behind = w.cause }
+
+  owned_asks : (k : books.Collision) (path : List ℕ) (o : Option PackageId) → status_of_collision ids k ≡ owned_by path o → Stops (stops.Claim (claims.Collision k)) → Asked (owned_by path o)
   owned_asks k path None e h = tt
-  owned_asks k path (Some p) e h = (k, e, h)
+  owned_asks k path (Some id) e h = (k, e, h)
 
-  collision_asks : (k : books.Collision) → StopsAt ps g images m (stops.Claim (claims.Collision k)) → AsksMerge ps g images m (status_of_collision ps k)
-  collision_asks (met.Owned path key) h = owned_asks (met.Owned path key) path (slice_get ps key.number) refl h
+  collision_asks : (k : books.Collision) → Stops (stops.Claim (claims.Collision k)) → Asked (status_of_collision ids k)
+  collision_asks (met.Owned path key) h = owned_asks (met.Owned path key) path (slice_get ids key.number) refl h
   collision_asks (met.Claimed path group) h = (met.Claimed path group, refl, h)
   collision_asks (met.Ancestor path other) h = (met.Ancestor path other, refl, h)
   collision_asks (met.Unowned path) h = (met.Unowned path, refl, h)
 
-module _ (ps : List Installed) (g : Group) (newcomers : List Newcomer) (line : List ℕ) (book : Book) (old new : Story) (owners : AreOwners old.now.holds ps book)
-    (brings : g.additions ≡ map package_of newcomers) (history : List ℕ) (end : Result ⊤ Stop) where
-  abbrev m : Map
-  m = old.now.holds
-
-  abbrev images : List (List Entry)
-  images = map image_of newcomers
-
-  -- what was made, if anything was, and how its merge went
-  way_of : WentFor book ps g newcomers line old new history end → (k : Option (Making ps g images m)) × Went (IsGroupMade k) old new history end
-  way_of (inl w) = (None, w)
-  way_of (inr (made, over, w)) =
-      (Some (record { book = book; made = made; is = record { newcomers = newcomers; line = line; brings = brings; with_images = refl; owners = owners; over = over } }), w)
-
-  stopped : (s : Stop) → StopsMerge true m book ps g newcomers line s → StopsAt ps g images m s
-  stopped s h = record { book = book; owners = owners; newcomers = newcomers; brings = brings; with_images = refl; line = line; stops_merge = h }
-
-  claim_asks : (s : ClaimStop) → StopsAt ps g images m (stops.Claim s) → AsksMerge ps g images m (status_of_claim ps s)
+  claim_asks : (s : ClaimStop) → Stops (stops.Claim s) → Asked (status_of_claim ids s)
   claim_asks claims.Device h = tt
-  claim_asks (claims.Collision c) h = collision_asks ps g images m c h
+  claim_asks (claims.Collision c) h = collision_asks c h
   claim_asks (claims.Image b) h = inr h
   claim_asks (claims.Removal p) h = tt
   claim_asks claims.Overlap h = tt
-  claim_asks claims.Limit h = h
+  claim_asks claims.Limit h = inr h
   claim_asks claims.Memory h = tt
 
-  stop_asks : (s : Stop) → StopsAt ps g images m s → AsksMerge ps g images m (status_of_stop ps s)
-  stop_asks stops.Device h = tt
-  stop_asks stops.Output h = tt
-  stop_asks (stops.Image b) h = inl h
-  stop_asks (stops.Claim s) h = claim_asks s h
-  stop_asks stops.Limit h = h
-  stop_asks stops.Memory h = tt
+  stop_asks : (s : Stop) → Goes (Err s) → Asked (status_of_stop ids s)
+  stop_asks stops.Device went = tt
+  stop_asks stops.Output went = tt
+  stop_asks (stops.Image b) went = inl (stopped (stops.Image b) tt went)
+  stop_asks (stops.Claim s) went = claim_asks s (stopped (stops.Claim s) tt went)
+  stop_asks stops.Limit went = stopped stops.Limit tt went
+  stop_asks stops.Memory went = tt
 
-  came : (k : Option (Making ps g images m)) → (x : journal.Group) × IsGroupMade k x → MayCome ps g images m
-  came (Some k) (x, is) = (k, (x, is))
-  came None (x, is) = absurd is
+  module _ (Failed : Type 0) where
+    ended_asks : (end : Result ⊤ PlanStop) → Goes (merge_end tt end) → OnOk end (history ≡ upto (length plan)) → IfErr end (Builds Image Failed jobs history) → Asked (status_of_end ids (length plan) end)
+    ended_asks (Ok x) went all builds = (all, refl)
+    ended_asks (Err (plans.Merge s)) went all builds = stop_asks s went
+    ended_asks (Err (plans.Build id)) went all (o, has, is, failed) = (o, has, is)
+    ended_asks (Err (plans.Image id)) went all (o, has, is, (image, made, many)) = inl (record { order = o; ordered = has; image = image; made = made; many = many })
 
-  ended_asks : (e : Result ⊤ Stop) (n : ℕ) (k : Option (Making ps g images m)) → n ≡ length history → Went (IsGroupMade k) old new history e → OnOk e (history ≡ GROUP ∷ []) → IfErr e (StopsMerge true m book ps g newcomers line)
-      → AsksMerge ps g images m (status_of_end ps n e)
-  ended_asks (Ok x) n k count w told cause =
-      let h = w.tree (λ e. cc e) (λ e. cc e) in
-      (came k (first_group (IsGroupMade k) h.groups GROUP h.of (h.are ∙ told)), count ∙ ap length told)
-  ended_asks (Err s) n k count w told cause = stop_asks s (stopped s cause)
+    asked_so : (end : Result ⊤ PlanStop) (s : Status) → IsStatusOf ids (length plan) end s → Goes (merge_end tt end) → OnOk end (history ≡ upto (length plan)) → IfErr end (Builds Image Failed jobs history) → Asked s
+    asked_so end s (inl is) went all builds = subst Asked (sym is) (ended_asks end went all builds)
+    asked_so end s (inr (memory, collides)) went all builds = subst Asked (sym memory) tt
 
-  asked_so : (n : ℕ) (s : Status) (k : Option (Making ps g images m)) → IsStatusOf ps n end s → n ≡ length history → Went (IsGroupMade k) old new history end → OnOk end (history ≡ GROUP ∷ [])
-      → IfErr end (StopsMerge true m book ps g newcomers line) → AsksMerge ps g images m s
-  asked_so n s k (inl is) count w told cause = subst (λ (x : Status). AsksMerge ps g images m x) (sym is) (ended_asks end n k count w told cause)
-  asked_so n s k (inr (memory, collides)) count w told cause = subst (λ (x : Status). AsksMerge ps g images m x) (sym memory) tt
+    healthy : (end : Result ⊤ PlanStop) (s : Status) → IsStatusOf ids (length plan) end s → s ≢ status.DeviceFault → IsErrOf (merge_end tt end) stops.Device → ⊥
+    healthy end s (inl is) h e = h (is ∙ ap (status_of_end ids (length plan)) (stop_in end stops.Device e))
+    healthy end s (inr (memory, collides)) h e = subst EndsAtCollision (stop_in end stops.Device e) collides
 
-  healthy : (n : ℕ) (s : Status) → IsStatusOf ps n end s → s ≢ status.DeviceFault → IsErrOf end stops.Device → ⊥
-  healthy n s (inl is) h e = h (is ∙ ap (status_of_end ps n) e)
-  healthy n s (inr (memory, collides)) h e = subst EndsAtCollision e collides
+    fed : (end : Result ⊤ PlanStop) (s : Status) → IsStatusOf ids (length plan) end s → s ≢ status.Memory → IsErrOf (merge_end tt end) stops.Memory → ⊥
+    fed end s (inl is) h e = h (is ∙ ap (status_of_end ids (length plan)) (stop_in end stops.Memory e))
+    fed end s (inr (memory, collides)) h e = h memory
 
-  fed : (n : ℕ) (s : Status) → IsStatusOf ps n end s → s ≢ status.Memory → IsErrOf end stops.Memory → ⊥
-  fed n s (inl is) h e = h (is ∙ ap (status_of_end ps n) e)
-  fed n s (inr (memory, collides)) h e = h memory
+    pub merged_to : (end : Result ⊤ PlanStop) (s : Status) → IsStatusOf ids (length plan) end s → Goes (merge_end tt end) → OnOk end (history ≡ upto (length plan)) → IfErr end (Builds Image Failed jobs history) → MergedTo Image ps plan jobs old new history s
+    merged_to end s is went all builds =
+        let way = way_of (merge_end tt end) went in
+        let w = way.1 in
+        record {
+          answer = asked_so end s is went all builds;
+          made = way.0;
+          moments = w.moments;
+          crash = w.crash;
+          left = λ h. w.left (healthy end s is h);
+          tree = λ h k. w.tree (healthy end s is h) (fed end s is k);
+        }
 
-  pub merged_to : (n : ℕ) (s : Status) → IsStatusOf ps n end s → n ≡ length history
-      → WentFor book ps g newcomers line old new history end → OnOk end (history ≡ GROUP ∷ [])
-      → IfErr end (StopsMerge true m book ps g newcomers line) → MergedTo ps g images old new history s
-  merged_to n s is count went told cause =
-      let way = way_of went in
-      let w = way.1 in
-      record {
-        answer = asked_so n s way.0 is count w told cause;
-        made = way.0;
-        moments = w.moments;
-        crash = w.crash;
-        left = λ h. w.left (healthy n s is h);
-        tree = λ h k. w.tree (healthy n s is h) (fed n s is k);
-      }
+-- ---- which statuses a merge ends with
 
-pub ok_first : {A : Type 0} (P Q : Type 0) (r : Result A Stop) → OnOk r (P × Q) → OnOk r P
-ok_first P Q (Ok x) h = h.0
-ok_first P Q (Err s) h = tt
-
--- which statuses a merge over these packages ends with
-module _ (ps : List Installed) where
-  claim_of_merge : (s : ClaimStop) → IsOfMerge (status_of_claim ps s)
+module _ (ids : List PackageId) (n : ℕ) where
+  claim_of_merge : (s : ClaimStop) → IsOfMerge (status_of_claim ids s)
   claim_of_merge claims.Device = tt
-  claim_of_merge (claims.Collision c) = collision_kind IsOfMerge tt (λ k. tt) ps c
+  claim_of_merge (claims.Collision c) = collision_kind IsOfMerge tt (λ k. tt) ids c
   claim_of_merge (claims.Image b) = tt
   claim_of_merge (claims.Removal p) = tt
   claim_of_merge claims.Overlap = tt
   claim_of_merge claims.Limit = tt
   claim_of_merge claims.Memory = tt
 
-  all_of_merge : (n : ℕ) (end : Result ⊤ Stop) → IsOfMerge (status_of_end ps n end)
-  all_of_merge n (Ok x) = tt
-  all_of_merge n (Err stops.Device) = tt
-  all_of_merge n (Err stops.Output) = tt
-  all_of_merge n (Err (stops.Image b)) = tt
-  all_of_merge n (Err (stops.Claim s)) = claim_of_merge s
-  all_of_merge n (Err stops.Limit) = tt
-  all_of_merge n (Err stops.Memory) = tt
+  all_of_merge : (end : Result ⊤ PlanStop) → IsOfMerge (status_of_end ids n end)
+  all_of_merge (Ok x) = tt
+  all_of_merge (Err (plans.Merge stops.Device)) = tt
+  all_of_merge (Err (plans.Merge stops.Output)) = tt
+  all_of_merge (Err (plans.Merge (stops.Image b))) = tt
+  all_of_merge (Err (plans.Merge (stops.Claim s))) = claim_of_merge s
+  all_of_merge (Err (plans.Merge stops.Limit)) = tt
+  all_of_merge (Err (plans.Merge stops.Memory)) = tt
+  all_of_merge (Err (plans.Build id)) = tt
+  all_of_merge (Err (plans.Image id)) = tt
 
-  pub end_of_merge : (n : ℕ) (end : Result ⊤ Stop) (s : Status) → IsStatusOf ps n end s → IsOfMerge s
-  end_of_merge n end s (inl is) = subst IsOfMerge (sym is) (all_of_merge n end)
-  end_of_merge n end s (inr (memory, collides)) = subst IsOfMerge (sym memory) tt
+  pub end_of_merge : (end : Result ⊤ PlanStop) (s : Status) → IsStatusOf ids n end s → IsOfMerge s
+  end_of_merge end s (inl is) = subst IsOfMerge (sym is) (all_of_merge end)
+  end_of_merge end s (inr (memory, collides)) = subst IsOfMerge (sym memory) tt
 
-  ok_at : (n k : ℕ) (end : Result ⊤ Stop) → status_of_end ps n end ≡ status.Ok k → (end ≡ Ok tt) × (k ≡ n)
-  ok_at n k (Ok x) e = (refl, cc e)
-  ok_at n k (Err stops.Device) e = absurd (cc e)
-  ok_at n k (Err stops.Output) e = absurd (cc e)
-  ok_at n k (Err (stops.Image b)) e = absurd (cc e)
-  ok_at n k (Err (stops.Claim claims.Device)) e = absurd (cc e)
-  ok_at n k (Err (stops.Claim (claims.Collision c))) e = absurd (collision_kind (λ s. s ≡ status.Ok k → ⊥) (λ q. cc q) (λ x q. cc q) ps c e)
-  ok_at n k (Err (stops.Claim (claims.Image b))) e = absurd (cc e)
-  ok_at n k (Err (stops.Claim (claims.Removal p))) e = absurd (cc e)
-  ok_at n k (Err (stops.Claim claims.Overlap)) e = absurd (cc e)
-  ok_at n k (Err (stops.Claim claims.Limit)) e = absurd (cc e)
-  ok_at n k (Err (stops.Claim claims.Memory)) e = absurd (cc e)
-  ok_at n k (Err stops.Limit) e = absurd (cc e)
-  ok_at n k (Err stops.Memory) e = absurd (cc e)
+module _ (ids : List PackageId) (n : ℕ) (this : Status) (P : Result ⊤ PlanStop → Type 0)
+    (ok : status.Ok n ≡ this → P (Ok tt)) (device : status.DeviceFault ≡ this → P (Err (plans.Merge stops.Device))) (output : status.OutputFault ≡ this → P (Err (plans.Merge stops.Output)))
+    (build : (id : PackageId) → status.BuildFailed id ≡ this → P (Err (plans.Build id)))
+    (no_memory : status.Memory ≡ this → ⊥) (no_collision : (c : Collision) → status.Collision c ≡ this → ⊥) (no_image : (b : ImageBad) → status.BadImage b ≡ this → ⊥) (no_limit : (q : Quantity) → status.Limit q ≡ this → ⊥) where
+  at_claim : (s : ClaimStop) → status_of_claim ids s ≡ this → P (Err (plans.Merge (stops.Claim s)))
+  at_claim claims.Device e = absurd (no_memory e)
+  at_claim (claims.Collision c) e = absurd (collision_kind (λ s. s ≡ this → ⊥) no_memory no_collision ids c e)
+  at_claim (claims.Image b) e = absurd (no_image b e)
+  at_claim (claims.Removal p) e = absurd (no_memory e)
+  at_claim claims.Overlap e = absurd (no_memory e)
+  at_claim claims.Limit e = absurd (no_limit Paths e)
+  at_claim claims.Memory e = absurd (no_memory e)
 
-  pub ok_ended : (n k : ℕ) (end : Result ⊤ Stop) (s : Status) → IsStatusOf ps n end s → s ≡ status.Ok k → (end ≡ Ok tt) × (k ≡ n)
-  ok_ended n k end s (inl is) e = ok_at n k end (sym is ∙ e)
-  ok_ended n k end s (inr (memory, collides)) e = absurd (cc (memory, e))
+  at_end : (end : Result ⊤ PlanStop) → status_of_end ids n end ≡ this → P end
+  at_end (Ok x) e = ok e
+  at_end (Err (plans.Merge stops.Device)) e = device e
+  at_end (Err (plans.Merge stops.Output)) e = output e
+  at_end (Err (plans.Merge (stops.Image b))) e = absurd (no_image b e)
+  at_end (Err (plans.Merge (stops.Claim s))) e = at_claim s e
+  at_end (Err (plans.Merge stops.Limit)) e = absurd (no_limit RecordBytes e)
+  at_end (Err (plans.Merge stops.Memory)) e = absurd (no_memory e)
+  at_end (Err (plans.Build id)) e = build id e
+  at_end (Err (plans.Image id)) e = absurd (no_limit Paths e)
 
--- no claim is stopped for a failed device
-not_claimed : (tells : Bool) (m : Map) (book : Book) (ps : List Installed) (g : Group) (newcomers : List Newcomer) (line : List ℕ) → StopsMerge tells m book ps g newcomers line (stops.Claim claims.Device) → ⊥
-not_claimed tells m book ps g newcomers line h = let failed = h.stops_run.refusal in cc failed
+  -- an end that is told so is one that has P
+  told_so : (end : Result ⊤ PlanStop) (s : Status) → IsStatusOf ids n end s → s ≡ this → P end
+  told_so end s (inl is) e = at_end end (sym is ∙ e)
+  told_so end s (inr (memory, collides)) e = absurd (no_memory (sym memory ∙ e))
 
-module _ (ps : List Installed) where
-  device_at : (tells : Bool) (m : Map) (book : Book) (g : Group) (newcomers : List Newcomer) (line : List ℕ) (n : ℕ) (end : Result ⊤ Stop)
-      → IfErr end (StopsMerge tells m book ps g newcomers line) → status_of_end ps n end ≡ status.DeviceFault → IsErrOf end stops.Device
-  device_at tells m book g newcomers line n (Ok x) cause e = absurd (cc e)
-  device_at tells m book g newcomers line n (Err stops.Device) cause e = refl
-  device_at tells m book g newcomers line n (Err stops.Output) cause e = absurd (cc e)
-  device_at tells m book g newcomers line n (Err (stops.Image b)) cause e = absurd (cc e)
-  device_at tells m book g newcomers line n (Err (stops.Claim claims.Device)) cause e = absurd (not_claimed tells m book ps g newcomers line cause)
-  device_at tells m book g newcomers line n (Err (stops.Claim (claims.Collision c))) cause e = absurd (collision_kind (λ s. s ≡ status.DeviceFault → ⊥) (λ q. cc q) (λ x q. cc q) ps c e)
-  device_at tells m book g newcomers line n (Err (stops.Claim (claims.Image b))) cause e = absurd (cc e)
-  device_at tells m book g newcomers line n (Err (stops.Claim (claims.Removal p))) cause e = absurd (cc e)
-  device_at tells m book g newcomers line n (Err (stops.Claim claims.Overlap)) cause e = absurd (cc e)
-  device_at tells m book g newcomers line n (Err (stops.Claim claims.Limit)) cause e = absurd (cc e)
-  device_at tells m book g newcomers line n (Err (stops.Claim claims.Memory)) cause e = absurd (cc e)
-  device_at tells m book g newcomers line n (Err stops.Limit) cause e = absurd (cc e)
-  device_at tells m book g newcomers line n (Err stops.Memory) cause e = absurd (cc e)
+module _ (ids : List PackageId) (n : ℕ) (end : Result ⊤ PlanStop) (s : Status) (is : IsStatusOf ids n end s) where
+  pub ok_ended : (k : ℕ) → s ≡ status.Ok k → (end ≡ Ok tt) × (k ≡ n)
+  ok_ended k e = told_so ids n (status.Ok k) (λ r. (r ≡ Ok tt) × (k ≡ n)) (λ q. (refl, cc q)) (λ q. absurd (cc q)) (λ q. absurd (cc q)) (λ id q. absurd (cc q)) (λ q. cc q) (λ c q. cc q) (λ b q. cc q) (λ l q. cc q) end s is e
 
-  pub device_ended : (tells : Bool) (m : Map) (book : Book) (g : Group) (newcomers : List Newcomer) (line : List ℕ) (n : ℕ) (end : Result ⊤ Stop) (s : Status)
-      → IfErr end (StopsMerge tells m book ps g newcomers line) → IsStatusOf ps n end s → s ≡ status.DeviceFault → IsErrOf end stops.Device
-  device_ended tells m book g newcomers line n end s cause (inl is) e = device_at tells m book g newcomers line n end cause (sym is ∙ e)
-  device_ended tells m book g newcomers line n end s cause (inr (memory, collides)) e = absurd (cc (memory, e))
+  pub device_ended : s ≡ status.DeviceFault → IsErrOf end (plans.Merge stops.Device)
+  device_ended e = told_so ids n status.DeviceFault (λ r. IsErrOf r (plans.Merge stops.Device)) (λ q. absurd (cc q)) (λ q. refl) (λ q. absurd (cc q)) (λ id q. absurd (cc q)) (λ q. cc q) (λ c q. cc q) (λ b q. cc q) (λ l q. cc q) end s is e
 
-  output_at : (n : ℕ) (end : Result ⊤ Stop) → status_of_end ps n end ≡ status.OutputFault → IsErrOf end stops.Output
-  output_at n (Ok x) e = absurd (cc e)
-  output_at n (Err stops.Device) e = absurd (cc e)
-  output_at n (Err stops.Output) e = refl
-  output_at n (Err (stops.Image b)) e = absurd (cc e)
-  output_at n (Err (stops.Claim claims.Device)) e = absurd (cc e)
-  output_at n (Err (stops.Claim (claims.Collision c))) e = absurd (collision_kind (λ s. s ≡ status.OutputFault → ⊥) (λ q. cc q) (λ x q. cc q) ps c e)
-  output_at n (Err (stops.Claim (claims.Image b))) e = absurd (cc e)
-  output_at n (Err (stops.Claim (claims.Removal p))) e = absurd (cc e)
-  output_at n (Err (stops.Claim claims.Overlap)) e = absurd (cc e)
-  output_at n (Err (stops.Claim claims.Limit)) e = absurd (cc e)
-  output_at n (Err (stops.Claim claims.Memory)) e = absurd (cc e)
-  output_at n (Err stops.Limit) e = absurd (cc e)
-  output_at n (Err stops.Memory) e = absurd (cc e)
+  pub output_ended : s ≡ status.OutputFault → IsErrOf end (plans.Merge stops.Output)
+  output_ended e = told_so ids n status.OutputFault (λ r. IsErrOf r (plans.Merge stops.Output)) (λ q. absurd (cc q)) (λ q. absurd (cc q)) (λ q. refl) (λ id q. absurd (cc q)) (λ q. cc q) (λ c q. cc q) (λ b q. cc q) (λ l q. cc q) end s is e
 
-  pub output_ended : (n : ℕ) (end : Result ⊤ Stop) (s : Status) → IsStatusOf ps n end s → s ≡ status.OutputFault → IsErrOf end stops.Output
-  output_ended n end s (inl is) e = output_at n end (sym is ∙ e)
-  output_ended n end s (inr (memory, collides)) e = absurd (cc (memory, e))
+  build_ended : (id : PackageId) → s ≡ status.BuildFailed id → IsErrOf end (plans.Build id)
+  build_ended id e = told_so ids n (status.BuildFailed id) (λ r. IsErrOf r (plans.Build id)) (λ q. absurd (cc q)) (λ q. absurd (cc q)) (λ q. absurd (cc q)) (λ other q. let same : other ≡ id = cc q in ap (λ (x : PackageId). Err (plans.Build x)) same) (λ q. cc q) (λ c q. cc q) (λ b q. cc q) (λ l q. cc q) end s is e
 
-  -- a refusal of a merge comes of what its group has
-  refused_at : {X : Type 0} (n : ℕ) (end : Result ⊤ Stop) → IfErr end (λ e. IsOfGroup e → X) → IsRefusal (status_of_end ps n end) → X
-  refused_at n (Ok x) early of = absurd of
-  refused_at n (Err stops.Device) early of = absurd of
-  refused_at n (Err stops.Output) early of = absurd of
-  refused_at n (Err (stops.Image b)) early of = early tt
-  refused_at n (Err (stops.Claim s)) early of = early tt
-  refused_at n (Err stops.Limit) early of = early tt
-  refused_at n (Err stops.Memory) early of = absurd of
+  -- a builder's failure is told for the builder that failed
+  pub failed_ended : (Many : Order → Type 0) (Failed : Type 0) (orders : List Order) (id : PackageId) → IfErr end (SaysBuild Many Failed orders) → s ≡ status.BuildFailed id → Failed
+  failed_ended Many Failed orders id says e =
+      let built = subst (λ (r : Result ⊤ PlanStop). IfErr r (SaysBuild Many Failed orders)) (build_ended id e) says in
+      built.3
 
-  pub refused_ended : {X : Type 0} (n : ℕ) (end : Result ⊤ Stop) (s : Status) → IfErr end (λ e. IsOfGroup e → X) → IsStatusOf ps n end s → IsRefusal s → X
-  refused_ended n end s early (inl is) of = refused_at n end early (subst IsRefusal is of)
-  refused_ended n end s early (inr (memory, collides)) of = absurd (subst IsRefusal memory of)
+-- what holds where no group was stopped, or the stop is one of a group, holds where the status tells
+told_at : {X : Type 0} (owners : List PackageId) (n : ℕ) (end : Result ⊤ PlanStop) → IfErr (merge_end tt end) (λ e. IsOfGroup e → X) → OnOk (merge_end tt end) X → IsTold (status_of_end owners n end) → X
+told_at owners n (Ok x) stop ok of = ok
+told_at owners n (Err (plans.Merge stops.Device)) stop ok of = absurd of
+told_at owners n (Err (plans.Merge stops.Output)) stop ok of = absurd of
+told_at owners n (Err (plans.Merge (stops.Image b))) stop ok of = stop tt
+told_at owners n (Err (plans.Merge (stops.Claim s))) stop ok of = stop tt
+told_at owners n (Err (plans.Merge stops.Limit)) stop ok of = stop tt
+told_at owners n (Err (plans.Merge stops.Memory)) stop ok of = absurd of
+told_at owners n (Err (plans.Build id)) stop ok of = ok
+told_at owners n (Err (plans.Image id)) stop ok of = ok
+
+pub told_ended : {X : Type 0} (owners : List PackageId) (n : ℕ) (end : Result ⊤ PlanStop) (s : Status) → IsStatusOf owners n end s → IfErr (merge_end tt end) (λ e. IsOfGroup e → X) → OnOk (merge_end tt end) X → IsTold s → X
+told_ended owners n end s (inl is) stop ok of = told_at owners n end stop ok (subst IsTold is of)
+told_ended owners n end s (inr (memory, collides)) stop ok of = absurd (subst IsTold memory of)
+
+-- ---- a history of all groups
+
+length_upto : (n : ℕ) → length (upto n) ≡ n
+length_upto zero = refl
+length_upto (suc n) = let one = length-append (upto n) (suc n ∷ []) in let k = length_upto n in omega (arith, one, k)
+
+pub all_counted : (end : Result ⊤ PlanStop) (n k : ℕ) (history : List ℕ) → OnOk end (history ≡ upto n) → (end ≡ Ok tt) × (k ≡ n) → k ≡ length history
+all_counted end n k history all (ended, same) =
+    let told : history ≡ upto n = subst (λ (r : Result ⊤ PlanStop). OnOk r (history ≡ upto n)) ended all in
+    same ∙ sym (ap length told ∙ length_upto n)

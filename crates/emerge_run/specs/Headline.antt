@@ -7,8 +7,8 @@ use Rattle.database_law.specs.Packages.{Installed}
 use Rattle.offer_flags.specs.declared.candidate.Candidate.{Candidate}
 use Rattle.offer_read.specs.Offers.{AreOffers}
 use Rattle.offer_read.specs.declared.offers.Hidden.{Hidden}
-use Rattle.exchange_law.specs.Ends.{EndsSoundly, StaysSound}
-use Rattle.emerge_run.specs.Outcomes.{IsOfTree, IsWantedGroup}
+use Rattle.plan_sound.specs.Ends.{EndsSoundly, StaysSound}
+use Rattle.emerge_run.specs.Outcomes.{IsOfTree, IsWantedPlan}
 use Rattle.run_status.specs.declared.status.Status.{Status}
 
 -- these are, in byte order, the flags that are on for every package by what the map offers
@@ -19,10 +19,11 @@ pub record TurnsOn (m : Map) (flags : List (List ℕ)) : Type 0 where
       (flag : List ℕ) → has implicit flag ≡ has flags flag
 
 -- Each crash image of each moment of a run recovers to a sound tree: with these packages, or with
--- those after the group that is found for the words in this map, at the end with those where the
--- history has a group. A run that tells how it went leaves a disk that runs begin with.
+-- those after some first groups of the plan that is found for the words in this map, at the end
+-- with all groups of the history. A run that tells how it went leaves a disk that runs begin with,
+-- with the packages after just the groups of the history.
 pub record Headline (words flags : List (List ℕ)) (m : Map) (ps : List Installed)
     (old new : Story) (history : List ℕ) (s : Status) : Type 0 where
-  pub moments : Since (StaysSound flags ps (IsWantedGroup words m ps) []) old new
-  pub crash : Leaves (StaysSound flags ps (IsWantedGroup words m ps) history) new.now
-  pub tree : IsOfTree s → EndsSoundly flags ps (IsWantedGroup words m ps) history new.now
+  pub moments : Since (StaysSound flags ps (IsWantedPlan words m ps) []) old new
+  pub crash : Leaves (StaysSound flags ps (IsWantedPlan words m ps) history) new.now
+  pub tree : IsOfTree s → EndsSoundly flags ps (IsWantedPlan words m ps) history new.now

@@ -43,6 +43,7 @@ HasRead (status.Inconsistent fault) = ⊤
 HasRead (status.NoCandidate atom reasons) = ⊤
 HasRead status.NoSolution = ⊤
 HasRead (status.BacktrackLimit refuted) = ⊤
+HasRead (status.PlanRefused fault) = ⊤
 HasRead (status.Collision c) = ⊤
 HasRead (status.BadImage b) = ⊤
 HasRead (status.BuildFailed id) = ⊤
@@ -54,10 +55,18 @@ HasRead (status.Limit quantity) = ⊤
 HasRead (status.NotBuilt Result) = ⊤
 HasRead s = ⊥
 
--- the packages that a run with this answer gives back are such, where it has read the database, and
--- else they are such or none; where there are too many paths none come only of such a database
+-- the packages that a run with this answer gives back are such, where it has read the database,
+-- and else they are such or none; where there are too many paths none come only of such a database
 pub record GivesBack (Such : List Installed → Type 0) (TooMuch : Quantity → Type 0) (s : Status)
     (ps : List Installed) : Type 0 where
   pub read : HasRead s → Such ps
   pub paths : s ≡ status.Limit Paths → Such ps ⊎ ((ps ≡ []) × TooMuch Paths)
   pub whole : (ps ≡ []) ⊎ Such ps
+
+-- one that answers so has found its plan, which was accepted
+abbrev pub HasPlan : Status → Type 0
+HasPlan (status.Ok groups) = ⊤
+HasPlan (status.Collision c) = ⊤
+HasPlan (status.BadImage b) = ⊤
+HasPlan (status.BuildFailed id) = ⊤
+HasPlan s = ⊥

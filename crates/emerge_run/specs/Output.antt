@@ -1,25 +1,20 @@
 -- What a run writes: the lines of its groups, or the plan that it shows, and its last line.
-use Rattle.std.specs.Prelude.{◌≡◌, ◌⊎◌, ℕ, Bool, List, [], ◌++◌}
-use Rattle.std.specs.List.{AllByRecursion}
+use Rattle.std.specs.Prelude.{◌≡◌, ℕ, Bool, List, [], ◌++◌}
 use Rattle.file_tree.specs.Disk.{Map}
 use Rattle.group_run.specs.Lines.{AreLines, IsBeginning}
 use Rattle.plan_law.specs.Plans.{Group}
 use Rattle.run_status.specs.Last.{IsLast}
-use Rattle.run_status.specs.Texts.{done_line}
 use Rattle.run_status.specs.declared.status.Status.{Status}
+use Rattle.emerge_run.specs.Builds.{line_of}
 use Rattle.emerge_run.specs.Outcomes.{IsDone, IsNamed, IsShownAs}
 use Rattle.emerge_run.specs.Words.{AskToMerge}
 
--- the line of a group of a plan, of which P holds
-abbrev pub IsLineOf : (Group → Type 0) → List ℕ → ℕ → Type 0
-IsLineOf P line n = (g : Group) × P g × (line ≡ done_line g n)
-
--- the lines of the acknowledged groups, and a beginning of the others of the history, where P holds
--- of each group of the history
-pub record IsLines (P : Group → Type 0) (history acknowledged text : List ℕ) : Type 0 where
-  pub line : ℕ → List ℕ
-  pub named : AllByRecursion (λ n. IsLineOf P (line n) n) history
-  pub lines : AreLines line history acknowledged text
+-- the lines of the acknowledged groups of a plan, and a beginning of those of its other groups of
+-- the history, where P holds of the plan
+pub record IsLines (P : List Group → Type 0) (history acknowledged text : List ℕ) : Type 0 where
+  pub plan : List Group
+  pub named : P plan
+  pub lines : AreLines (line_of plan) history acknowledged text
 
 -- a beginning of the text, and all of it where the command was done
 abbrev pub IsCut : List ℕ → Status → List ℕ → Type 0

@@ -1,5 +1,6 @@
 -- The status that each inner fault becomes.
 use Rattle.std.specs.Prelude.{◌≡◌, ◌⊎◌, ℕ, List, [], Result, Ok, Err, ⊤}
+use Rattle.dep_atom.specs.declared.package.PackageId.{PackageId}
 use Rattle.file_tree.specs.declared.limits.Quantity.TheVariants.{Paths, RecordBytes}
 use Rattle.merge_site.specs.declared.fault.ClaimStop.{ClaimStop}
 use Rattle.merge_site.specs.declared.fault.ClaimStop.TheVariants as claims
@@ -24,6 +25,7 @@ status_of (ends.Inconsistent fault packages) = status.Inconsistent fault
 status_of (ends.NoCandidate atom reasons packages) = status.NoCandidate atom reasons
 status_of (ends.NoSolution packages) = status.NoSolution
 status_of (ends.BacktrackLimit refuted packages) = status.BacktrackLimit refuted
+status_of (ends.Refused fault packages) = status.PlanRefused fault
 status_of (ends.NotPlanned packages) = status.NotBuilt PlanResult
 status_of ends.Failed = status.DeviceFault
 status_of ends.Memory = status.Memory
@@ -34,36 +36,36 @@ packages_with (ends.Inconsistent fault packages) = packages.items
 packages_with (ends.NoCandidate atom reasons packages) = packages.items
 packages_with (ends.NoSolution packages) = packages.items
 packages_with (ends.BacktrackLimit refuted packages) = packages.items
+packages_with (ends.Refused fault packages) = packages.items
 packages_with (ends.NotPlanned packages) = packages.items
 packages_with e = []
 
--- why there is no image
-abbrev pub status_of_build : PlanStop → Status
-status_of_build (plans.Build id) = status.BuildFailed id
-status_of_build (plans.Image id) = status.Limit Paths
-status_of_build (plans.Merge stop) = status.Memory
+-- what the claim of a group is stopped for; that its paths overlap, or that it removes what nobody
+-- owns, says nothing: a tree that tells stops none so. A device's fault stops the merge and no
+-- claim.
+abbrev pub status_of_claim : List PackageId → ClaimStop → Status
+status_of_claim ids (claims.Collision c) = status_of_collision ids c
+status_of_claim ids (claims.Image b) = status.BadImage b
+status_of_claim ids claims.Limit = status.Limit Paths
+status_of_claim ids s = status.Memory
 
--- what the merge of a group is stopped for; that its paths overlap, or that it removes what nobody
--- owns, says nothing: a tree that tells stops none so
-abbrev pub status_of_claim : List Installed → ClaimStop → Status
-status_of_claim ps claims.Device = status.DeviceFault
-status_of_claim ps (claims.Collision c) = status_of_collision ps c
-status_of_claim ps (claims.Image b) = status.BadImage b
-status_of_claim ps claims.Limit = status.Limit Paths
-status_of_claim ps s = status.Memory
+abbrev pub status_of_stop : List PackageId → Stop → Status
+status_of_stop ids stops.Device = status.DeviceFault
+status_of_stop ids stops.Output = status.OutputFault
+status_of_stop ids (stops.Image b) = status.BadImage b
+status_of_stop ids (stops.Claim s) = status_of_claim ids s
+status_of_stop ids stops.Limit = status.Limit RecordBytes
+status_of_stop ids stops.Memory = status.Memory
 
-abbrev pub status_of_stop : List Installed → Stop → Status
-status_of_stop ps stops.Device = status.DeviceFault
-status_of_stop ps stops.Output = status.OutputFault
-status_of_stop ps (stops.Image b) = status.BadImage b
-status_of_stop ps (stops.Claim s) = status_of_claim ps s
-status_of_stop ps stops.Limit = status.Limit RecordBytes
-status_of_stop ps stops.Memory = status.Memory
+abbrev pub status_of_plan_stop : List PackageId → PlanStop → Status
+status_of_plan_stop ids (plans.Merge s) = status_of_stop ids s
+status_of_plan_stop ids (plans.Build id) = status.BuildFailed id
+status_of_plan_stop ids (plans.Image id) = status.Limit Paths
 
--- how the merge of so many groups over these packages ended
-abbrev pub status_of_end : List Installed → ℕ → Result ⊤ Stop → Status
-status_of_end ps n (Ok x) = status.Ok n
-status_of_end ps n (Err s) = status_of_stop ps s
+-- how the merge of so many groups ended, where these packages own paths
+abbrev pub status_of_end : List PackageId → ℕ → Result ⊤ PlanStop → Status
+status_of_end ids n (Ok x) = status.Ok n
+status_of_end ids n (Err s) = status_of_plan_stop ids s
 
 -- the claim, or the merge, is stopped for a collision
 abbrev pub Collides : ClaimStop → Type 0
@@ -74,14 +76,18 @@ abbrev pub CollidesAt : Stop → Type 0
 CollidesAt (stops.Claim s) = Collides s
 CollidesAt s = ⊥
 
-abbrev pub EndsAtCollision : Result ⊤ Stop → Type 0
+abbrev pub CollidesIn : PlanStop → Type 0
+CollidesIn (plans.Merge s) = CollidesAt s
+CollidesIn s = ⊥
+
+abbrev pub EndsAtCollision : Result ⊤ PlanStop → Type 0
 EndsAtCollision (Ok x) = ⊥
-EndsAtCollision (Err s) = CollidesAt s
+EndsAtCollision (Err s) = CollidesIn s
 
 -- it is this status, or there was no memory for the name of the package that a collision tells
 abbrev pub IsOrNameless : Status → Type 0 → Status → Type 0
 IsOrNameless this Collision s = (s ≡ this) ⊎ ((s ≡ status.Memory) × Collision)
 
--- the status of so many groups' merge over these packages that ended so
-abbrev pub IsStatusOf : List Installed → ℕ → Result ⊤ Stop → Status → Type 0
-IsStatusOf ps n end s = IsOrNameless (status_of_end ps n end) (EndsAtCollision end) s
+-- the status of so many groups' merge that ended so, where these packages own paths
+abbrev pub IsStatusOf : List PackageId → ℕ → Result ⊤ PlanStop → Status → Type 0
+IsStatusOf ids n end s = IsOrNameless (status_of_end ids n end) (EndsAtCollision end) s

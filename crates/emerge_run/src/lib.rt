@@ -2,16 +2,16 @@
 //!
 //! **A contract sees** the tree as its story, the sink as the bytes that it took, the builders by
 //! the images that they tell, and a run's end by its status, the packages that it found installed,
-//! the order of its machine, its groups and the acknowledged ones.
+//! its plan, the order of its machine, its groups and the acknowledged ones.
 //!
-//! **Proved**: a crash at any moment recovers to what the tree recovered to, with some groups of
-//! the run, at its end with all of the history; from a tree that keeps what its packages recorded,
-//! and where they go together, it recovers to such a tree; the group of the run does just what was
-//! made of the plan of the first good choice for what the words ask; that plan is accepted, and its
-//! claim was granted; the answer is the one that was asked for, and the installed packages come back
-//! where they were read; what was written is the lines of the acknowledged groups, or the plan that
-//! is shown, and the last line; each answer but want of memory has its cause; the pool comes back
-//! whole.
+//! **Proved**: a crash at any moment recovers to what the tree recovered to, with some first groups
+//! of the plan, at its end with all of the history; from a tree that keeps what its packages
+//! recorded, and where they go together, it recovers to such a tree. The plan is that of the first
+//! good choice for what the words ask, or the one that stands in their file, and it is accepted; each
+//! group does just what was made of it, and its claim was granted over what those before it left. The
+//! answer is the one that was asked for, and the installed packages come back where they were read;
+//! what was written is the lines of the acknowledged groups, or the plan that is shown, and the last
+//! line; each answer but want of memory has its cause; the pool comes back whole.
 //!
 //! **Only tested**: whole runs with ample memory.
 //!

@@ -1,60 +1,74 @@
-ghost use Rattle.std.specs.Prelude.{◌≡◌, ◌⊎◌, [], ℕ, IsTrue, MatchOption, length, map};
+ghost use Rattle.std.specs.Prelude.{◌≡◌, ◌⊎◌, ◌<◌, ◌^◌, [], ℕ, IsTrue, MatchOption, length, map};
+ghost use Rattle.std.specs.Prelude.{slice_get};
 ghost use Rattle.std.specs.Option.{option_copied};
+ghost use Rattle.build_pool.specs.Pool.{PoolRose, SameIds};
+ghost use Rattle.dep_atom.specs.declared.package.PackageId.{PackageId};
 ghost use Rattle.file_tree.specs.Disk.{CountsFault};
 ghost use Rattle.group_run.specs.Applied.{number};
-ghost use Rattle.group_run.specs.Lines.{AreLines, Wrote};
+ghost use Rattle.group_run.specs.Lines.{AreLines, IsBeginning, Wrote};
+ghost use Rattle.image_build.specs.Images.{IsBuilt};
 ghost use Rattle.merge_core.specs.Trail.{IsAtRest};
-ghost use Rattle.emerge_run.specs.Outcomes.{IsOfMerge, IsRefusal, MergedTo};
-ghost use Rattle.emerge_run.specs.Package.{IsTask, group_of, images_of};
-ghost use Rattle.emerge_run.specs.Collisions.{owned_by, status_of_collision};
-ghost use Rattle.emerge_run.specs.Refusals.{Collides, CollidesAt, IsOrNameless, IsStatusOf};
-ghost use Rattle.emerge_run.specs.Refusals.{status_of_claim, status_of_stop};
-ghost use Rattle.run_status.specs.Texts.{done_line};
+ghost use Rattle.plan_make.specs.Plans.{coming};
+ghost use Rattle.emerge_run.specs.Builds.{line_of};
+ghost use Rattle.emerge_run.specs.Outcomes.{IsOfMerge, IsTold, MergedTo};
+ghost use Rattle.emerge_run.specs.Package.{IsTask};
+ghost use Rattle.emerge_run.specs.Collisions.{id_of_package, ids_with, owned_by};
+ghost use Rattle.emerge_run.specs.Collisions.{status_of_collision};
+ghost use Rattle.emerge_run.specs.Refusals.{Collides, CollidesAt, CollidesIn, IsOrNameless};
+ghost use Rattle.emerge_run.specs.Refusals.{IsStatusOf, status_of_claim, status_of_plan_stop};
+ghost use Rattle.emerge_run.specs.Refusals.{status_of_stop};
 
-use crate::prepare::Ready;
 use crate::run::Reached;
-use exchange_run::merge_exchange;
+use build_pool::{BuildPool, Builder};
+use dep_atom::PackageId;
 use file_tree::{Path, Quantity, Sink, Tree};
-use group_run::{Merged, Stop};
+use group_run::Stop;
 use merge_site::ClaimStop;
+use plan_check::{Group, Plan};
+use plan_run::{Merged, PlanStop, Task, merge_plan};
 use record_read::Installed;
 use run_status::{Collision, Status};
 use std::alloc::Global;
 
-/// Merges the group that is ready, and tells how that ended.
-pub fn merge_ready<T: Tree, S: Sink>(
+/// Merges the groups of a plan, and tells how that ended.
+pub fn merge_ready<T: Tree, S: Sink, B: Builder>(
     alloc: Global,
     tree: T,
     out: S,
+    pool: &mut BuildPool<B>,
     opening: Vec<Installed>,
-    ready: Ready,
+    plan: Plan,
+    task: Task,
 ) -> Reached<T, S>
     requires rest { IsTrue T.tells → IsAtRest (T.story tree).now.holds (T.story tree).now }
-    requires task { IsTask T.tells (T.story tree).now.holds opening.items ready }
-    ensures merged { IsTrue T.tells → MergedTo opening.items (group_of ready) (images_of ready)
-        (T.story tree) (T.story result.tree) result.history.items result.status }
+    requires task { IsTask T.tells (T.story tree).now.holds opening.items plan task.jobs.items
+        task.book }
+    requires resting { 0 < length pool.old.resting }
+    ensures merged { IsTrue T.tells → MergedTo (IsBuilt B.tells B.told pool.old.resting)
+        opening.items plan task.jobs.items (T.story tree) (T.story result.tree)
+        result.history.items result.status }
     ensures opening { result.opening.items ≡ opening.items }
+    ensures plan { MatchOption result.plan ⊥ (λ p. p ≡ plan) }
     ensures machine { MatchOption result.machine (result.history.items ≡ [])
         (λ k. result.history.items ≡ map number k.order) }
     ensures of { IsOfMerge result.status }
     ensures ok { (n : ℕ) → result.status ≡ Status.Ok n →
         (n ≡ length result.history.items) ×
         (result.acknowledged.items ≡ result.history.items) }
-    ensures refused { IsRefusal result.status → result.history.items ≡ [] }
-    ensures kept { (result.acknowledged.items ≡ []) ⊎
-        (result.acknowledged.items ≡ result.history.items) }
-    ensures written { IsTrue S.tells → Wrote (AreLines (done_line (group_of ready))
+    ensures kept { IsBeginning result.history.items result.acknowledged.items }
+    ensures told { IsTold result.status → result.acknowledged.items ≡ result.history.items }
+    ensures written { IsTrue S.tells → Wrote (AreLines (line_of plan)
         result.history.items result.acknowledged.items)
         (S.written out) (S.written result.out) }
+    ensures build { (id : PackageId) → result.status ≡ Status.BuildFailed id →
+        PoolRose B.faults pool.old pool.new }
     ensures device { CountsFault (result.status ≡ Status.DeviceFault) (T.faults tree)
         (T.faults result.tree) }
     ensures output { CountsFault (result.status ≡ Status.OutputFault) (S.faults out)
         (S.faults result.out) }
+    ensures ids { SameIds B.number pool.old pool.new }
+    ensures lent { pool.new.lent ≡ pool.old.lent }
 {
-    let Ready {
-        removals,
-        additions,
-    } = ready;
     let Merged {
         tree,
         sink,
@@ -62,37 +76,55 @@ pub fn merge_ready<T: Tree, S: Sink>(
         end,
         history,
         acknowledged,
-    } = merge_exchange(alloc, tree, out, &opening, &removals, additions);
-    let status = status_of_end(&opening, end, history.len() as u32);
+    } = merge_plan(alloc, tree, out, pool, &opening, plan.groups(), task);
+    let status = status_of_end(&opening, plan.groups(), end);
     Reached {
         status,
         tree,
         out: sink,
         opening,
+        plan: Some(plan),
         machine,
         history,
         acknowledged,
     }
 }
 
-/// The status of a merge over these packages that ended so, with so many groups.
-fn status_of_end(packages: &[Installed], end: Result<(), Stop>, groups: u32) -> Status
-    ensures { IsStatusOf packages.now groups end result }
+/// The status of the merge of a plan over these packages that ended so.
+fn status_of_end(packages: &[Installed], plan: &[Group], end: Result<(), PlanStop>) -> Status
+    requires { length plan.now < 2 ^ 32 }
+    ensures { IsStatusOf (ids_with packages.now plan.now) (length plan.now) end result }
 {
     match end {
-        Ok(()) => Status::Ok { groups },
-        Err(stop) => status_of_stop(packages, stop),
+        Ok(()) => Status::Ok {
+            groups: plan.len() as u32,
+        },
+        Err(stop) => status_of_plan_stop(packages, plan, stop),
     }
 }
 
-fn status_of_stop(packages: &[Installed], stop: Stop) -> Status
-    ensures { IsOrNameless (status_of_stop packages.now stop) (CollidesAt stop) result }
+fn status_of_plan_stop(packages: &[Installed], plan: &[Group], stop: PlanStop) -> Status
+    ensures { IsOrNameless (status_of_plan_stop (ids_with packages.now plan.now) stop)
+        (CollidesIn stop) result }
+{
+    match stop {
+        PlanStop::Merge(stop) => status_of_stop(packages, plan, stop),
+        PlanStop::Build(package) => Status::BuildFailed { package },
+        PlanStop::Image(_) => Status::Limit {
+            quantity: Quantity::Paths,
+        },
+    }
+}
+
+fn status_of_stop(packages: &[Installed], plan: &[Group], stop: Stop) -> Status
+    ensures { IsOrNameless (status_of_stop (ids_with packages.now plan.now) stop)
+        (CollidesAt stop) result }
 {
     match stop {
         Stop::Device => Status::DeviceFault,
         Stop::Output => Status::OutputFault,
         Stop::Image(bad) => Status::BadImage(bad),
-        Stop::Claim(claim) => status_of_claim(packages, claim),
+        Stop::Claim(claim) => status_of_claim(packages, plan, claim),
         Stop::Limit => Status::Limit {
             quantity: Quantity::RecordBytes,
         },
@@ -101,29 +133,37 @@ fn status_of_stop(packages: &[Installed], stop: Stop) -> Status
 }
 
 /// The status of a claim that was stopped so. What is removed is owned, and each path comes once, as
-/// far as the tree tells: one that tells otherwise from look to look is told as want of memory.
-fn status_of_claim(packages: &[Installed], claim: ClaimStop) -> Status
-    ensures { IsOrNameless (status_of_claim packages.now claim) (Collides claim) result }
+/// far as the tree tells: one that tells otherwise from look to look is told as want of memory. A
+/// device's fault stops the merge, and no claim.
+fn status_of_claim(packages: &[Installed], plan: &[Group], claim: ClaimStop) -> Status
+    ensures { IsOrNameless (status_of_claim (ids_with packages.now plan.now) claim)
+        (Collides claim) result }
 {
     match claim {
-        ClaimStop::Device => Status::DeviceFault,
-        ClaimStop::Collision(collision) => status_of_collision(packages, collision),
+        ClaimStop::Collision(collision) => status_of_collision(packages, plan, collision),
         ClaimStop::Image(bad) => Status::BadImage(bad),
         ClaimStop::Limit => Status::Limit {
             quantity: Quantity::Paths,
         },
-        ClaimStop::Removal { .. } | ClaimStop::Overlap | ClaimStop::Memory => Status::Memory,
+        ClaimStop::Device | ClaimStop::Removal { .. } | ClaimStop::Overlap | ClaimStop::Memory =>
+            Status::Memory,
     }
 }
 
-/// The status of a collision in the book, whose keys are the places of these packages.
-fn status_of_collision(packages: &[Installed], collision: owner_book::Collision) -> Status
-    ensures { (result ≡ status_of_collision packages.now collision) ⊎ (result ≡ Status.Memory) }
+/// The status of a collision in the book, whose keys are the places of these packages, and behind
+/// them of those that come with the plan.
+fn status_of_collision(
+    packages: &[Installed],
+    plan: &[Group],
+    collision: owner_book::Collision,
+) -> Status
+    ensures { (result ≡ status_of_collision (ids_with packages.now plan.now) collision)
+        ⊎ (result ≡ Status.Memory) }
 {
     match collision {
         owner_book::Collision::Owned { path, owner } => owned_by(
             path,
-            packages.get(owner.number as usize),
+            owner_at(packages, plan, owner.number as usize),
         ),
         owner_book::Collision::Claimed { path, group } => {
             Status::Collision(Collision::Claimed { path, group })
@@ -135,15 +175,41 @@ fn status_of_collision(packages: &[Installed], collision: owner_book::Collision)
     }
 }
 
+/// The package that a place stands for.
+fn owner_at<'a>(packages: &'a [Installed], plan: &'a [Group], place: usize) -> Option<&'a PackageId>
+    ensures { option_copied result ≡ slice_get (ids_with packages.now plan.now) place }
+{
+    if place < packages.len() {
+        let package = &packages[place];
+        return Some(&package.pkg.facts.id);
+    }
+    comer_at(plan, place - packages.len())
+}
+
+/// The package that comes with the plan at a place.
+fn comer_at(plan: &[Group], place: usize) -> Option<&PackageId>
+    ensures { option_copied result ≡ slice_get (map id_of_package (coming plan.now)) place }
+{
+    let mut left = place;
+    for group in plan {
+        if left < group.additions.len() {
+            let package = &group.additions[left];
+            return Some(&package.facts.id);
+        }
+        left -= group.additions.len();
+    }
+    None
+}
+
 /// The status of a path that the package owns.
-fn owned_by(path: Path, owner: Option<&Installed>) -> Status
+fn owned_by(path: Path, owner: Option<&PackageId>) -> Status
     ensures { (result ≡ owned_by path (option_copied owner.entry))
         ⊎ (result ≡ Status.Memory) }
 {
-    let Some(package) = owner else {
+    let Some(owner) = owner else {
         return Status::Memory;
     };
-    match package.pkg.facts.id.try_clone() {
+    match owner.try_clone() {
         Ok(owner) => Status::Collision(Collision::Owned { path, owner }),
         Err(_) => Status::Memory,
     }

@@ -1,17 +1,17 @@
-ghost use Rattle.std.specs.Prelude.{◌≡◌, ◌≤◌, ◌<◌, ◌⊎◌, [], ℕ, IsTrue, MatchOption, length, map};
-ghost use Rattle.std.specs.Prelude.{List, None, string_bytes};
+ghost use Rattle.std.specs.Prelude.{◌≡◌, ◌≤◌, ◌<◌, ◌⊎◌, [], ℕ, IfSome, IsTrue, MatchOption};
+ghost use Rattle.std.specs.Prelude.{List, None, length, map, string_bytes};
 ghost use Rattle.file_tree.specs.Disk.{Map, Rose};
 ghost use Rattle.build_pool.specs.Pool.{PoolRose, SameIds};
 ghost use Rattle.dep_atom.specs.declared.package.PackageId.{PackageId};
 ghost use Rattle.emerge_run.specs.Openings.{AreInstalledAfter, GivesBack, HasTooMuchAfter};
-ghost use Rattle.emerge_run.specs.Openings.{IsUnread};
+ghost use Rattle.emerge_run.specs.Openings.{HasPlan, IsUnread};
 ghost use Rattle.database_law.specs.Packages.{Installed};
 ghost use Rattle.image_build.specs.Images.{IsBuilt};
 ghost use Rattle.run_law.specs.Ends.{BeginsWith};
 ghost use Rattle.emerge_run.specs.Headline.{Headline, TurnsOn};
-ghost use Rattle.emerge_run.specs.Outcomes.{IsRefusal, Outcome};
+ghost use Rattle.emerge_run.specs.Outcomes.{IsPlanOf, IsRefusal, IsTold, Outcome};
 ghost use Rattle.group_run.specs.Applied.{number};
-ghost use Rattle.group_run.specs.Lines.{Wrote};
+ghost use Rattle.group_run.specs.Lines.{IsBeginning, Wrote};
 ghost use Rattle.emerge_run.specs.Answers.{Asks};
 ghost use Rattle.emerge_run.specs.Output.{IsOutput, IsSaid};
 ghost use Rattle.emerge_run.specs.Words.{AskForMerge, IsOfWords, IsUsage};
@@ -23,6 +23,7 @@ use crate::showing::show_plan;
 use build_pool::{BuildPool, Builder};
 use file_tree::{Sink, Tree};
 use merge_core::Core;
+use plan_check::Plan;
 use record_read::Installed;
 use run_status::{Status, finish};
 use std::alloc::Global;
@@ -37,6 +38,8 @@ pub struct Ended<T, S, P> {
     /// The packages that were installed in the recovered tree, in byte order of their folders; none
     /// where the run ended before it had read them.
     pub opening: Vec<Installed>,
+    /// The plan, where one was found and accepted.
+    pub plan: Option<Plan>,
     /// The machine as the merge left it, where there was one.
     pub machine: Option<Core>,
     /// The groups that are in the tree for good, in order.
@@ -52,6 +55,7 @@ pub struct Reached<T, S> {
     pub tree: T,
     pub out: S,
     pub opening: Vec<Installed>,
+    pub plan: Option<Plan>,
     pub machine: Option<Core>,
     pub history: Vec<u32>,
     pub acknowledged: Vec<u32>,
@@ -59,13 +63,15 @@ pub struct Reached<T, S> {
 
 /// One command, from its words to its last line.
 ///
-/// The words are those of the whole product; what is done today is the merge of what atoms match.
-/// First an interrupted merge is completed or dropped. Then the configuration, the repository and the
-/// installed packages are read, and the first good choice is taken: all that it changes comes and goes
-/// as one group, or is shown where the words say `--pretend`. The files of what comes are put to their
-/// paths, and its record below `var/db/pkg`; what goes leaves with its record, and with its paths that
-/// don't come anew. The line comes after all that is synced, and last the journal is cleared. Want of
-/// memory may be answered in place of anything.
+/// The words are those of the whole product; what is done today is the merge of what atoms match, and
+/// of a plan that stands in a file. First an interrupted merge is completed or dropped. Then the
+/// configuration, the repository and the installed packages are read, and the first good choice is
+/// taken, all of whose changes are one group, or the file's plan is checked. The groups are merged one
+/// after another, or the plan is shown where the words say `--pretend`. Of each group the images are
+/// built, the files of what comes are put to their paths, and its record below `var/db/pkg`; what goes
+/// leaves with its record, and with its paths that don't come anew. The line of a group comes after
+/// all of it is synced, and last the journal is cleared. Want of memory may be answered in place of
+/// anything.
 pub fn emerge<T: Tree + Send, S: Sink + Send, B: Builder + Send>(
     alloc: Global,
     words: &[String],
@@ -76,7 +82,7 @@ pub fn emerge<T: Tree + Send, S: Sink + Send, B: Builder + Send>(
     requires resting { 0 < length pool.resting }
 
     // The answer is the one that the words, the tree and the images ask for; a crash at any moment
-    // recovers to before or after; and the tree has the groups of the history.
+    // recovers to what some first groups leave; and the tree has the groups of the history.
     ensures outcome { IsTrue T.tells → Outcome (map string_bytes words.now)
         (IsBuilt B.tells B.told pool.resting) (T.story tree) (T.story result.tree)
         result.history.items result.status }
@@ -84,38 +90,42 @@ pub fn emerge<T: Tree + Send, S: Sink + Send, B: Builder + Send>(
         T.story result.tree ≡ T.story tree }
 
     // What was installed comes back where it was read, and whatever is answered once a merge has
-    // begun.
+    // begun; and the plan that was accepted.
     ensures begun { IsTrue T.tells → (result.machine ≡ None) ⊎
         AreInstalledAfter (T.story tree).now.holds result.opening.items }
     ensures opening { IsTrue T.tells → GivesBack (AreInstalledAfter (T.story tree).now.holds)
         (HasTooMuchAfter (T.story tree).now.holds) result.status result.opening.items }
     ensures unread { IsUnread result.status → result.opening.items ≡ [] }
+    ensures plan { IsTrue T.tells → IfSome result.plan
+        (IsPlanOf (map string_bytes words.now) (T.story tree).now.holds) }
+    ensures planned { HasPlan result.status → ¬ (result.plan ≡ None) }
 
     // From a disk whose packages go together, and which keeps what they recorded, a crash at any
-    // moment recovers to such a tree: with the same packages, or with those after the group of all
-    // that is chosen.
+    // moment recovers to such a tree: with the packages after some first groups of the plan.
     ensures headline { IsTrue T.tells → (m : Map) (ps : List Installed) (flags : List (List ℕ)) →
         TurnsOn m flags → BeginsWith flags (T.story tree).now m ps →
         Headline (map string_bytes words.now) flags m ps (T.story tree) (T.story result.tree)
         result.history.items result.status }
 
-    // The history is the order of the machine, and its beginning is acknowledged.
+    // The history is the order of the machine, and its beginning is acknowledged: all of it, where
+    // the status tells why there is no more.
     ensures machine { MatchOption result.machine (result.history.items ≡ [])
         (λ k. result.history.items ≡ map number k.order) }
     ensures ok { (n : ℕ) → result.status ≡ Status.Ok n →
         (n ≡ length result.history.items) ×
         (result.acknowledged.items ≡ result.history.items) }
     ensures refused { IsRefusal result.status → result.history.items ≡ [] }
-    ensures kept { (result.acknowledged.items ≡ []) ⊎
-        (result.acknowledged.items ≡ result.history.items) }
+    ensures kept { IsBeginning result.history.items result.acknowledged.items }
+    ensures told { IsTold result.status → result.acknowledged.items ≡ result.history.items }
 
     // What was written is the lines of the acknowledged groups and some beginning of those of the
     // other groups, or the plan that is shown, and the last line; only where the status is a fault may
     // that be cut.
     ensures written { IsTrue S.tells → Wrote (IsOutput (map string_bytes words.now) T.tells
         (T.story tree).now.holds (λ s. IsTrue T.tells → Asks (map string_bytes words.now)
-        (T.story tree).now.holds (IsBuilt B.tells B.told pool.resting) s) result.history.items
-        result.acknowledged.items result.status) (S.written out) (S.written result.out) }
+        (T.story tree).now.holds (IsBuilt B.tells B.told pool.resting) result.history.items s)
+        result.history.items result.acknowledged.items result.status)
+        (S.written out) (S.written result.out) }
 
     // Each answer but want of memory has its cause.
     ensures usage { (f : WordFault) → result.status ≡ Status.Usage f →
@@ -134,13 +144,14 @@ pub fn emerge<T: Tree + Send, S: Sink + Send, B: Builder + Send>(
     ensures ids { SameIds B.number pool result.pool }
     ensures lent { result.pool.lent ≡ pool.lent }
 {
-    exchange_law::made_groups_leave_sound_trees();
+    plan_sound::first_turns_leave_sound_trees();
     plan_find::found_plans_are_fit();
     let Reached {
         status,
         tree,
         mut out,
         opening,
+        plan,
         machine,
         history,
         acknowledged,
@@ -152,6 +163,7 @@ pub fn emerge<T: Tree + Send, S: Sink + Send, B: Builder + Send>(
         out,
         pool,
         opening,
+        plan,
         machine,
         history,
         acknowledged,
@@ -177,14 +189,17 @@ fn attempt<T: Tree, S: Sink, B: Builder>(
     ensures opening { IsTrue T.tells → GivesBack (AreInstalledAfter (T.story tree).now.holds)
         (HasTooMuchAfter (T.story tree).now.holds) result.status result.opening.items }
     ensures unread { IsUnread result.status → result.opening.items ≡ [] }
+    ensures plan { IsTrue T.tells → IfSome result.plan
+        (IsPlanOf (map string_bytes words.now) (T.story tree).now.holds) }
+    ensures planned { HasPlan result.status → ¬ (result.plan ≡ None) }
     ensures machine { MatchOption result.machine (result.history.items ≡ [])
         (λ k. result.history.items ≡ map number k.order) }
     ensures ok { (n : ℕ) → result.status ≡ Status.Ok n →
         (n ≡ length result.history.items) ×
         (result.acknowledged.items ≡ result.history.items) }
     ensures refused { IsRefusal result.status → result.history.items ≡ [] }
-    ensures kept { (result.acknowledged.items ≡ []) ⊎
-        (result.acknowledged.items ≡ result.history.items) }
+    ensures kept { IsBeginning result.history.items result.acknowledged.items }
+    ensures told { IsTold result.status → result.acknowledged.items ≡ result.history.items }
     ensures written { IsTrue S.tells → Wrote (IsSaid (map string_bytes words.now) T.tells
         (T.story tree).now.holds result.history.items result.acknowledged.items result.status)
         (S.written out) (S.written result.out) }
@@ -202,19 +217,50 @@ fn attempt<T: Tree, S: Sink, B: Builder>(
     ensures ids { SameIds B.number pool.old pool.new }
     ensures lent { pool.new.lent ≡ pool.old.lent }
 {
-    let seen = choose(alloc, words, &mut tree, pool);
-    let Seen { opening, answer } = seen;
+    let Seen { opening, answer } = choose(alloc, words, &mut tree);
     match answer {
-        Ok(Work::Merge(ready)) => merge_ready(alloc, tree, out, opening, ready),
-        Ok(Work::Show(text)) => show_plan(alloc, tree, out, opening, text),
-        Err(status) => Reached {
-            status,
-            tree,
-            out,
-            opening,
-            machine: None,
-            history: Vec::new(alloc),
-            acknowledged: Vec::new(alloc),
-        },
+        Ok(Work::Merge { plan, task }) => {
+            merge_ready(alloc, tree, out, pool, opening, plan, task)
+        }
+        Ok(Work::Show { text, plan }) => {
+            let mut out = out;
+            let status = show_plan(&mut out, text.as_str());
+            unmerged(alloc, tree, out, opening, Some(plan), status)
+        }
+        Ok(Work::Rest { plan }) => {
+            let status = Status::Ok { groups: 0 };
+            unmerged(alloc, tree, out, opening, Some(plan), status)
+        }
+        Err(status) => unmerged(alloc, tree, out, opening, None, status),
+    }
+}
+
+/// A run that merges nothing.
+fn unmerged<T, S>(
+    alloc: Global,
+    tree: T,
+    out: S,
+    opening: Vec<Installed>,
+    plan: Option<Plan>,
+    status: Status,
+) -> Reached<T, S>
+    ensures tree { result.tree ≡ tree }
+    ensures out { result.out ≡ out }
+    ensures opening { result.opening ≡ opening }
+    ensures plan { result.plan ≡ plan }
+    ensures status { result.status ≡ status }
+    ensures machine { result.machine ≡ None }
+    ensures history { result.history.items ≡ [] }
+    ensures acknowledged { result.acknowledged.items ≡ [] }
+{
+    Reached {
+        status,
+        tree,
+        out,
+        opening,
+        plan,
+        machine: None,
+        history: Vec::new(alloc),
+        acknowledged: Vec::new(alloc),
     }
 }

@@ -14,7 +14,8 @@
 //! there): the first wanted atom that matches no value of the universe, with just the candidates of
 //! its name, visible or hidden, by their versions, and why each isn't taken; that there is no
 //! solution; which choices were tried in vain where they are too many; or the first fault of the
-//! plan that is linked or checked. Each of these shuts out the others.
+//! plan that is linked or checked. Each of these shuts out the others. [`reasons_of`] tells the
+//! candidates of a name so.
 //!
 //! **Only tested**: that with ample memory it answers.
 //!
@@ -40,4 +41,5 @@ pub use choosing::choose_plan;
 pub use chosen::Chosen;
 pub use fault::NotChosen;
 pub use reason::{NotTaken, Reason};
+pub use reasons::reasons_of;
 pub use wish::Wish;

@@ -92,7 +92,7 @@ fn ranked(mut reasons: Vec<NotTaken>) -> Result<Vec<NotTaken>, AllocError>
 }
 
 /// The candidates of the name, by their versions, each with the reason why it isn't taken.
-pub(crate) fn reasons_of(
+pub fn reasons_of(
     alloc: Global,
     name: &Name,
     offered: &[Pkg],

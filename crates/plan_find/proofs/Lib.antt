@@ -1,4 +1,7 @@
 mod Barred
+mod Aimed
+mod Missed
+mod Told
 mod Recorded
 mod Formed
 mod Fit

@@ -1,6 +1,6 @@
 -- What there is to choose from, and what is given back of it.
 use Rattle.std.proofs.Common.{◌≡◌, ◌∙◌, ℕ, List, [], Result, Ok, Err, ap, subst, sym}
-use Rattle.std.specs.Prelude.{IfErr, IfOk, IsErrOf}
+use Rattle.std.specs.Prelude.{IfOk}
 use Rattle.file_tree.specs.Disk.{Map}
 use Rattle.owner_book.specs.Book.{Book}
 use Rattle.run_law.specs.Openings.{AreOwners, HasOpening}
@@ -11,9 +11,7 @@ use Rattle.offer_read.specs.Offers.{AreOffers}
 use Rattle.offer_read.specs.declared.offers.Hidden.{Hidden}
 use Rattle.plan_find.specs.Choices.{AreChoices, choices_of}
 use Rattle.opening.specs.declared.opened.Opening.{Opening}
-use Rattle.plan_find.specs.Refusals.{IsOfChoice}
 use Rattle.plan_find.specs.declared.ends.NoPlan.{NoPlan}
-use Rattle.plan_find.specs.declared.ends.NoPlan.TheVariants as ends
 use Rattle.plan_find.specs.declared.found.Found.{Found}
 
 -- the opening was read of a tree that holds the same
@@ -35,6 +33,3 @@ owners_kept m (Err e) o packages book are = tt
 pub unclaimed_kept : (r : Result Found NoPlan) (o : Opening) → IfOk r (λ f. f.book ≡ o.book) → o.book.claims ≡ [] → IfOk r (λ f. f.book.claims ≡ [])
 unclaimed_kept (Ok f) o book none = ap (λ (b : Book). b.claims) book ∙ none
 unclaimed_kept (Err e) o book none = tt
-
-pub no_failure : (r : Result Found NoPlan) → IfErr r IsOfChoice → ¬ IsErrOf r ends.Failed
-no_failure r of fails = subst (λ (x : Result Found NoPlan). IfErr x IsOfChoice) fails of

@@ -1,6 +1,8 @@
--- What a run has to choose from, and the plan that is chosen of it.
-use Rattle.std.specs.Prelude.{◌≡◌, ℕ, List, map}
+-- What a run has to choose from, and the plan that is found over it.
+use Rattle.std.specs.Prelude.{◌≡◌, ℕ, Bool, List, Vec, map}
+use Rattle.std.specs.Global.{Global}
 use Rattle.dep_atom.specs.Values.{atom_value}
+use Rattle.dep_atom.specs.declared.atom.Atom.{Atom}
 use Rattle.file_tree.specs.Disk.{Map}
 use Rattle.pms_names.specs.Flags.{IsRising}
 use Rattle.pkg_state.specs.Package.{Package}
@@ -18,13 +20,18 @@ use Rattle.offer_read.specs.declared.offers.Reason.{Reason as HiddenReason}
 use Rattle.offer_read.specs.declared.offers.Reason.TheVariants as hides
 use Rattle.universe_make.specs.Offers.{variants_of}
 use Rattle.universe_make.specs.declared.candidate.Candidate.{Candidate as Tried}
+use Rattle.plan_text.specs.Plans.{plan_value}
 use Rattle.plan_choose.specs.Answers.{IsChosenPlan, Tells}
+use Rattle.plan_choose.specs.Plans.{IsGood}
 use Rattle.plan_choose.specs.Wishes.{Over, WishValue}
 use Rattle.plan_choose.specs.declared.chosen.Chosen.{Chosen}
 use Rattle.plan_choose.specs.declared.fault.NotChosen.{NotChosen}
 use Rattle.plan_choose.specs.declared.reason.NotTaken.{NotTaken}
 use Rattle.plan_choose.specs.declared.reason.Reason.{Reason}
 use Rattle.plan_choose.specs.declared.reason.Reason.TheVariants.{BadEntry, Eapi, Keyword, Masked, NoEbuild, RequiredUse, Stale}
+use Rattle.plan_find.specs.Files.{HoldsPlan}
+use Rattle.plan_find.specs.declared.asked.Aim.{Aim}
+use Rattle.plan_find.specs.declared.asked.Aim.TheVariants.{Atoms, File}
 use Rattle.plan_find.specs.declared.asked.Asked.{Asked}
 use Rattle.plan_find.specs.declared.found.Found.{Found}
 
@@ -79,28 +86,41 @@ offered_of k = map bare_of k.candidates
 abbrev pub hidden_of : Choices → List NotTaken
 hidden_of k = map not_taken k.hidden
 
-abbrev pub wish_of : Asked → WishValue
-wish_of asked =
-    record {
-      wanted = map atom_value asked.wanted.items;
-      update = asked.update;
-      limit = asked.limit;
-    }
+abbrev pub wish_of : Vec Atom Global → Bool → ℕ → WishValue
+wish_of wanted update limit =
+    record { wanted = map atom_value wanted.items; update = update; limit = limit }
 
--- something holds of the universe of what is asked
-abbrev pub OfUniverse : Choices → Asked → (Universe → Type 0) → Type 0
-OfUniverse k asked Holds =
-    Over (installed_of k) (variants_of (map tried_of k.candidates)) (wish_of asked) Holds
+-- something holds of the universe of a wish
+abbrev pub OfUniverse : Choices → WishValue → (Universe → Type 0) → Type 0
+OfUniverse k wish Holds =
+    Over (installed_of k) (variants_of (map tried_of k.candidates)) wish Holds
 
--- the plan is the one of what is asked
-abbrev pub IsChosenOf : Choices → Asked → Chosen → Type 0
-IsChosenOf k asked chosen = OfUniverse k asked (λ u.
-    IsChosenPlan (installed_of k) (offered_of k) asked.update asked.limit u chosen)
+-- the plan is the one of the wish
+abbrev pub IsChosenOf : Choices → WishValue → Chosen → Type 0
+IsChosenOf k wish chosen = OfUniverse k wish (λ u.
+    IsChosenPlan (installed_of k) (offered_of k) wish.update wish.limit u chosen)
 
 -- there is none, for this reason
-abbrev pub IsUnchosen : Choices → Asked → NotChosen → Type 0
-IsUnchosen k asked fault = OfUniverse k asked (λ u.
-    Tells (installed_of k) (offered_of k) (hidden_of k) asked.update asked.limit u fault)
+abbrev pub IsUnchosen : Choices → WishValue → NotChosen → Type 0
+IsUnchosen k wish fault = OfUniverse k wish (λ u.
+    Tells (installed_of k) (offered_of k) (hidden_of k) wish.update wish.limit u fault)
+
+-- the plan is that of the file: of its text, linked to the offered packages and accepted over the
+-- installed ones, with binds that are right
+pub record IsFiled (m : Map) (k : Choices) (path : List ℕ) (chosen : Chosen) : Type 0 where
+  pub text : HoldsPlan m path (plan_value chosen.text)
+  pub good : IsGood (installed_of k) (offered_of k) (plan_value chosen.text) chosen.plan
+
+-- the plan is the one that is aimed at
+abbrev pub IsAimed : Map → Choices → Aim → Chosen → Type 0
+IsAimed m k (Atoms wanted update limit flips) chosen =
+    IsChosenOf k (wish_of wanted update limit) chosen
+IsAimed m k (File path) chosen = IsFiled m k path chosen
+
+-- so many flags of a candidate are flipped at most; for the plan of a file none is
+abbrev pub flips_of : Aim → ℕ
+flips_of (Atoms wanted update limit flips) = flips
+flips_of (File path) = 0
 
 -- the candidates are those of the map's offers; the packages are installed in it, within the
 -- limits, go together with the flags on, and no other list tells them
@@ -110,15 +130,15 @@ pub record AreChoices (m : Map) (flips : ℕ) (k : Choices) : Type 0 where
   pub within : AreWithin k.packages
   pub only : (qs : List Installed) → HasOpening k.implicit m qs → k.packages ≡ qs
 
--- the plan was found in these
-pub record IsFoundIn (k : Choices) (asked : Asked) (found : Found) : Type 0 where
+-- the plan was found in these, and in what the map holds
+pub record IsFoundIn (m : Map) (k : Choices) (asked : Asked) (found : Found) : Type 0 where
   pub implicit : found.implicit ≡ k.implicit
   pub rising : IsRising found.implicit
   pub packages : found.packages.items ≡ k.packages
-  pub chosen : IsChosenOf k asked found.chosen
+  pub chosen : IsAimed m k asked.aim found.chosen
 
 -- it was found in what the map has to choose from
 pub record IsFound (m : Map) (asked : Asked) (found : Found) : Type 0 where
   pub all : Choices
-  pub are : AreChoices m asked.flips all
-  pub inside : IsFoundIn all asked found
+  pub are : AreChoices m (flips_of asked.aim) all
+  pub inside : IsFoundIn m all asked found

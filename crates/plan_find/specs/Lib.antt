@@ -1,6 +1,10 @@
 pub mod Requests
 pub mod Ends
+pub mod Files
 pub mod Choices
+pub mod Lacking
+pub mod Filing
+pub mod Sources
 pub mod Refusals
 pub mod Shapes
 pub mod Laws

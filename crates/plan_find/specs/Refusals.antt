@@ -1,7 +1,8 @@
 -- Why there is no plan.
-use Rattle.std.specs.Prelude.{◌≡◌, ℕ, List, ⊤}
+use Rattle.std.specs.Prelude.{◌≡◌, ◌⊎◌, ℕ, List, ⊤}
 use Rattle.file_tree.specs.Disk.{Map}
-use Rattle.file_tree.specs.declared.limits.Quantity.TheVariants.{Candidates}
+use Rattle.file_tree.specs.declared.limits.Quantity.TheVariants.{Candidates, Groups}
+use Rattle.database_law.specs.Fields.{text_of}
 use Rattle.database_law.specs.Packages.{Installed}
 use Rattle.run_law.specs.Openings.{HasOpening}
 use Rattle.offer_flags.specs.declared.candidate.Candidate.{Candidate}
@@ -13,66 +14,88 @@ use Rattle.opening.specs.Faults.{ArePast}
 use Rattle.opening.specs.Faults as opens
 use Rattle.opening.specs.declared.fault.OpeningFault.{OpeningFault}
 use Rattle.opening.specs.declared.fault.OpeningFault.TheVariants as openings
-use Rattle.plan_choose.specs.declared.fault.NotChosen.{NotChosen}
-use Rattle.plan_choose.specs.declared.fault.NotChosen.TheVariants as choosing
-use Rattle.plan_find.specs.Choices.{AreChoices, Choices, IsUnchosen}
-use Rattle.plan_find.specs.Ends.{end_with}
+use Rattle.plan_text.specs.Plans.{GroupValue}
+use Rattle.plan_find.specs.Choices.{AreChoices, Choices, flips_of}
+use Rattle.plan_find.specs.Files.{FailsAt, HoldsPlan, IsTooLong}
+use Rattle.plan_find.specs.Lacking.{Lacks}
+use Rattle.plan_find.specs.declared.asked.Aim.{Aim}
+use Rattle.plan_find.specs.declared.asked.Aim.TheVariants.{Atoms, File}
 use Rattle.plan_find.specs.declared.asked.Asked.{Asked}
 use Rattle.plan_find.specs.declared.ends.NoPlan.{NoPlan}
-use Rattle.plan_find.specs.declared.ends.NoPlan.TheVariants.{BacktrackLimit, BadDatabase, Failed, Inconsistent, Limit, Memory, NoCandidate, NoSolution, NotPlanned, Text}
+use Rattle.plan_find.specs.declared.ends.NoPlan.TheVariants.{BacktrackLimit, BadDatabase, Failed, Inconsistent, Limit, Memory, NoCandidate, NoSolution, NotPlanned, Refused, Text}
 
--- the map has offers, and for this reason no run begins with its installed packages; if they go
--- together, there is too much of them
-pub record HasNoOpening (m : Map) (flips : ℕ) (fault : OpeningFault) : Type 0 where
+-- the map has offers
+pub record HasOffers (m : Map) (flips : ℕ) : Type 0 where
   pub implicit : List (List ℕ)
   pub candidates : List Candidate
   pub hidden : List Hidden
-  pub offers : AreOffers m flips implicit candidates hidden
+  pub are : AreOffers m flips implicit candidates hidden
+
+-- the map has offers, and the file that is aimed at is bad at the line; a missing one has line 0
+abbrev pub HasBadFile : Map → Aim → List ℕ → ℕ → Type 0
+HasBadFile m (Atoms wanted update limit flips) path line = ⊥
+HasBadFile m (File file) path line =
+    HasOffers m 0 × (path ≡ file) × FailsAt (text_of (m file)) line
+
+-- the map has offers, and the file that is aimed at has a group too many
+abbrev pub HasLongFile : Map → Aim → Type 0
+HasLongFile m (Atoms wanted update limit flips) = ⊥
+HasLongFile m (File file) = HasOffers m 0 × IsTooLong (text_of (m file))
+
+-- a file that is aimed at has a plan
+abbrev pub CanAim : Map → Aim → Type 0
+CanAim m (Atoms wanted update limit flips) = ⊤
+CanAim m (File path) = (groups : List GroupValue) × HoldsPlan m path groups
+
+-- the map has offers and what is aimed at, and for this reason no run begins with its installed
+-- packages; if they go together, there is too much of them
+pub record HasNoOpening (m : Map) (asked : Asked) (fault : OpeningFault) : Type 0 where
+  pub implicit : List (List ℕ)
+  pub candidates : List Candidate
+  pub hidden : List Hidden
+  pub offers : AreOffers m (flips_of asked.aim) implicit candidates hidden
+  pub aimed : CanAim m asked.aim
   pub refused : opens.Refuses implicit m fault
   pub none : (ps : List Installed) → HasOpening implicit m ps → ArePast ps fault
 
--- the map has something to choose from, with these packages, and for this reason nothing is chosen
-pub record HasNoPlan (m : Map) (asked : Asked) (ps : List Installed) (fault : NotChosen) :
-    Type 0 where
+-- the map has something to choose from, with these packages, and for this reason there is no plan
+pub record HasNoPlan (m : Map) (asked : Asked) (ps : List Installed) (e : NoPlan) : Type 0 where
   pub all : Choices
-  pub are : AreChoices m asked.flips all
+  pub are : AreChoices m (flips_of asked.aim) all
   pub packages : ps ≡ all.packages
-  pub unchosen : IsUnchosen all asked fault
+  pub lacks : Lacks m all asked.aim e
 
--- the fault is one of a plan: what is chosen isn't offered, or the plan isn't accepted
-abbrev pub IsOfPlan : NotChosen → Type 0
-IsOfPlan (choosing.Unlinked fault) = ⊤
-IsOfPlan (choosing.Refused fault) = ⊤
-IsOfPlan fault = ⊥
+-- the text is that of the file that is aimed at: it is bad, or an addition has a flag that its
+-- package doesn't know
+abbrev pub IsOfFile : Map → Asked → List ℕ → ℕ → Type 0
+IsOfFile m asked path line = HasBadFile m asked.aim path line
+    ⊎ ((ps : List Installed) × HasNoPlan m asked ps (Text path line))
 
 -- why the map has no plan for what is asked; a failure and want of memory say nothing of it
 abbrev pub Refuses : Map → Asked → NoPlan → Type 0
-Refuses m asked (Text path line) = FirstFault m (offers.Text path line)
+Refuses m asked (Text path line) =
+    FirstFault m (offers.Text path line) ⊎ IsOfFile m asked path line
 Refuses m asked (Limit Candidates) = FirstFault m offers.Limit
-Refuses m asked (Limit quantity) = HasNoOpening m asked.flips (openings.Limit quantity)
-Refuses m asked (BadDatabase fault) = HasNoOpening m asked.flips (openings.Database fault)
+Refuses m asked (Limit Groups) = HasLongFile m asked.aim
+Refuses m asked (Limit quantity) = HasNoOpening m asked (openings.Limit quantity)
+Refuses m asked (BadDatabase fault) = HasNoOpening m asked (openings.Database fault)
 Refuses m asked (Inconsistent fault packages) =
-    HasNoOpening m asked.flips (openings.Inconsistent fault packages)
+    HasNoOpening m asked (openings.Inconsistent fault packages)
 Refuses m asked (NoCandidate atom reasons packages) =
-    HasNoPlan m asked packages.items (choosing.NoCandidate atom reasons)
-Refuses m asked (NoSolution packages) = HasNoPlan m asked packages.items choosing.NoSolution
+    HasNoPlan m asked packages.items (NoCandidate atom reasons packages)
+Refuses m asked (NoSolution packages) =
+    HasNoPlan m asked packages.items (NoSolution packages)
 Refuses m asked (BacktrackLimit refuted packages) =
-    HasNoPlan m asked packages.items (choosing.BacktrackLimit refuted)
+    HasNoPlan m asked packages.items (BacktrackLimit refuted packages)
 Refuses m asked (NotPlanned packages) =
-    (fault : NotChosen) × IsOfPlan fault × HasNoPlan m asked packages.items fault
+    HasNoPlan m asked packages.items (NotPlanned packages)
+Refuses m asked (Refused fault packages) =
+    HasNoPlan m asked packages.items (Refused fault packages)
 Refuses m asked Failed = ⊤
 Refuses m asked Memory = ⊤
 
--- the end is one of a choice
-abbrev pub IsOfChoice : NoPlan → Type 0
-IsOfChoice (NoCandidate atom reasons packages) = ⊤
-IsOfChoice (NoSolution packages) = ⊤
-IsOfChoice (BacktrackLimit refuted packages) = ⊤
-IsOfChoice (NotPlanned packages) = ⊤
-IsOfChoice Memory = ⊤
-IsOfChoice e = ⊥
-
 -- a text is refused for no fault that keeps the configuration from being read
-abbrev pub IsRead : Map → NoPlan → Type 0
-IsRead m (Text path line) = IsBehind m (offers.Text path line)
-IsRead m e = ⊤
+abbrev pub IsRead : Map → Asked → NoPlan → Type 0
+IsRead m asked (Text path line) =
+    IsBehind m (offers.Text path line) ⊎ IsOfFile m asked path line
+IsRead m asked e = ⊤

@@ -1,18 +1,17 @@
--- What a plan of all changes looks like.
-use Rattle.std.specs.Prelude.{◌≡◌, List, [], ◌∷◌, length, ⊤}
+-- What a plan that was found looks like.
+use Rattle.std.specs.Prelude.{◌≡◌, length}
+use Rattle.std.specs.List.{AllZip}
 use Rattle.plan_law.specs.Plans.{Group}
 use Rattle.plan_text.specs.Plans.{GroupValue, plan_value}
 use Rattle.plan_text.specs.Texts.{IsPlan}
 use Rattle.plan_choose.specs.declared.chosen.Chosen.{Chosen}
 
--- there is no group, or one that waits for none, and the text has as many additions as the plan
-abbrev pub AreOneGroup : List GroupValue → List Group → Type 0
-AreOneGroup [] [] = ⊤
-AreOneGroup (t ∷ []) (g ∷ []) = (g.after ≡ []) × (length t.additions ≡ length g.additions)
-AreOneGroup text plan = ⊥
+-- the group of the text has as many additions as that of the plan
+abbrev pub HaveAsMany : GroupValue → Group → Type 0
+HaveAsMany t g = length t.additions ≡ length g.additions
 
--- the text of what is chosen is that of a plan, and it is one group at most, in the text as in the
--- plan
+-- the text of what is found is that of a plan in form, hence of 4,096 groups at most, and group by
+-- group it has as many additions as the plan
 pub record IsInShape (chosen : Chosen) : Type 0 where
   pub form : IsPlan (plan_value chosen.text)
-  pub one : AreOneGroup (plan_value chosen.text) chosen.plan
+  pub alike : AllZip HaveAsMany (plan_value chosen.text) chosen.plan

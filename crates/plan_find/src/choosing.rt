@@ -1,26 +1,34 @@
 ghost use Rattle.std.specs.Prelude.{◌≡◌, ◌≢◌, IfErr, IfOk, map};
 ghost use Rattle.commit_law.specs.Lit.{packages_of};
-ghost use Rattle.file_tree.specs.Disk.{Map};
 ghost use Rattle.pms_names.specs.Flags.{IsRising};
 ghost use Rattle.pkg_state.specs.Consistent.{AreApart, AreConsistent};
+ghost use Rattle.plan_text.specs.Plans.{plan_value};
+ghost use Rattle.plan_text.specs.Texts.{IsPlan};
 ghost use Rattle.plan_choose.specs.Answers.{IsChosenPlan, Tells};
+ghost use Rattle.plan_choose.specs.Plans.{IsGood};
 ghost use Rattle.plan_choose.specs.Wishes.{Over, wish_value};
 ghost use Rattle.plan_choose.specs.declared.fault.NotChosen.TheVariants.{Memory};
 ghost use Rattle.universe_make.specs.Offers.{variants_of};
-ghost use Rattle.plan_find.specs.Choices.{AreChoices, IsChosenOf, IsFoundIn, IsUnchosen};
-ghost use Rattle.plan_find.specs.Choices.{bare_of, choices_of, tried_of};
-ghost use Rattle.plan_find.specs.Refusals.{IsOfChoice, Refuses};
+ghost use Rattle.plan_find.specs.Choices.{IsChosenOf, IsUnchosen, bare_of, choices_of, not_taken};
+ghost use Rattle.plan_find.specs.Choices.{tried_of};
+ghost use Rattle.plan_find.specs.Filing.{IsUnfiled};
 ghost use Rattle.plan_find.specs.Shapes.{IsInShape};
+ghost use Rattle.plan_find.specs.Sources.{Ends, IsFormed, IsMade};
+ghost use Rattle.plan_find.specs.declared.source.Source.TheVariants.{Filed, Wished};
 
-use crate::asked::Asked;
-use crate::ends::{NoPlan, end_with};
+use crate::ends::{NoPlan, end_of_file, end_with};
+use crate::filing::judged;
 use crate::found::Found;
 use crate::offered::{Parted, all_lit, not_taken, parts_of};
+use crate::source::Source;
+use crate::unfiled::Unfiled;
+use file_tree::Path;
 use offer_flags::Candidate;
 use offer_read::{Hidden, Offers};
 use opening::Opening;
 use pkg_state::Pkg;
 use plan_choose::{Chosen, NotChosen, NotTaken, Wish, choose_plan};
+use plan_text::Plan;
 use pms_names::Flags;
 use record_read::Installed;
 use std::alloc::Global;
@@ -30,18 +38,34 @@ pub(crate) fn plan_over(
     alloc: Global,
     opening: Opening,
     offers: Offers,
-    asked: Asked,
+    source: Source,
 ) -> Result<Found, NoPlan>
-    requires { AreConsistent (packages_of offers.implicit opening.packages.items) }
-    ensures found { IfOk result (IsFoundIn (choices_of offers.implicit opening.packages.items
-        offers.candidates.items offers.hidden.items) asked) }
-    ensures shape { IfOk result (λ f. IsInShape f.chosen) }
+    requires consistent { AreConsistent (packages_of offers.implicit opening.packages.items) }
+    requires form { IsFormed source }
+    ensures found { IfOk result (IsMade (choices_of offers.implicit opening.packages.items
+        offers.candidates.items offers.hidden.items) source) }
     ensures packages { IfOk result (λ f. f.packages ≡ opening.packages) }
     ensures book { IfOk result (λ f. f.book ≡ opening.book) }
-    ensures refused { IfErr result (λ e. (m : Map) → AreChoices m asked.flips (choices_of
-        offers.implicit opening.packages.items offers.candidates.items offers.hidden.items) →
-        Refuses m asked e) }
-    ensures end { IfErr result IsOfChoice }
+    ensures shape { IfOk result (λ f. IsInShape f.chosen) }
+    ensures refused { IfErr result (Ends (choices_of offers.implicit opening.packages.items
+        offers.candidates.items offers.hidden.items) source) }
+{
+    match source {
+        Source::Wished(wish) => wished_over(alloc, opening, offers, wish),
+        Source::Filed { path, text } => filed_over(alloc, opening, offers, path, text),
+    }
+}
+
+/// The plan of a wish.
+fn wished_over(alloc: Global, opening: Opening, offers: Offers, wish: Wish) -> Result<Found, NoPlan>
+    requires { AreConsistent (packages_of offers.implicit opening.packages.items) }
+    ensures found { IfOk result (IsMade (choices_of offers.implicit opening.packages.items
+        offers.candidates.items offers.hidden.items) (Wished wish)) }
+    ensures packages { IfOk result (λ f. f.packages ≡ opening.packages) }
+    ensures book { IfOk result (λ f. f.book ≡ opening.book) }
+    ensures shape { IfOk result (λ f. IsInShape f.chosen) }
+    ensures refused { IfErr result (Ends (choices_of offers.implicit opening.packages.items
+        offers.candidates.items offers.hidden.items) (Wished wish)) }
 {
     let Opening { packages, book } = opening;
     let Offers {
@@ -50,7 +74,7 @@ pub(crate) fn plan_over(
         hidden,
     } = offers;
     rises(&implicit);
-    match chosen_over(alloc, &packages, &implicit, candidates, hidden, asked) {
+    match chosen_over(alloc, &packages, &implicit, candidates, hidden, wish) {
         Ok(chosen) => Ok(Found {
             packages,
             book,
@@ -58,6 +82,41 @@ pub(crate) fn plan_over(
             chosen,
         }),
         Err(fault) => Err(end_with(fault, packages)),
+    }
+}
+
+/// The plan that stands in the file at the path.
+fn filed_over(
+    alloc: Global,
+    opening: Opening,
+    offers: Offers,
+    path: Path,
+    text: Plan,
+) -> Result<Found, NoPlan>
+    requires { IsPlan (plan_value text) }
+    ensures found { IfOk result (IsMade (choices_of offers.implicit opening.packages.items
+        offers.candidates.items offers.hidden.items) (Filed path text)) }
+    ensures packages { IfOk result (λ f. f.packages ≡ opening.packages) }
+    ensures book { IfOk result (λ f. f.book ≡ opening.book) }
+    ensures shape { IfOk result (λ f. IsInShape f.chosen) }
+    ensures refused { IfErr result (Ends (choices_of offers.implicit opening.packages.items
+        offers.candidates.items offers.hidden.items) (Filed path text)) }
+{
+    let Opening { packages, book } = opening;
+    let Offers {
+        implicit,
+        candidates,
+        hidden,
+    } = offers;
+    rises(&implicit);
+    match judged_over(alloc, &packages, &implicit, candidates, hidden, text) {
+        Ok(chosen) => Ok(Found {
+            packages,
+            book,
+            implicit,
+            chosen,
+        }),
+        Err(fault) => Err(end_of_file(fault, path, packages)),
     }
 }
 
@@ -75,22 +134,40 @@ fn chosen_over(
     implicit: &Flags,
     candidates: Vec<Candidate>,
     hidden: Vec<Hidden>,
-    asked: Asked,
+    wish: Wish,
 ) -> Result<Chosen, NotChosen>
     requires { AreConsistent (packages_of implicit.now packages.now) }
-    ensures chosen { IfOk result (IsChosenOf
-        (choices_of implicit.now packages.now candidates.items hidden.items) asked) }
-    ensures fault { IfErr result (λ e. e ≢ Memory → IsUnchosen
-        (choices_of implicit.now packages.now candidates.items hidden.items) asked e) }
+    ensures chosen { IfOk result (IsChosenOf (choices_of implicit.now packages.now
+        candidates.items hidden.items) (wish_value wish)) }
+    ensures fault { IfErr result (λ e. e ≢ Memory → IsUnchosen (choices_of implicit.now packages.now
+        candidates.items hidden.items) (wish_value wish) e) }
 {
     let installed = all_lit(alloc, packages, implicit)?;
     let hidden = not_taken(alloc, hidden)?;
-    let wish = Wish {
-        wanted: asked.wanted,
-        update: asked.update,
-        limit: asked.limit,
-    };
     chosen_among(alloc, &installed, candidates, &hidden, wish)
+}
+
+/// What becomes of the text, over these packages with the implicit flags on.
+fn judged_over(
+    alloc: Global,
+    packages: &[Installed],
+    implicit: &Flags,
+    candidates: Vec<Candidate>,
+    hidden: Vec<Hidden>,
+    text: Plan,
+) -> Result<Chosen, Unfiled>
+    requires { IsPlan (plan_value text) }
+    ensures text { IfOk result (λ chosen. chosen.text ≡ text) }
+    ensures good { IfOk result (λ chosen. IsGood (packages_of implicit.now packages.now)
+        (map bare_of candidates.items) (plan_value text) chosen.plan) }
+    ensures fault { IfErr result (IsUnfiled (packages_of implicit.now packages.now)
+        (map bare_of candidates.items) (map not_taken hidden.items) (plan_value text)) }
+{
+    let installed = all_lit(alloc, packages, implicit)?;
+    let hidden = not_taken(alloc, hidden)?;
+    let Parted { offered, .. } = parts_of(alloc, candidates)?;
+    let plan = judged(alloc, &installed, &offered, &hidden, &text)?;
+    Ok(Chosen { text, plan })
 }
 
 /// The same, over these packages as they are.

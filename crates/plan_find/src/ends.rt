@@ -1,13 +1,15 @@
 ghost use Rattle.std.specs.Prelude.{◌≡◌};
-ghost use Rattle.plan_find.specs.Ends.{end_with, unplanned};
+ghost use Rattle.plan_find.specs.Ends.{end_of_file, end_with, unplanned};
 
+use crate::unfiled::Unfiled;
 use choice_tree::Choice;
 use database_read::DatabaseFault;
 use dep_atom::Atom;
-use file_tree::{Path, Quantity};
+use file_tree::{Path, Quantity, TreeFault};
 use offer_read::OffersFault;
 use opening::OpeningFault;
 use pkg_state::Broken;
+use plan_check::PlanRefused;
 use plan_choose::{NotChosen, NotTaken};
 use record_read::Installed;
 use thiserror::Error;
@@ -15,14 +17,16 @@ use thiserror::Error;
 /// Why there is no plan. Where the database could be read, the installed packages are given back.
 #[derive(Debug, Drop, Error)]
 pub enum NoPlan {
-    /// The file of the configuration isn't in form at this line, counted from 1. A folder that is
-    /// missing has line 0.
-    #[error("line {line} of a configuration file is not in form")]
+    /// The file of the configuration, or that of the plan, isn't in form at this line, counted from
+    /// 1. Line 0 has a folder or a plan's file that is missing, and a plan with a flag that its
+    /// package doesn't know.
+    #[error("line {line} of a file is not in form")]
     Text {
         path: Path,
         line: u32,
     },
-    /// Too many candidates are visible, too many packages are installed, or they own too many paths.
+    /// Too many candidates are visible, the plan's file has too many groups, too many packages are
+    /// installed, or they own too many paths.
     #[error("there is too much of a quantity")]
     Limit {
         quantity: Quantity,
@@ -34,7 +38,8 @@ pub enum NoPlan {
         fault: Broken,
         packages: Vec<Installed>,
     },
-    /// The first wanted atom that matches nothing, and the candidates of its name.
+    /// The first wanted atom that matches nothing, or that of the first addition of the plan's file
+    /// that isn't offered, and the candidates of its name.
     #[error("an atom matches nothing that may be installed")]
     NoCandidate {
         atom: Atom,
@@ -54,6 +59,12 @@ pub enum NoPlan {
     /// What is chosen isn't offered, or its plan isn't accepted.
     #[error("what is chosen is not accepted")]
     NotPlanned {
+        packages: Vec<Installed>,
+    },
+    /// The plan of the file breaks a rule of the check.
+    #[error("the plan is not accepted")]
+    Refused {
+        fault: PlanRefused,
         packages: Vec<Installed>,
     },
     #[error("the device failed")]
@@ -76,6 +87,20 @@ impl From<OffersFault> for NoPlan {
             },
             OffersFault::Failed => NoPlan::Failed,
             OffersFault::Memory => NoPlan::Memory,
+        }
+    }
+}
+
+impl From<TreeFault> for NoPlan {
+    ghost use Rattle.std.specs.Prelude.{◌≡◌};
+    ghost use Rattle.plan_find.specs.Ends.{end_of_tree};
+
+    ghost from_gives = { λ f e. e ≡ end_of_tree f };
+
+    fn from(fault: TreeFault) -> NoPlan {
+        match fault {
+            TreeFault::Failed => NoPlan::Failed,
+            TreeFault::Memory => NoPlan::Memory,
         }
     }
 }
@@ -125,5 +150,21 @@ fn unplanned(fault: NotChosen, packages: Vec<Installed>) -> NoPlan
             drop(fault);
             NoPlan::NotPlanned { packages }
         }
+    }
+}
+
+/// The end of a run whose file makes no plan over these packages.
+pub(crate) fn end_of_file(fault: Unfiled, path: Path, packages: Vec<Installed>) -> NoPlan
+    ensures { result ≡ end_of_file fault path packages }
+{
+    match fault {
+        Unfiled::NoCandidate { atom, reasons } => NoPlan::NoCandidate {
+            atom,
+            reasons,
+            packages,
+        },
+        Unfiled::BadFlag => NoPlan::Text { path, line: 0 },
+        Unfiled::Refused(fault) => NoPlan::Refused { fault, packages },
+        Unfiled::Memory => NoPlan::Memory,
     }
 }

@@ -7,17 +7,19 @@ ghost use Rattle.plan_find.specs.Choices.{IsFound};
 ghost use Rattle.plan_find.specs.Refusals.{IsRead, Refuses};
 ghost use Rattle.plan_find.specs.Shapes.{IsInShape};
 
-use crate::asked::Asked;
+use crate::asked::{Asked, flips_of};
 use crate::choosing::plan_over;
 use crate::ends::NoPlan;
 use crate::found::Found;
+use crate::source::source_of;
 use file_tree::Tree;
 use offer_read::read_offers;
 use opening::read_opening;
 use std::alloc::Global;
 
 /// What is to be merged into a recovered tree. First come the faults of its configuration and the
-/// limit of its candidates, then those of its installed packages, then those of the choice.
+/// limit of its candidates, then those of the text of a plan's file, then those of its installed
+/// packages, then those of the choice or of the file's plan.
 pub fn find_plan<T: Tree>(alloc: Global, tree: &mut T, asked: Asked) -> Result<Found, NoPlan>
     ensures found { IsTrue T.tells →
         IfOk result (IsFound (T.story tree.old).now.holds asked) }
@@ -28,12 +30,13 @@ pub fn find_plan<T: Tree>(alloc: Global, tree: &mut T, asked: Asked) -> Result<F
     ensures refused { IsTrue T.tells →
         IfErr result (Refuses (T.story tree.old).now.holds asked) }
     ensures read { IsTrue T.tells → (c : Config) → CanBeRead (T.story tree.old).now.holds c →
-        IfErr result (IsRead (T.story tree.old).now.holds) }
+        IfErr result (IsRead (T.story tree.old).now.holds asked) }
     ensures same { IsTrue T.tells → T.story tree.new ≡ T.story tree.old }
     ensures faults { CountsFault (IsErrOf result NoPlan.Failed) (T.faults tree.old)
         (T.faults tree.new) }
 {
-    let offers = read_offers(alloc, tree, asked.flips)?;
+    let offers = read_offers(alloc, tree, flips_of(&asked.aim))?;
+    let source = source_of(alloc, tree, asked.aim)?;
     let opening = read_opening(alloc, tree, &offers.implicit)?;
-    plan_over(alloc, opening, offers, asked)
+    plan_over(alloc, opening, offers, source)
 }

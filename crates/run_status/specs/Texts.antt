@@ -13,6 +13,9 @@ use Rattle.pkg_state.specs.declared.broken.Broken.{Broken}
 use Rattle.pkg_state.specs.declared.broken.Broken.TheVariants as broken
 use Rattle.pkg_state.specs.Package.{Package}
 use Rattle.plan_law.specs.Plans.{Group, Removal}
+use Rattle.plan_check.specs.Refusals.{Refusal, told}
+use Rattle.plan_text.specs.Printed.{spaced}
+use Rattle.plan_words.specs.Words.{refusal_words}
 use Rattle.plan_choose.specs.declared.reason.NotTaken.{NotTaken}
 use Rattle.plan_choose.specs.declared.reason.Reason.{Reason}
 use Rattle.plan_choose.specs.declared.reason.Reason.TheVariants as reason
@@ -100,6 +103,12 @@ inconsistent_text (broken.RequiredUse one) = codes "RequiredUse " ++ id_text one
 inconsistent_text (broken.SlotTwice one other) = codes "SlotTwice " ++ pair_text one other
 inconsistent_text broken.Memory = []
 
+-- the rule that a plan breaks, with what it names, each word behind a space; want of memory has no
+-- words
+abbrev pub refused_text : Option Refusal → List ℕ
+refused_text None = []
+refused_text (Some refusal) = flat_map spaced (refusal_words refusal)
+
 -- the group whose record is broken, or the stage
 abbrev pub broken_text : RecoverFault → List ℕ
 broken_text (recovery.BadRecord g) = decimal g ++ codes " record"
@@ -139,6 +148,7 @@ last_word (status.NoCandidate atom reasons) =
 last_word status.NoSolution = codes "NoSolution"
 last_word (status.BacktrackLimit refuted) =
     codes "BacktrackLimit: " ++ decimal (length refuted.items)
+last_word (status.PlanRefused fault) = codes "PlanRefused:" ++ refused_text (told fault)
 last_word (status.Collision c) = codes "Collision: " ++ collision_text c
 last_word (status.BadImage b) = codes "BadImage: " ++ bad_text b
 last_word (status.BuildFailed id) = codes "BuildFailed: " ++ id_text id
@@ -162,6 +172,7 @@ code_of (status.Inconsistent fault) = 6
 code_of (status.NoCandidate atom reasons) = 7
 code_of status.NoSolution = 8
 code_of (status.BacktrackLimit refuted) = 9
+code_of (status.PlanRefused fault) = 10
 code_of (status.Collision c) = 13
 code_of (status.BadImage b) = 14
 code_of (status.BuildFailed id) = 15

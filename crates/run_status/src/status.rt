@@ -6,6 +6,7 @@ use emerge_words::WordFault;
 use file_tree::{Path, Quantity};
 use owner_book::ImageBad;
 use pkg_state::Broken;
+use plan_check::PlanRefused;
 use plan_choose::NotTaken;
 use recovery::RecoverFault;
 
@@ -25,8 +26,9 @@ pub enum Status {
     Ok { groups: u32 },
     /// The words are no command, or a word in them is no number or no atom.
     Usage { fault: WordFault },
-    /// The file of the configuration isn't in form at this line, counted from 1. A folder that is
-    /// missing has line 0.
+    /// The file of the configuration, or that of the plan, isn't in form at this line, counted from
+    /// 1. Line 0 has a folder or a plan's file that is missing, and a plan with a flag that its
+    /// package doesn't know.
     BadText { path: Path, line: u32 },
     /// The first fault of the database of installed packages.
     BadDatabase(DatabaseFault),
@@ -34,13 +36,16 @@ pub enum Status {
     BadJournal(RecoverFault),
     /// What is first wrong with the installed packages, in line order.
     Inconsistent(Broken),
-    /// The first wanted atom that matches neither what is installed nor what may be installed: the
-    /// candidates of its name, the greatest version first, each with why it isn't taken.
+    /// The first wanted atom that matches neither what is installed nor what may be installed, or
+    /// that of the first addition of a plan's file that isn't offered: the candidates of its name,
+    /// the greatest version first, each with why it isn't taken.
     NoCandidate { atom: Atom, reasons: Vec<NotTaken> },
     /// No choice of packages serves the wanted atoms.
     NoSolution,
     /// So many choices were tried in vain: these, in their order.
     BacktrackLimit { refuted: Vec<Choice> },
+    /// The first rule of the check that the plan of a file breaks.
+    PlanRefused(PlanRefused),
     /// A path of the package's image can't be placed.
     Collision(Collision),
     /// The package's image isn't in form.
@@ -77,6 +82,7 @@ impl Status {
             Status::NoCandidate { .. } => 7,
             Status::NoSolution => 8,
             Status::BacktrackLimit { .. } => 9,
+            Status::PlanRefused(_) => 10,
             Status::Collision(_) => 13,
             Status::BadImage(_) => 14,
             Status::BuildFailed { .. } => 15,

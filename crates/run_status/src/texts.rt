@@ -3,10 +3,11 @@ ghost use Rattle.std.specs.Prelude.{decimal, length, string_bytes};
 ghost use Rattle.std.specs.List.{flat_map};
 ghost use Rattle.dep_atom.specs.Ids.{id_text};
 ghost use Rattle.dep_atom.specs.Text.{atom_text};
+ghost use Rattle.plan_check.specs.Refusals.{told};
 ghost use Rattle.run_status.specs.Texts.{bad_text, broken_text, collision_text, come_text};
 ghost use Rattle.run_status.specs.Texts.{done_line, gone_text, inconsistent_text, last_line};
 ghost use Rattle.run_status.specs.Texts.{leaf_text, pair_text, place_of_fault, reason_text};
-ghost use Rattle.run_status.specs.Texts.{reason_word};
+ghost use Rattle.run_status.specs.Texts.{reason_word, refused_text};
 
 use crate::collision::Collision;
 use crate::status::{Part, Status};
@@ -17,8 +18,9 @@ use emerge_words::WordFault;
 use file_tree::{Path, Quantity};
 use owner_book::ImageBad;
 use pkg_state::{Broken, Pkg};
-use plan_check::{Group, Removal};
+use plan_check::{Group, PlanRefused, Removal};
 use plan_choose::{NotTaken, Reason};
+use plan_words::push_refusal;
 use recovery::RecoverFault;
 use std::alloc::{AllocError, Global};
 
@@ -84,6 +86,7 @@ pub fn fixed_line(status: &Status) -> Option<&'static str>
         | Status::Inconsistent(_)
         | Status::NoCandidate { .. }
         | Status::BacktrackLimit { .. }
+        | Status::PlanRefused(_)
         | Status::Collision(_)
         | Status::BadImage(_)
         | Status::BuildFailed { .. } => None,
@@ -146,6 +149,7 @@ pub fn line_of_status(alloc: Global, status: &Status) -> Result<String, AllocErr
         Status::Inconsistent(broken) => inconsistent_line(alloc, broken),
         Status::NoCandidate { atom, reasons } => unmatched_line(alloc, atom, reasons),
         Status::BacktrackLimit { refuted } => refuted_line(alloc, refuted),
+        Status::PlanRefused(fault) => refused_line(alloc, fault),
         Status::Collision(collision) => collision_line(alloc, collision),
         Status::BadImage(bad) => bad_line(alloc, bad),
         Status::BuildFailed { package } => failed_line(alloc, package),
@@ -270,6 +274,17 @@ fn pair_text(alloc: Global, one: &PackageId, other: &PackageId) -> Result<String
     let one = one.print(alloc)?;
     let other = other.print(alloc)?;
     format!(in alloc; "{one} {other}")
+}
+
+/// The rule that the plan breaks, with what it names.
+fn refused_line(alloc: Global, fault: &PlanRefused) -> Result<String, AllocError>
+    ensures { IfOk result (λ t. string_bytes t ≡
+        codes "emerge: PlanRefused:" ++ (refused_text (told fault.now) ++ 10 ∷ [])) }
+{
+    let mut line = String::from_str(alloc, "emerge: PlanRefused:")?;
+    push_refusal(&mut line, alloc, fault)?;
+    line.push_str("\n")?;
+    Ok(line)
 }
 
 fn collision_line(alloc: Global, collision: &Collision) -> Result<String, AllocError>

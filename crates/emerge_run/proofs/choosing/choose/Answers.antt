@@ -1,16 +1,14 @@
-use Rattle.std.proofs.Common.{◌≡◌, List, refl, subst, sym}
-use Rattle.std.specs.Prelude.{map, string_bytes}
+use Rattle.std.proofs.Common.{◌≡◌, List, map, refl, subst, sym}
+use Rattle.std.specs.Prelude.{string_bytes}
 use Rattle.std.proofs.lemmas.Result.{IfErr-weaker}
-use Rattle.file_tree.specs.Disk.{Story}
 use Rattle.database_law.specs.Packages.{Installed}
-use Rattle.image_build.specs.Images.{IsBuilt}
 use Rattle.opening.specs.Faults.{HasTooMuch}
 use Rattle.emerge_run.specs.Openings.{AreInstalled, AreInstalledAfter, GivesBack, HasTooMuchAfter}
-use Rattle.emerge_run.specs.Outcomes.{HasRecovered, Outcome}
+use Rattle.emerge_run.specs.Outcomes.{EndsEarly, HasRecovered}
 use Rattle.run_status.specs.Faults.{status_of_recovery}
 use Rattle.run_status.specs.declared.status.Status.{Status}
-use Rattle.emerge_run.proofs.Endings.{at_rest, kept_same, outcome_before, recovery_asks, recovery_not_of_tree, word_refused, words_not_of_tree}
-use Rattle.emerge_run.proofs.Found.{early_recovery, early_words, ended_after, merges_after, named_after, recovered_after, todo_after, unchanged_after, undone_recovery, undone_words, usage_recovery}
+use Rattle.emerge_run.proofs.Endings.{at_rest, early_recovery, early_words, ends_at_recovery, ends_at_words, usage_recovery}
+use Rattle.emerge_run.proofs.Found.{ended_after, named_after, recovered_after, todo_after, unchanged_after}
 use Rattle.emerge_run.proofs.Givens.{gives_after, gives_none, recovery_no_paths, recovery_not_read, words_no_paths, words_not_read}
 use Rattle.emerge_run.proofs.choosing.choose.Goals as goal
 
@@ -21,7 +19,7 @@ returns-in-Ok-recover-clause-recovered g c t =
     let new = g.T.Tree.story c.find_work.new.tree in
     let recovered = c.in-Ok-recover.ensures.recovered t in
     let has : HasRecovered old mid = record { moments = c.recover.ensures.moments t; recovered = recovered.0; rest = at_rest old.now.holds mid recovered } in
-    recovered_after (map string_bytes c.args.words.now) c.in-Ok.asked (IsBuilt g.B.Builder.tells g.B.Builder.told c.args.pool.now.resting) old mid new c.in-Ok.ensures.found has (c.find_work.ensures.same t) c.find_work.result.answer
+    recovered_after (map string_bytes c.args.words.now) c.in-Ok.asked old mid new c.in-Ok.ensures.found has (c.find_work.ensures.same t) c.find_work.result.answer
 
 pub returns-in-Ok-recover-clause-found : goal.returns-in-Ok-recover-clause-found
 returns-in-Ok-recover-clause-found g c t =
@@ -30,14 +28,14 @@ returns-in-Ok-recover-clause-found g c t =
     let new = g.T.Tree.story c.find_work.new.tree in
     let recovered = c.in-Ok-recover.ensures.recovered t in
     let has : HasRecovered old mid = record { moments = c.recover.ensures.moments t; recovered = recovered.0; rest = at_rest old.now.holds mid recovered } in
-    todo_after (map string_bytes c.args.words.now) c.in-Ok.asked (IsBuilt g.B.Builder.tells g.B.Builder.told c.args.pool.now.resting) old mid new c.in-Ok.ensures.found has (c.find_work.ensures.same t)
+    todo_after (map string_bytes c.args.words.now) c.in-Ok.asked old mid new c.in-Ok.ensures.found has (c.find_work.ensures.same t)
     c.find_work.result.opening.items c.find_work.result.answer (c.find_work.ensures.found t)
 
 pub returns-in-Ok-recover-clause-work : goal.returns-in-Ok-recover-clause-work
 returns-in-Ok-recover-clause-work g c =
     let old = (g.T.Tree.story c.args.tree.now).now.holds in
     let mid = (g.T.Tree.story c.recover.new.tree).now.holds in
-    named_after (map string_bytes c.args.words.now) c.in-Ok.asked (IsBuilt g.B.Builder.tells g.B.Builder.told c.args.pool.now.resting) g.T.Tree.tells old mid c.in-Ok.ensures.found (λ u. (c.in-Ok-recover.ensures.recovered u).0)
+    named_after (map string_bytes c.args.words.now) c.in-Ok.asked g.T.Tree.tells old mid c.in-Ok.ensures.found (λ u. (c.in-Ok-recover.ensures.recovered u).0)
     c.find_work.result.opening.items c.find_work.result.answer c.find_work.ensures.pretend c.find_work.ensures.found
 
 pub returns-in-Ok-recover-clause-ended : goal.returns-in-Ok-recover-clause-ended
@@ -47,11 +45,8 @@ returns-in-Ok-recover-clause-ended g c t =
     let new = g.T.Tree.story c.find_work.new.tree in
     let recovered = c.in-Ok-recover.ensures.recovered t in
     let has : HasRecovered old mid = record { moments = c.recover.ensures.moments t; recovered = recovered.0; rest = at_rest old.now.holds mid recovered } in
-    ended_after (map string_bytes c.args.words.now) c.in-Ok.asked (IsBuilt g.B.Builder.tells g.B.Builder.told c.args.pool.now.resting) old mid new c.in-Ok.ensures.found has (c.find_work.ensures.same t)
+    ended_after (map string_bytes c.args.words.now) c.in-Ok.asked old mid new c.in-Ok.ensures.found has (c.find_work.ensures.same t)
     c.find_work.result.answer (c.find_work.ensures.ended t)
-
-pub returns-in-Ok-recover-clause-merges : goal.returns-in-Ok-recover-clause-merges
-returns-in-Ok-recover-clause-merges g c = merges_after (map string_bytes c.args.words.now) c.in-Ok.asked c.in-Ok.ensures.found c.find_work.result.answer c.find_work.ensures.merges
 
 pub returns-in-Ok-recover-clause-opening : goal.returns-in-Ok-recover-clause-opening
 returns-in-Ok-recover-clause-opening g c t =
@@ -69,22 +64,16 @@ returns-in-Ok-recover-clause-unchanged g c t =
     let new = g.T.Tree.story c.find_work.new.tree in
     let recovered = c.in-Ok-recover.ensures.recovered t in
     let has : HasRecovered old mid = record { moments = c.recover.ensures.moments t; recovered = recovered.0; rest = at_rest old.now.holds mid recovered } in
-    unchanged_after (map string_bytes c.args.words.now) c.in-Ok.asked (IsBuilt g.B.Builder.tells g.B.Builder.told c.args.pool.now.resting) old mid new c.in-Ok.ensures.found has (c.find_work.ensures.same t)
+    unchanged_after (map string_bytes c.args.words.now) c.in-Ok.asked old mid new c.in-Ok.ensures.found has (c.find_work.ensures.same t)
     (new ≡ old) c.find_work.result.answer (c.find_work.ensures.ended t)
 
 pub returns-in-Err-recover-clause-ended : goal.returns-in-Err-recover-clause-ended
 returns-in-Err-recover-clause-ended g c t =
     let old = g.T.Tree.story c.args.tree.now in
     let mid = g.T.Tree.story c.recover.new.tree in
-    let Image = IsBuilt g.B.Builder.tells g.B.Builder.told c.args.pool.now.resting in
     let words = map string_bytes c.args.words.now in
-    let fault = c.in-Err-recover.fault in
-    let asks = recovery_asks words old.now.holds Image fault (c.in-Ok.asked, c.in-Ok.ensures.found) (c.in-Err-recover.ensures.refused t) in
-    let one = outcome_before words Image old mid (status_of_recovery fault) asks (recovery_not_of_tree fault) (c.recover.ensures.moments t) in
-    rw c.ended.ensures.answer (subst (λ (s : Status). Outcome words Image old mid _ s) (sym c.from.ensures) one)
-
-pub returns-in-Err-recover-clause-merges : goal.returns-in-Err-recover-clause-merges
-returns-in-Err-recover-clause-merges g c = rw c.ended.ensures.answer (rw c.from.ensures (λ of. absurd (undone_recovery c.in-Err-recover.fault of)))
+    let one = ends_at_recovery words old mid c.in-Err-recover.fault (c.in-Ok.asked, c.in-Ok.ensures.found) (c.in-Err-recover.ensures.refused t) (c.recover.ensures.moments t) in
+    rw c.ended.ensures.answer (subst (λ (s : Status). EndsEarly words old mid s) (sym c.from.ensures) one)
 
 pub returns-in-Err-recover-clause-opening : goal.returns-in-Err-recover-clause-opening
 returns-in-Err-recover-clause-opening g c t =
@@ -96,15 +85,7 @@ returns-in-Err-recover-clause-opening g c t =
 
 pub returns-in-Err-clause-ended : goal.returns-in-Err-clause-ended
 returns-in-Err-clause-ended g c t =
-    let old = g.T.Tree.story c.args.tree.now in
-    let Image = IsBuilt g.B.Builder.tells g.B.Builder.told c.args.pool.now.resting in
-    let words = map string_bytes c.args.words.now in
-    let s = c.in-Err.status in
-    let ends = c.in-Err.ensures.refused in
-    rw c.ended-in-Err.ensures.answer (outcome_before words Image old old s (word_refused words old.now.holds Image s ends) (words_not_of_tree words s ends) (kept_same old old refl))
-
-pub returns-in-Err-clause-merges : goal.returns-in-Err-clause-merges
-returns-in-Err-clause-merges g c = rw c.ended-in-Err.ensures.answer (λ of. absurd (undone_words (map string_bytes c.args.words.now) c.in-Err.status c.in-Err.ensures.refused of))
+    rw c.ended-in-Err.ensures.answer (ends_at_words (map string_bytes c.args.words.now) (g.T.Tree.story c.args.tree.now) c.in-Err.status c.in-Err.ensures.refused)
 
 pub returns-in-Ok-recover-clause-no_merge : goal.returns-in-Ok-recover-clause-no_merge
 returns-in-Ok-recover-clause-no_merge g c none = absurd (none (c.in-Ok.asked, c.in-Ok.ensures.found))

@@ -1,7 +1,25 @@
-use Rattle.std.proofs.lemmas.Result.{err_from_is_err_and}
+use Rattle.std.proofs.Common.{◌≡◌, ◌∙◌, ◌==◌, List, [], ap, arith, length, map, refl, subst, sym}
+use Rattle.std.specs.Prelude.{All}
+use Rattle.plan_orders.specs.Orders.{HasRisingFlags}
+use Rattle.plan_orders.proofs.InForm.{plan_rises}
+use Rattle.plan_text.specs.Plans.{addition_value, group_value}
+use Rattle.plan_text.specs.declared.plan.Group.{Group as TextGroup}
+use Rattle.emerge_run.specs.Builds.{lines_from, orders_in}
+use Rattle.emerge_run.proofs.Jobs.{jobs_are, no_groups, no_jobs}
 use Rattle.emerge_run.proofs.choosing.work_of.Goals as goal
 
-pub returns-in_err-ready-clause-build : goal.returns-in_err-ready-clause-build
-returns-in_err-ready-clause-build g c id is =
-    let p = err_from_is_err_and c.from_residual-in_err-ready.result c.from_residual-in_err-ready.ensures.1 in
-    c.in_err-ready.ensures.build id (cc (p.1, p.2, is))
+pub returns-then-is_empty : goal.returns-then-is_empty
+returns-then-is_empty c =
+    let none : c.args.chosen.plan ≡ [] = sym c.groups.ensures.groups ∙ no_groups c.groups.result.now (sym c.is_empty.ensures ∙ c.if-is_empty.true) in
+    record { work = (c.if-pretend.false, refl, none, no_jobs c.args.chosen c.requires.shape none) }
+
+pub jobs_of-requires-clause-rising : goal.jobs_of-requires-clause-rising
+jobs_of-requires-clause-rising c =
+    subst (λ (ts : List TextGroup). All (λ t. All HasRisingFlags (map addition_value t.additions.items)) ts) (sym c.deref.ensures.value) (plan_rises c.args.chosen.text.groups.items c.requires.shape.form)
+
+pub returns : goal.returns
+returns c =
+    let jobs = c.in_ok-jobs.jobs.items in
+    let lines = c.in_ok-jobs.ensures.lines ∙ ap (lines_from 1) c.groups-2.ensures.groups in
+    let orders = c.in_ok-jobs.ensures.orders ∙ ap (λ (ts : List TextGroup). map orders_in (map group_value ts)) c.deref.ensures.value in
+    record { work = (c.if-pretend.false, refl, jobs_are c.args.chosen jobs c.requires.shape lines orders, refl) }

@@ -1,64 +1,62 @@
-use Rattle.std.proofs.Common.{◌≡◌, ◌∙◌, Bool, List, ap, refl, subst, sym}
-use Rattle.std.specs.Prelude.{IfErr, map}
+use Rattle.std.proofs.Common.{◌≡◌, ◌∙◌, List, length, subst, sym}
+use Rattle.std.specs.Prelude.{OnOk}
+use Rattle.build_pool.specs.Pool.{PoolRose}
 use Rattle.database_law.specs.Packages.{Installed}
-use Rattle.plan_law.specs.Plans.{Group, Removal}
-use Rattle.run_law.specs.Openings.{AreOwners}
-use Rattle.exchange_make.specs.Made.{group_with}
-use Rattle.exchange_run.specs.Runs.{StopsMerge}
-use Rattle.exchange_law.specs.Ends.{image_of}
-use Rattle.emerge_run.specs.Outcomes.{MergedTo}
-use Rattle.emerge_run.specs.Package.{group_of}
+use Rattle.image_build.specs.Images.{IsBuilt, IsPastLimit}
+use Rattle.plan_law.specs.Plans.{Group}
+use Rattle.plan_make.specs.Plans.{orders_at}
+use Rattle.plan_run.specs.Runs.{WentFor, merge_end, upto}
+use Rattle.emerge_run.specs.Collisions.{ids_with}
+use Rattle.emerge_run.specs.Outcomes.{IsTold}
 use Rattle.emerge_run.specs.Refusals.{IsStatusOf}
 use Rattle.emerge_run.proofs.Lines.{wrote_lines}
-use Rattle.emerge_run.proofs.Merged.{device_ended, end_of_merge, merged_to, ok_first, refused_ended}
+use Rattle.emerge_run.proofs.Merged.{all_counted, builds_end, failed_ended, merged_to, ok_ended, told_ended}
 use Rattle.emerge_run.proofs.merging.merge_ready.Goals as goal
 
 pub returns-clause-merged : goal.returns-clause-merged
 returns-clause-merged g c t =
-    let ready = c.args.ready in
-    let task = c.requires.task in
-    let r = c.merge_exchange-tree.result in
-    let e = c.merge_exchange-tree.ensures in
+    let B = g.B.Builder in
+    let e = c.merge_plan-tree.ensures in
+    let r = c.merge_plan-tree.result in
     let old = g.T.Tree.story c.args.tree in
     let new = g.T.Tree.story r.tree in
     let ps : List Installed = c.args.opening.items in
-    let seen : List Installed = c.deref.result.now in
-    let gone : List Removal = c.deref-2.result.now in
-    let newcomers = ready.additions.newcomers.items in
-    let images = map image_of newcomers in
-    let line = ready.additions.line.items in
-    let book = ready.additions.book in
-    let h : Group = group_with gone newcomers in
+    let jobs = c.args.task.jobs.items in
+    let book = c.args.task.book in
+    let history = r.history.items in
     let s = c.status_of_end-status.result in
-    let owners = subst (λ (qs : List Installed). AreOwners old.now.holds qs book) (sym c.deref.ensures.value) (task.owners t) in
-    let cause = subst (λ (b : Bool). IfErr r.end (StopsMerge b old.now.holds book seen h newcomers line)) t e.cause in
-    let is = subst (λ (qs : List Installed). IsStatusOf qs c.len.result r.end s) (c.deref-3.ensures.value ∙ sym c.deref.ensures.value) c.status_of_end-status.ensures in
-    let merged = merged_to seen h newcomers line book old new owners refl r.history.items r.end c.len.result s is (c.len.ensures ∙ r.history.ok.0) (e.went t) (ok_first _ _ r.end e.told) cause in
-    let over = subst (λ (qs : List Installed). MergedTo qs h images old new r.history.items s) c.deref.ensures.value merged in
-    let same : h ≡ group_of ready = ap (λ (l : List Removal). group_with l newcomers) c.deref-2.ensures.value in
-    subst (λ (x : Group). MergedTo ps x images old new r.history.items s) same over
+    let Image = IsBuilt B.tells B.told c.args.pool.now.resting in
+    let went = subst (λ (gs : List Group). WentFor Image book ps gs jobs old new history (merge_end tt r.end)) c.groups.ensures.groups
+    (subst (λ (qs : List Installed). WentFor Image book qs c.groups.result.now jobs old new history (merge_end tt r.end)) c.deref.ensures.value (e.went t)) in
+    let all = subst (λ (gs : List Group). OnOk r.end (history ≡ upto (length gs))) c.groups.ensures.groups e.merged in
+    let is = subst (λ (gs : List Group). IsStatusOf (ids_with ps gs) (length gs) r.end s) c.groups-2.ensures.groups
+    (subst (λ (qs : List Installed). IsStatusOf (ids_with qs c.groups-2.result.now) (length c.groups-2.result.now) r.end s) c.deref-2.ensures.value c.status_of_end-status.ensures) in
+    let Failed = PoolRose B.faults c.args.pool.now c.merge_plan-tree.new.pool in
+    merged_to Image ps c.args.plan jobs book old new (c.requires.task.owners t) history Failed r.end s is went all
+    (builds_end B.told c.args.pool.now.resting B.tells Failed jobs history r.end e.build)
 
-pub returns-clause-of : goal.returns-clause-of
-returns-clause-of g c = end_of_merge c.deref-3.result.now c.len.result c.merge_exchange-tree.result.end c.status_of_end-status.result c.status_of_end-status.ensures
+pub returns-clause-ok : goal.returns-clause-ok
+returns-clause-ok g c n ok =
+    let e = c.merge_plan-tree.ensures in
+    let r = c.merge_plan-tree.result in
+    let s = c.status_of_end-status.result in
+    let gs : List Group = c.groups-2.result.now in
+    let ids = ids_with c.deref-2.result.now gs in
+    let same = c.groups.ensures.groups ∙ sym c.groups-2.ensures.groups in
+    let all = subst (λ (hs : List Group). OnOk r.end (r.history.items ≡ upto (length hs))) same e.merged in (
+      all_counted r.end (length gs) n r.history.items all (ok_ended ids (length gs) r.end s c.status_of_end-status.ensures n ok),
+      told_ended ids (length gs) r.end s c.status_of_end-status.ensures e.all_told e.so_far (subst IsTold (sym ok) tt),
+    )
 
-pub returns-clause-refused : goal.returns-clause-refused
-returns-clause-refused g c of = refused_ended c.deref-3.result.now c.len.result c.merge_exchange-tree.result.end c.status_of_end-status.result c.merge_exchange-tree.ensures.early c.status_of_end-status.ensures of
+pub returns-clause-build : goal.returns-clause-build
+returns-clause-build g c id built =
+    let B = g.B.Builder in
+    let r = c.merge_plan-tree.result in
+    let gs : List Group = c.groups-2.result.now in
+    failed_ended (ids_with c.deref-2.result.now gs) (length gs) r.end c.status_of_end-status.result c.status_of_end-status.ensures
+    (IsPastLimit B.tells B.told c.args.pool.now.resting) (PoolRose B.faults c.args.pool.now c.merge_plan-tree.new.pool) (orders_at c.args.task.jobs.items (length r.history.items)) id c.merge_plan-tree.ensures.build built
 
 pub returns-clause-written : goal.returns-clause-written
 returns-clause-written g c t =
-    let r = c.merge_exchange-tree.result in
-    let e = c.merge_exchange-tree.ensures in
-    wrote_lines (group_of c.args.ready) c.args.ready.additions.line.items r.history.items r.acknowledged.items (g.S.Sink.written c.args.out) (g.S.Sink.written r.sink)
-    c.requires.task.line_is e.one (e.written t)
-
-pub returns-clause-device : goal.returns-clause-device
-returns-clause-device g c =
-    let r = c.merge_exchange-tree.result in
-    let e = c.merge_exchange-tree.ensures in
-    let a = c.args.ready.additions in
-    let s = c.status_of_end-status.result in
-    let status = subst (λ (qs : List Installed). IsStatusOf qs c.len.result r.end s) (c.deref-3.ensures.value ∙ sym c.deref.ensures.value) c.status_of_end-status.ensures in
-    record {
-      later = e.device.later;
-      rose = λ is. e.device.rose (device_ended c.deref.result.now g.T.Tree.tells (g.T.Tree.story c.args.tree).now.holds a.book (group_with c.deref-2.result.now a.newcomers.items) a.newcomers.items a.line.items c.len.result r.end s e.cause status is);
-    }
+    let r = c.merge_plan-tree.result in
+    wrote_lines c.args.task.jobs.items c.args.plan r.history.items r.acknowledged.items (g.S.Sink.written c.args.out) (g.S.Sink.written r.sink) c.requires.task.lines (c.merge_plan-tree.ensures.written t)

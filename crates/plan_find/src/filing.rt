@@ -1,0 +1,138 @@
+ghost use Rattle.std.specs.Prelude.{◌≡◌, ◌↔◌, ◌⊎◌, IfErr, IfOk, IsSome, IsTrue, List};
+ghost use Rattle.dep_atom.specs.Values.{atom_value};
+ghost use Rattle.pkg_state.specs.Fault as state;
+ghost use Rattle.pkg_state.specs.Package.{Package};
+ghost use Rattle.plan_check.specs.Refusals.{told};
+ghost use Rattle.plan_link.specs.Linked.{IsLinked};
+ghost use Rattle.plan_text.specs.Plans.{plan_value};
+ghost use Rattle.plan_text.specs.Texts.{IsPlan};
+ghost use Rattle.plan_choose.specs.Plans.{IsGood};
+ghost use Rattle.plan_find.specs.Filing.{IsOfLink, IsUnfiled, IsUnoffered};
+ghost use Rattle.plan_find.specs.Lacking.{exact_atom};
+ghost use Rattle.plan_find.specs.declared.unfiled.Unfiled.TheVariants.{Memory, Refused};
+
+use crate::unfiled::Unfiled;
+use dep_atom::{Atom, Block, Op, PackageId, SlotPart};
+use pkg_state::{Broken, Pkg};
+use plan_check as check;
+use plan_check::PlanRefused;
+use plan_choose::{NotTaken, reasons_of};
+use plan_link::{LinkFault, asks_of, link};
+use plan_text::Plan;
+use std::alloc::{AllocError, Global};
+
+/// The atom that matches just this version of the package.
+fn exact_atom(alloc: Global, id: PackageId) -> Atom
+    ensures { atom_value result ≡ exact_atom id }
+{
+    let PackageId { name, version } = id;
+    Atom {
+        block: Block::No,
+        op: Op::Equal,
+        name,
+        version: Some(version),
+        star: false,
+        slot: SlotPart::Free,
+        uses: Vec::new(alloc),
+    }
+}
+
+/// What is told of a package that isn't offered: the atom of just this version, and the candidates
+/// of its name.
+fn unoffered(
+    alloc: Global,
+    id: PackageId,
+    offered: &[Pkg],
+    hidden: &[NotTaken],
+) -> Result<Unfiled, AllocError>
+    ensures { IfOk result (IsUnoffered offered.now hidden.now id) }
+{
+    let reasons = reasons_of(alloc, &id.name, offered, hidden)?;
+    let atom = exact_atom(alloc, id);
+    Ok(Unfiled::NoCandidate { atom, reasons })
+}
+
+/// What the fault of an addition is called.
+fn of_link(
+    alloc: Global,
+    fault: LinkFault,
+    offered: &[Pkg],
+    hidden: &[NotTaken],
+) -> Result<Unfiled, AllocError>
+    ensures { IfOk result (IsOfLink offered.now hidden.now fault) }
+{
+    match fault {
+        LinkFault::NoCandidate { package, .. } => unoffered(alloc, package, offered, hidden),
+        LinkFault::BadFlag { .. } => Ok(Unfiled::BadFlag),
+        LinkFault::Memory => Ok(Unfiled::Memory),
+    }
+}
+
+/// The plan that the text stands for, over the packages that are offered.
+fn linked(
+    alloc: Global,
+    text: &Plan,
+    offered: &[Pkg],
+    hidden: &[NotTaken],
+) -> Result<check::Plan, Unfiled>
+    requires { IsPlan (plan_value text.now) }
+    ensures linked { IfOk result (λ plan. IsLinked offered.now (plan_value text.now) plan) }
+    ensures fault { IfErr result (λ e. (installed : List Package) →
+        IsUnfiled installed offered.now hidden.now (plan_value text.now) e) }
+{
+    match link(alloc, text, offered) {
+        Ok(plan) => Ok(plan),
+        Err(fault) => Err(of_link(alloc, fault, offered, hidden)?),
+    }
+}
+
+fn is_told_broken(broken: &Broken) -> bool
+    ensures { IsTrue result ↔ IsSome (state.told broken.now) }
+{
+    match broken {
+        Broken::Memory => false,
+        _ => true,
+    }
+}
+
+/// Whether the plan was refused for a rule, and not for want of memory.
+fn is_told(refused: &PlanRefused) -> bool
+    ensures { IsTrue result ↔ IsSome (told refused.now) }
+{
+    match refused {
+        PlanRefused::Opening(broken) => is_told_broken(broken),
+        PlanRefused::Memory => false,
+        _ => true,
+    }
+}
+
+fn of_refused(refused: PlanRefused) -> Unfiled
+    ensures { (result ≡ Memory) ⊎ ((result ≡ Refused refused) × IsSome (told refused)) }
+{
+    if is_told(&refused) {
+        return Unfiled::Refused(refused);
+    }
+    drop(refused);
+    Unfiled::Memory
+}
+
+/// The plan that the text stands for, checked over the packages that are installed.
+pub(crate) fn judged(
+    alloc: Global,
+    installed: &[Pkg],
+    offered: &[Pkg],
+    hidden: &[NotTaken],
+    text: &Plan,
+) -> Result<check::Plan, Unfiled>
+    requires { IsPlan (plan_value text.now) }
+    ensures good { IfOk result (IsGood installed.now offered.now (plan_value text.now)) }
+    ensures fault { IfErr result
+        (IsUnfiled installed.now offered.now hidden.now (plan_value text.now)) }
+{
+    let plan = linked(alloc, text, offered, hidden)?;
+    let asks = asks_of(alloc, text, offered)?;
+    match check::check(alloc, installed, &plan, &asks) {
+        Ok(()) => Ok(plan),
+        Err(refused) => Err(of_refused(refused)),
+    }
+}
