@@ -1,8 +1,8 @@
 ghost use Rattle.std.specs.Prelude.{◌≡◌, ◌≤◌, ◌==◌, ◌&&◌, ◌||◌, drop, false, length, true};
 ghost use Rattle.std.specs.Prelude.{MatchOption, slice_index, nat_eq};
 ghost use Rattle.std.specs.List.{starts_with};
-ghost use Rattle.file_tree.specs.Paths.{FaultAt, FirstFault, bad_at, begins_badly, first_part, is_below};
-ghost use Rattle.file_tree.specs.Paths.{is_bad_part, is_path};
+ghost use Rattle.file_tree.specs.Paths.{FaultAt, FirstFault, bad_at, begins_badly, first_part};
+ghost use Rattle.file_tree.specs.Paths.{is_bad_part, is_below, is_path};
 
 use crate::fault::PathFault;
 use crate::limits::MOST_PATH_BYTES;

@@ -1,5 +1,5 @@
 -- A code of trees, by which a proof tells packages apart: their leaves, openers and ends in a row.
-use Rattle.std.specs.Prelude.{◌≡◌, ◌⊎◌, List, [], ◌∷◌, Option, refl}
+use Rattle.std.specs.Prelude.{◌≡◌, ◌⊎◌, List, [], ◌∷◌, Option, refl, ⊤}
 use Rattle.std.specs.Coded.{Coded, code_by, coded_list, coded_option, coded⊎}
 use Rattle.dep_group.specs.Trees.{Tree, Trees, group, leaf, no_trees, tree}
 use base.Stored.{coded_unit}
@@ -8,7 +8,7 @@ use mathlib.Core.Path.{ap, ◌∙◌}
 
 -- a leaf, the opener of a group, or its end
 abbrev pub Piece : Type 0 → Type 0 → Type 0
-Piece K L = L ⊎ (Option K ⊎ Unit {0})
+Piece K L = L ⊎ (Option K ⊎ ⊤)
 
 module _ {K L : Type 0} where
   abbrev mutual
