@@ -1,4 +1,2 @@
 pub mod Changes
 pub mod Packages
-pub mod Planned
-pub mod Turns

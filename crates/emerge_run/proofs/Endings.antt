@@ -4,7 +4,6 @@ use Rattle.std.specs.Prelude.{if◌then◌else◌}
 use Rattle.file_tree.specs.Disk.{IsUntouched, Map, Story}
 use Rattle.file_tree.specs.Moments.{Since}
 use Rattle.file_tree.specs.Paths.{is_below}
-use Rattle.file_tree.specs.declared.limits.Quantity.TheVariants.{Candidates, Groups, Packages, Paths, RecordBytes}
 use Rattle.file_tree.proofs.Moments.{since_same, since_start, since_then, since_weaker}
 use Rattle.dep_atom.specs.declared.package.PackageId.{PackageId}
 use Rattle.database_law.specs.Packages.{Installed}
@@ -20,7 +19,6 @@ use Rattle.group_run.specs.Applied.{LeavesWith, ReadsWith, RecoversWith}
 use Rattle.run_law.specs.Ends.{IsKept}
 use Rattle.plan_law.specs.Plans.{Group}
 use Rattle.plan_find.specs.declared.asked.Asked.{Asked}
-use Rattle.plan_find.specs.declared.found.Found.{Found}
 use Rattle.plan_make.specs.declared.job.Job.{Job}
 use Rattle.plan_run.specs.Runs.{upto}
 use Rattle.plan_sound.specs.Ends.{Course, Images, IsReached, IsRunOf}
@@ -286,12 +284,6 @@ pub usage_kept : {X : Type 0} (came s : Status) (f : WordFault) → (s ≡ came)
 usage_kept came s f (inl is) e = sym is ∙ e
 usage_kept came s f (inr (inl is)) e = absurd (cc (is, e))
 usage_kept came s f (inr (inr (is, x))) e = absurd (cc (is, e))
-
--- what a status has that want of memory and a failed output don't have, it has before
-pub kept_before : {X Y : Type 0} (P : Status → Type 0) (came s : Status) → (P status.Memory → ⊥) → (P status.OutputFault → ⊥) → (s ≡ came) ⊎ ((s ≡ status.Memory) ⊎ ((s ≡ status.OutputFault) × X)) → (P came → Y) → P s → Y
-kept_before P came s memory output (inl same) h of = h (subst P same of)
-kept_before P came s memory output (inr (inl is)) h of = absurd (memory (subst P is of))
-kept_before P came s memory output (inr (inr (is, x))) h of = absurd (output (subst P is of))
 
 -- a run that came to one status ends with another one, which asks for nothing
 outcome_as : (words : List (List ℕ)) (Image : Images) (old new : Story) (history : List ℕ) (s s' : Status) → (s ≡ status.DeviceFault → s' ≡ status.DeviceFault)

@@ -1,27 +1,17 @@
 -- What a run has found, and how it ends without it.
-use Rattle.std.proofs.Common.{◌≡◌, ◌∙◌, ℕ, Bool, true, false, List, [], Result, Ok, Err, inr, refl, ap, subst, sym}
+use Rattle.std.proofs.Common.{◌≡◌, ◌∙◌, ℕ, Bool, List, [], Result, Ok, Err, inr, refl, subst, sym}
 use Rattle.std.specs.Prelude.{IfErr, IfOk, IsTrue}
 use Rattle.file_tree.specs.Disk.{Map, Story}
 use Rattle.file_tree.specs.declared.limits.Quantity.TheVariants.{Candidates, Groups, Packages, Paths, RecordBytes}
-use Rattle.emerge_words.specs.declared.request.WordFault.{WordFault}
 use Rattle.merge_record.specs.Recovered.{IsRecovered}
-use Rattle.owner_book.specs.Book.{Book}
 use Rattle.database_law.specs.Packages.{Installed}
-use Rattle.run_law.specs.Openings.{AreOwners}
-use Rattle.plan_law.specs.Plans.{Group}
-use Rattle.plan_choose.specs.declared.chosen.Chosen.{Chosen}
-use Rattle.plan_find.specs.Choices.{IsFound}
-use Rattle.plan_find.specs.Refusals.{Refuses}
 use Rattle.plan_find.specs.declared.asked.Asked.{Asked}
 use Rattle.plan_find.specs.declared.ends.NoPlan.{NoPlan}
 use Rattle.plan_find.specs.declared.ends.NoPlan.TheVariants as ends
-use Rattle.plan_find.specs.declared.found.Found.{Found}
-use Rattle.plan_make.specs.Plans.{AreJobs}
 use Rattle.emerge_run.specs.Answers.{AsksEarly, IsRefused, IsRefusedAfter}
-use Rattle.emerge_run.specs.Builds.{line_of}
-use Rattle.emerge_run.specs.Outcomes.{EndsEarly, HasRecovered, IsEarly, IsToDo, IsWork}
+use Rattle.emerge_run.specs.Outcomes.{EndsEarly, HasRecovered, IsToDo, IsWork}
 use Rattle.emerge_run.specs.Refusals.{status_of}
-use Rattle.emerge_run.specs.Tasks.{IsAsked, IsPrepared, IsTaskOf, IsWanted}
+use Rattle.emerge_run.specs.Tasks.{IsAsked, IsWanted}
 use Rattle.emerge_run.specs.Words.{IsOfWords, IsRequest}
 use Rattle.emerge_run.specs.declared.choosing.Work.{Work}
 use Rattle.emerge_run.specs.declared.choosing.Work.TheVariants as work
@@ -49,19 +39,6 @@ refused_asks words opening (ends.NotPlanned packages) asks = asks
 refused_asks words opening ends.Failed asks = tt
 refused_asks words opening ends.Memory asks = tt
 
-pub early_plan : (e : NoPlan) → IsEarly (status_of e)
-early_plan (ends.Text path line) = tt
-early_plan (ends.Limit quantity) = tt
-early_plan (ends.BadDatabase fault) = tt
-early_plan (ends.Inconsistent fault packages) = tt
-early_plan (ends.NoCandidate atom reasons packages) = tt
-early_plan (ends.NoSolution packages) = tt
-early_plan (ends.BacktrackLimit refuted packages) = tt
-early_plan (ends.Refused fault packages) = tt
-early_plan (ends.NotPlanned packages) = tt
-early_plan ends.Failed = tt
-early_plan ends.Memory = tt
-
 -- it never comes of the words alone
 words_plan : (e : NoPlan) → IsOfWords (status_of e) → ⊥
 words_plan (ends.Text path line) of = of
@@ -75,22 +52,6 @@ words_plan (ends.Refused fault packages) of = of
 words_plan (ends.NotPlanned packages) of = of
 words_plan ends.Failed of = of
 words_plan ends.Memory of = of
-
-pub usage_plan : (e : NoPlan) (f : WordFault) → status_of e ≡ status.Usage f → ⊥
-usage_plan e f is = words_plan e (subst IsOfWords (sym is) tt)
-
-pub device_plan : (e : NoPlan) → status_of e ≡ status.DeviceFault → e ≡ ends.Failed
-device_plan (ends.Text path line) is = absurd (cc is)
-device_plan (ends.Limit quantity) is = absurd (cc is)
-device_plan (ends.BadDatabase fault) is = absurd (cc is)
-device_plan (ends.Inconsistent fault packages) is = absurd (cc is)
-device_plan (ends.NoCandidate atom reasons packages) is = absurd (cc is)
-device_plan (ends.NoSolution packages) is = absurd (cc is)
-device_plan (ends.BacktrackLimit refuted packages) is = absurd (cc is)
-device_plan (ends.Refused fault packages) is = absurd (cc is)
-device_plan (ends.NotPlanned packages) is = absurd (cc is)
-device_plan ends.Failed is = refl
-device_plan ends.Memory is = absurd (cc is)
 
 -- ---- over the tree that recovery made
 
@@ -152,18 +113,3 @@ module _ (words : List (List ℕ)) (asked : Asked) (tells : Bool) (opening m : M
   named_after ps (Err s) asks wanted = tt
 
 -- ---- what was prepared
-
-pub prepared_asked : (asked : Asked) (chosen : Chosen) (book : Book) (w : Work) → IsPrepared chosen book asked.pretend w → IsAsked asked w
-prepared_asked asked chosen book (work.Show text plan) prepared = prepared.0
-prepared_asked asked chosen book (work.Rest plan) prepared = prepared.0
-prepared_asked asked chosen book (work.Merge plan task) prepared = prepared.0
-
-pub prepared_task : (chosen : Chosen) (book : Book) (pretend tells : Bool) (m : Map) (ps : List Installed) → book.claims ≡ [] → (IsTrue tells → AreOwners m ps book) → (w : Work) → IsPrepared chosen book pretend w → IsTaskOf tells m ps w
-prepared_task chosen book pretend tells m ps none owners (work.Show text plan) prepared = tt
-prepared_task chosen book pretend tells m ps none owners (work.Rest plan) prepared = tt
-prepared_task chosen book pretend tells m ps none owners (work.Merge plan task) (done, same, jobs, book_is) = record {
-  are = subst (λ (p : List Group). AreJobs p task.jobs.items) same jobs.are;
-  lines = λ n. jobs.lines n ∙ ap (λ (p : List Group). line_of p n) same;
-  unclaimed = ap (λ (b : Book). b.claims) book_is ∙ none;
-  owners = λ t. subst (λ (b : Book). AreOwners m ps b) (sym book_is) (owners t);
-}

@@ -1,6 +1,6 @@
 -- What a run gives back of the packages that were installed, and of its plan.
-use Rattle.std.proofs.Common.{◌≡◌, ◌⊎◌, ◌∙◌, ℕ, List, [], Option, None, Some, Result, Ok, Err, inl, inr, refl, subst, sym}
-use Rattle.std.specs.Prelude.{IfErr, IfSome, MatchOption}
+use Rattle.std.proofs.Common.{◌≡◌, ◌⊎◌, ◌∙◌, ℕ, List, [], Option, None, Some, inl, inr, subst, sym}
+use Rattle.std.specs.Prelude.{IfSome, MatchOption}
 use Rattle.file_tree.specs.Disk.{Map, Story}
 use Rattle.file_tree.specs.declared.limits.Quantity.{Quantity}
 use Rattle.file_tree.specs.declared.limits.Quantity.TheVariants.{Candidates, Groups, Packages, Paths, RecordBytes}
@@ -16,8 +16,8 @@ use Rattle.plan_find.specs.declared.ends.NoPlan.TheVariants as ends
 use Rattle.plan_find.specs.declared.found.Found.{Found}
 use Rattle.recovery.specs.declared.fault.RecoverFault.{RecoverFault}
 use Rattle.recovery.specs.declared.fault.RecoverFault.TheVariants as recovery
-use Rattle.emerge_run.specs.Openings.{AreInstalled, AreInstalledAfter, GivesBack, HasPlan, HasRead, HasTooMuchAfter, IsUnread}
-use Rattle.emerge_run.specs.Outcomes.{HasRecovered, IsEarly, IsOfMerge, IsPlanOf, IsToDo, IsWantedPlan}
+use Rattle.emerge_run.specs.Openings.{AreInstalled, AreInstalledAfter, GivesBack, HasRead, HasTooMuchAfter}
+use Rattle.emerge_run.specs.Outcomes.{HasRecovered, IsPlanOf, IsToDo, IsWantedPlan}
 use Rattle.emerge_run.specs.Refusals.{packages_with, status_of}
 use Rattle.emerge_run.specs.Words.{EndsAtWords}
 use Rattle.emerge_run.specs.declared.choosing.Work.{Work}
@@ -27,53 +27,6 @@ use Rattle.run_status.specs.declared.status.Part.TheVariants as part
 use Rattle.run_status.specs.declared.status.Status.{Status}
 use Rattle.run_status.specs.declared.status.Status.TheVariants as status
 use Rattle.emerge_run.proofs.Endings.{at_words}
-
--- a run that merged has read its tree
-pub merge_read : (s : Status) → IsOfMerge s → IsUnread s → ⊥
-merge_read (status.Ok groups) h of = of
-merge_read (status.Usage fault) h of = h
-merge_read (status.BadText path line) h of = h
-merge_read (status.BadDatabase fault) h of = h
-merge_read (status.BadJournal fault) h of = h
-merge_read (status.Inconsistent fault) h of = of
-merge_read (status.NoCandidate atom reasons) h of = of
-merge_read status.NoSolution h of = of
-merge_read (status.BacktrackLimit refuted) h of = of
-merge_read (status.PlanRefused fault) h of = of
-merge_read (status.Collision c) h of = of
-merge_read (status.BadImage b) h of = of
-merge_read (status.BuildFailed id) h of = of
-merge_read status.DeviceFault h of = of
-merge_read status.OutputFault h of = of
-merge_read (status.Limit Groups) h of = h
-merge_read (status.Limit Packages) h of = h
-merge_read (status.Limit Candidates) h of = h
-merge_read (status.Limit Paths) h of = of
-merge_read (status.Limit RecordBytes) h of = of
-merge_read status.Memory h of = of
-merge_read (status.NotBuilt part.Command) h of = h
-merge_read (status.NotBuilt part.Result) h of = of
-
--- one that found no plan has none
-pub early_planless : (s : Status) → IsEarly s → HasPlan s → ⊥
-early_planless (status.Ok groups) h of = h
-early_planless (status.Usage fault) h of = of
-early_planless (status.BadText path line) h of = of
-early_planless (status.BadDatabase fault) h of = of
-early_planless (status.BadJournal fault) h of = of
-early_planless (status.Inconsistent fault) h of = of
-early_planless (status.NoCandidate atom reasons) h of = of
-early_planless status.NoSolution h of = of
-early_planless (status.BacktrackLimit refuted) h of = of
-early_planless (status.PlanRefused fault) h of = of
-early_planless (status.Collision c) h of = h
-early_planless (status.BadImage b) h of = h
-early_planless (status.BuildFailed id) h of = h
-early_planless status.DeviceFault h of = of
-early_planless status.OutputFault h of = of
-early_planless (status.Limit quantity) h of = of
-early_planless status.Memory h of = of
-early_planless (status.NotBuilt what) h of = of
 
 -- the words are refused before anything is read
 pub words_not_read : (words : List (List ℕ)) (s : Status) → EndsAtWords words s → HasRead s → ⊥
@@ -146,23 +99,6 @@ module _ (m : Map) (asked : Asked) where
   gives_refused (ends.NotPlanned packages) ps refuses is = all_given (ends.NotPlanned packages) ps (beside_no_plan m asked packages.items _ refuses) is
   gives_refused ends.Failed ps refuses is = none_given ends.Failed ps (λ of. of) (λ is_paths. absurd (cc is_paths)) is
   gives_refused ends.Memory ps refuses is = none_given ends.Memory ps (λ of. of) (λ is_paths. absurd (cc is_paths)) is
-
-pub refused_unread : (e : NoPlan) → IsUnread (status_of e) → packages_with e ≡ []
-refused_unread (ends.Text path line) of = refl
-refused_unread (ends.Limit Groups) of = refl
-refused_unread (ends.Limit Packages) of = refl
-refused_unread (ends.Limit Candidates) of = refl
-refused_unread (ends.Limit Paths) of = refl
-refused_unread (ends.Limit RecordBytes) of = refl
-refused_unread (ends.BadDatabase fault) of = refl
-refused_unread (ends.Inconsistent fault packages) of = absurd of
-refused_unread (ends.NoCandidate atom reasons packages) of = absurd of
-refused_unread (ends.NoSolution packages) of = absurd of
-refused_unread (ends.BacktrackLimit refuted packages) of = absurd of
-refused_unread (ends.Refused fault packages) of = absurd of
-refused_unread (ends.NotPlanned packages) of = absurd of
-refused_unread ends.Failed of = refl
-refused_unread ends.Memory of = refl
 
 pub gives_after : (opening m : Map) (s : Status) (ps : List Installed) → IsRecovered opening m → GivesBack (AreInstalled m) (openings.HasTooMuch m) s ps → GivesBack (AreInstalledAfter opening) (HasTooMuchAfter opening) s ps
 gives_after opening m s ps is gives = record {

@@ -21,7 +21,6 @@ use Rattle.plan_find.specs.Laws.{FoundPlansAreFit, IsFit}
 use Rattle.plan_find.specs.declared.asked.Asked.{Asked}
 use Rattle.plan_find.specs.declared.found.Found.{Found}
 use Rattle.plan_make.specs.Plans.{coming}
-use Rattle.plan_make.specs.declared.job.Job.{Job}
 use Rattle.plan_sound.specs.Ends.{ChoosesPlans, FirstTurnsLeaveSoundTrees, Images, IsFitPlan, IsReached, StaysSound}
 use Rattle.plan_sound.proofs.Ended.{all_ended, all_reached}
 use Rattle.emerge_run.specs.Headline.{Headline, TurnsOn}

@@ -1,14 +1,13 @@
 -- What a run writes, from its groups' lines to its last line.
 use Rattle.std.proofs.Common.{◌≡◌, ◌⊎◌, ℕ, Bool, List, [], ◌∷◌, ◌++◌, inl, inr, refl, ap, sym, ◌∙◌, subst, append_assoc, append-nil, length, take}
 use Rattle.file_tree.specs.Disk.{Map}
-use Rattle.group_run.specs.Lines.{AreLines, IsBeginning, Wrote}
+use Rattle.group_run.specs.Lines.{AreLines, Wrote}
 use Rattle.plan_law.specs.Plans.{Group}
 use Rattle.plan_make.specs.Plans.{line_for}
 use Rattle.plan_make.specs.declared.job.Job.{Job}
 use Rattle.emerge_run.specs.Builds.{line_of}
 use Rattle.emerge_run.specs.Outcomes.{IsDone, IsEarly, IsNamed, IsShownAs}
-use Rattle.emerge_run.specs.Output.{IsCut, IsLines, IsOutput, IsSaid, merging, showing, silent}
-use Rattle.emerge_run.specs.Words.{AskToMerge}
+use Rattle.emerge_run.specs.Output.{IsCut, IsOutput, IsSaid, merging, showing, silent}
 use Rattle.run_status.specs.Last.{IsEnd}
 use Rattle.run_status.specs.declared.status.Status.{Status}
 use Rattle.run_status.specs.declared.status.Status.TheVariants as status

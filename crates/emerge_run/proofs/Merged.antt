@@ -36,7 +36,7 @@ use Rattle.emerge_run.specs.Builds.{IsPastLimit}
 use Rattle.emerge_run.specs.Outcomes.{IsOfMerge, IsTold, MergedTo}
 use Rattle.emerge_run.specs.Package.{AreMade, Making, StopsAt}
 use Rattle.emerge_run.specs.Collisions.{ids_with, owned_by, status_of_collision}
-use Rattle.emerge_run.specs.Refusals.{EndsAtCollision, IsStatusOf, status_of_claim, status_of_end, status_of_plan_stop, status_of_stop}
+use Rattle.emerge_run.specs.Refusals.{EndsAtCollision, IsStatusOf, status_of_claim, status_of_end, status_of_stop}
 use Rattle.run_status.specs.declared.collision.Collision.{Collision}
 use Rattle.run_status.specs.declared.status.Status.{Status}
 use Rattle.run_status.specs.declared.status.Status.TheVariants as status

@@ -1,14 +1,13 @@
 -- The packages that the keys of a run stand for, by their places.
-use Rattle.std.proofs.Common.{◌≡◌, ◌∙◌, ◌<◌, ◌≤◌, ◌+◌, ◌-◌, ◌++◌, ℕ, zero, suc, List, [], ◌∷◌, Some, None, arith, drop, get_or, length, map, refl, ap, subst, sym}
+use Rattle.std.proofs.Common.{◌≡◌, ◌∙◌, ◌<◌, ◌≤◌, ◌+◌, ◌-◌, ◌++◌, ℕ, zero, suc, List, [], ◌∷◌, Some, arith, drop, get_or, length, map, refl, ap, sym}
 use Rattle.std.specs.Prelude.{slice_get}
 use Rattle.std.proofs.lemmas.List.{length-map, map-append}
 use Rattle.basics.proofs.Lists.{at_drop}
 use Rattle.dep_atom.specs.declared.package.PackageId.{PackageId}
 use Rattle.pkg_state.specs.Package.{Package}
 use Rattle.plan_law.specs.Plans.{Group}
-use Rattle.database_law.specs.Packages.{Installed, id_of}
 use Rattle.plan_make.specs.Plans.{coming}
-use Rattle.emerge_run.specs.Collisions.{id_of_package, ids_with}
+use Rattle.emerge_run.specs.Collisions.{id_of_package}
 
 slice_left : {A : Type 0} (xs ys : List A) (k : ℕ) → k < length xs → slice_get (xs ++ ys) k ≡ slice_get xs k
 slice_left [] ys k lt = absurd (omega (arith, lt))
@@ -48,14 +47,3 @@ comes_later plan i g k lt is past =
     ∙ (ap (λ (l : List PackageId). slice_get l k) (map-append id_of_package g.additions (coming (drop (i + 1) plan)))
     ∙ (slice_right (ids g.additions) (ids (coming (drop (i + 1) plan))) k within
     ∙ ap (λ (n : ℕ). slice_get (ids (coming (drop (i + 1) plan))) (k - n)) (length-map g.additions id_of_package)))
-
--- an installed package, or one that comes
-pub installed_at : (ps : List Installed) (plan : List Group) (k : ℕ) (p : Installed) → k < length ps → p ≡ get_or ps k p → slice_get (ids_with ps plan) k ≡ Some (id_of p)
-installed_at ps plan k p lt is =
-    let within : k < length (map id_of ps) = omega (arith, lt, length-map ps id_of) in
-    slice_left (map id_of ps) (ids (coming plan)) k within ∙ mapped_at id_of ps k p lt is
-
-pub coming_at : (ps : List Installed) (plan : List Group) (k : ℕ) → length ps ≤ k → slice_get (ids (coming plan)) (k - length ps) ≡ slice_get (ids_with ps plan) k
-coming_at ps plan k past =
-    let within : length (map id_of ps) ≤ k = omega (arith, past, length-map ps id_of) in
-    sym (slice_right (map id_of ps) (ids (coming plan)) k within ∙ ap (λ (n : ℕ). slice_get (ids (coming plan)) (k - n)) (length-map ps id_of))

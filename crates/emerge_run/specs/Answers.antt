@@ -1,7 +1,6 @@
 -- The answer that the words, the tree and the images ask for.
 use Rattle.std.specs.Prelude.{◌≡◌, ◌⊎◌, ℕ, true, false, List, length, ⊤}
 use Rattle.file_tree.specs.Disk.{Map}
-use Rattle.file_tree.specs.declared.limits.Quantity.{Quantity}
 use Rattle.file_tree.specs.declared.limits.Quantity.TheVariants.{Groups, Paths, RecordBytes}
 use Rattle.merge_site.specs.declared.fault.ClaimStop.TheVariants as claims
 use Rattle.group_run.specs.declared.stop.Stop.TheVariants as stops
@@ -26,7 +25,7 @@ use Rattle.emerge_run.specs.Collisions.{ids_with, status_of_collision}
 use Rattle.emerge_run.specs.Package.{StopsAt}
 use Rattle.emerge_run.specs.Refusals.{status_of}
 use Rattle.emerge_run.specs.Words.{AskForMerge, AskForOther, IsRequest, IsUsage}
-use Rattle.run_status.specs.declared.status.Part.TheVariants.{Command, Result}
+use Rattle.run_status.specs.declared.status.Part.TheVariants.{Command}
 use Rattle.run_status.specs.declared.status.Status.{Status}
 use Rattle.run_status.specs.declared.status.Status.TheVariants as status
 

@@ -1,5 +1,5 @@
 -- What a run leaves: its tree, and its groups.
-use Rattle.std.specs.Prelude.{◌≡◌, ◌≢◌, true, false, ℕ, Bool, List, [], length, IsTrue, Option, string_bytes, ⊤}
+use Rattle.std.specs.Prelude.{◌≡◌, ◌≢◌, true, false, ℕ, Bool, List, [], IsTrue, Option, string_bytes, ⊤}
 use Rattle.file_tree.specs.Disk.{Map, Story}
 use Rattle.file_tree.specs.Moments.{Leaves, Since}
 use Rattle.file_tree.specs.declared.limits.Quantity.TheVariants.{Groups, Paths, RecordBytes}
@@ -7,7 +7,6 @@ use Rattle.database_law.specs.Packages.{Installed}
 use Rattle.merge_core.specs.Trail.{IsAtRest}
 use Rattle.merge_record.specs.Recovered.{IsRecovered}
 use Rattle.group_run.specs.Applied.{LeavesWith, ReadsWith, RecoversWith}
-use Rattle.group_run.specs.Lines.{IsBeginning}
 use Rattle.run_law.specs.Ends.{IsKept}
 use Rattle.plan_law.specs.Plans.{Group}
 use Rattle.plan_choose.specs.declared.chosen.Chosen.{Chosen}
@@ -15,7 +14,6 @@ use Rattle.plan_find.specs.Choices.{IsFound}
 use Rattle.plan_find.specs.declared.asked.Asked.{Asked}
 use Rattle.plan_find.specs.declared.found.Found.{Found}
 use Rattle.plan_make.specs.declared.job.Job.{Job}
-use Rattle.plan_run.specs.Runs.{upto}
 use Rattle.plan_sound.specs.Ends.{HasGroups, Images, IsReached, LeavesGroups}
 use Rattle.plan_text.specs.Plans.{plan_value}
 use Rattle.plan_text.specs.Texts.{plan_text}

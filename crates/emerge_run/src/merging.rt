@@ -1,11 +1,11 @@
-ghost use Rattle.std.specs.Prelude.{◌≡◌, ◌⊎◌, ◌<◌, ◌^◌, [], ℕ, IsTrue, MatchOption, length, map};
-ghost use Rattle.std.specs.Prelude.{slice_get};
+ghost use Rattle.std.specs.Prelude.{◌≡◌, ◌⊎◌, ◌<◌, ◌^◌, [], ℕ, IsTrue, MatchOption, None, length};
+ghost use Rattle.std.specs.Prelude.{map, slice_get};
 ghost use Rattle.std.specs.Option.{option_copied};
 ghost use Rattle.build_pool.specs.Pool.{PoolRose, SameIds};
 ghost use Rattle.dep_atom.specs.declared.package.PackageId.{PackageId};
 ghost use Rattle.file_tree.specs.Disk.{CountsFault};
 ghost use Rattle.group_run.specs.Applied.{number};
-ghost use Rattle.group_run.specs.Lines.{AreLines, IsBeginning, Wrote};
+ghost use Rattle.group_run.specs.Lines.{AreLines, AreTold, Wrote};
 ghost use Rattle.image_build.specs.Images.{IsBuilt};
 ghost use Rattle.merge_core.specs.Trail.{IsAtRest};
 ghost use Rattle.plan_make.specs.Plans.{coming};
@@ -55,7 +55,7 @@ pub fn merge_ready<T: Tree, S: Sink, B: Builder>(
     ensures ok { (n : ℕ) → result.status ≡ Status.Ok n →
         (n ≡ length result.history.items) ×
         (result.acknowledged.items ≡ result.history.items) }
-    ensures kept { IsBeginning result.history.items result.acknowledged.items }
+    ensures kept { AreTold result.history.items result.acknowledged.items }
     ensures told { IsTold result.status → result.acknowledged.items ≡ result.history.items }
     ensures written { IsTrue S.tells → Wrote (AreLines (line_of plan)
         result.history.items result.acknowledged.items)
@@ -68,6 +68,7 @@ pub fn merge_ready<T: Tree, S: Sink, B: Builder>(
         (S.faults result.out) }
     ensures ids { SameIds B.number pool.old pool.new }
     ensures lent { pool.new.lent ≡ pool.old.lent }
+    ensures unasked { result.machine ≡ None → pool.new ≡ pool.old }
 {
     let Merged {
         tree,

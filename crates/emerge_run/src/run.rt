@@ -11,10 +11,10 @@ ghost use Rattle.run_law.specs.Ends.{BeginsWith};
 ghost use Rattle.emerge_run.specs.Headline.{Headline, TurnsOn};
 ghost use Rattle.emerge_run.specs.Outcomes.{IsPlanOf, IsRefusal, IsTold, Outcome};
 ghost use Rattle.group_run.specs.Applied.{number};
-ghost use Rattle.group_run.specs.Lines.{IsBeginning, Wrote};
+ghost use Rattle.group_run.specs.Lines.{AreTold, Wrote};
 ghost use Rattle.emerge_run.specs.Answers.{Asks};
 ghost use Rattle.emerge_run.specs.Output.{IsOutput, IsSaid};
-ghost use Rattle.emerge_run.specs.Words.{AskForMerge, IsOfWords, IsUsage};
+ghost use Rattle.emerge_run.specs.Words.{AskForMerge, AskToMerge, IsOfWords, IsUsage};
 ghost use Rattle.emerge_words.specs.declared.request.WordFault.{WordFault};
 
 use crate::choosing::{Seen, Work, choose};
@@ -89,8 +89,8 @@ pub fn emerge<T: Tree + Send, S: Sink + Send, B: Builder + Send>(
     ensures unchanged { IsTrue T.tells → IsOfWords result.status →
         T.story result.tree ≡ T.story tree }
 
-    // What was installed comes back where it was read, and whatever is answered once a merge has
-    // begun; and the plan that was accepted.
+    // What was installed comes back where it was read, and so does the plan that was accepted; both,
+    // whatever is answered, once a merge has begun.
     ensures begun { IsTrue T.tells → (result.machine ≡ None) ⊎
         AreInstalledAfter (T.story tree).now.holds result.opening.items }
     ensures opening { IsTrue T.tells → GivesBack (AreInstalledAfter (T.story tree).now.holds)
@@ -99,6 +99,7 @@ pub fn emerge<T: Tree + Send, S: Sink + Send, B: Builder + Send>(
     ensures plan { IsTrue T.tells → IfSome result.plan
         (IsPlanOf (map string_bytes words.now) (T.story tree).now.holds) }
     ensures planned { HasPlan result.status → ¬ (result.plan ≡ None) }
+    ensures merging { (result.machine ≡ None) ⊎ ¬ (result.plan ≡ None) }
 
     // From a disk whose packages go together, and which keeps what they recorded, a crash at any
     // moment recovers to such a tree: with the packages after some first groups of the plan.
@@ -107,15 +108,15 @@ pub fn emerge<T: Tree + Send, S: Sink + Send, B: Builder + Send>(
         Headline (map string_bytes words.now) flags m ps (T.story tree) (T.story result.tree)
         result.history.items result.status }
 
-    // The history is the order of the machine, and its beginning is acknowledged: all of it, where
-    // the status tells why there is no more.
+    // The history is the order of the machine. All of it is acknowledged where the status tells why
+    // there is no more; else its last group may not be.
     ensures machine { MatchOption result.machine (result.history.items ≡ [])
         (λ k. result.history.items ≡ map number k.order) }
     ensures ok { (n : ℕ) → result.status ≡ Status.Ok n →
         (n ≡ length result.history.items) ×
         (result.acknowledged.items ≡ result.history.items) }
     ensures refused { IsRefusal result.status → result.history.items ≡ [] }
-    ensures kept { IsBeginning result.history.items result.acknowledged.items }
+    ensures kept { AreTold result.history.items result.acknowledged.items }
     ensures told { IsTold result.status → result.acknowledged.items ≡ result.history.items }
 
     // What was written is the lines of the acknowledged groups and some beginning of those of the
@@ -140,7 +141,10 @@ pub fn emerge<T: Tree + Send, S: Sink + Send, B: Builder + Send>(
     ensures output { result.status ≡ Status.OutputFault →
         Rose (S.faults out) (S.faults result.out) }
 
-    // The pool has the builders that it had, and none is lent that wasn't.
+    // A merge begins only where the words ask for one that is done, and no builder is asked where
+    // none begins. The pool has the builders that it had, and none is lent that wasn't.
+    ensures asked { (result.machine ≡ None) ⊎ AskToMerge (map string_bytes words.now) }
+    ensures unasked { result.machine ≡ None → result.pool ≡ pool }
     ensures ids { SameIds B.number pool result.pool }
     ensures lent { result.pool.lent ≡ pool.lent }
 {
@@ -192,13 +196,14 @@ fn attempt<T: Tree, S: Sink, B: Builder>(
     ensures plan { IsTrue T.tells → IfSome result.plan
         (IsPlanOf (map string_bytes words.now) (T.story tree).now.holds) }
     ensures planned { HasPlan result.status → ¬ (result.plan ≡ None) }
+    ensures merging { (result.machine ≡ None) ⊎ ¬ (result.plan ≡ None) }
     ensures machine { MatchOption result.machine (result.history.items ≡ [])
         (λ k. result.history.items ≡ map number k.order) }
     ensures ok { (n : ℕ) → result.status ≡ Status.Ok n →
         (n ≡ length result.history.items) ×
         (result.acknowledged.items ≡ result.history.items) }
     ensures refused { IsRefusal result.status → result.history.items ≡ [] }
-    ensures kept { IsBeginning result.history.items result.acknowledged.items }
+    ensures kept { AreTold result.history.items result.acknowledged.items }
     ensures told { IsTold result.status → result.acknowledged.items ≡ result.history.items }
     ensures written { IsTrue S.tells → Wrote (IsSaid (map string_bytes words.now) T.tells
         (T.story tree).now.holds result.history.items result.acknowledged.items result.status)
@@ -214,6 +219,8 @@ fn attempt<T: Tree, S: Sink, B: Builder>(
     ensures output { result.status ≡ Status.OutputFault →
         Rose (S.faults out) (S.faults result.out) }
     ensures out_count { S.faults out ≤ S.faults result.out }
+    ensures asked { (result.machine ≡ None) ⊎ AskToMerge (map string_bytes words.now) }
+    ensures unasked { result.machine ≡ None → pool.new ≡ pool.old }
     ensures ids { SameIds B.number pool.old pool.new }
     ensures lent { pool.new.lent ≡ pool.old.lent }
 {

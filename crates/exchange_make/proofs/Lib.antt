@@ -3,6 +3,4 @@ pub mod Taking
 pub mod Zips
 pub mod Brought
 pub mod TakenImages
-pub mod Exchanged
 pub mod Kept
-pub mod Once

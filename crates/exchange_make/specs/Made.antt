@@ -1,39 +1,23 @@
--- What is made of a group that brings packages with their images, for a run of just that group.
-use Rattle.std.specs.Prelude.{◌≡◌, ◌==◌, ℕ, Bool, List, [], filter, length, map, if◌then◌else◌}
-use Rattle.std.specs.List.{AllByRecursion, AllZip}
+-- What is made of packages that come with their images.
+use Rattle.std.specs.Prelude.{◌≡◌, ◌==◌, ℕ, Bool, List, [], map, if◌then◌else◌}
+use Rattle.std.specs.List.{AllByRecursion}
 use Rattle.dep_atom.specs.Ids.{IsId}
 use Rattle.image_fit.specs.Misfits.{AreGood}
 use Rattle.merge_record.specs.Spelling.{IsPathText}
-use Rattle.merge_site.specs.Booking.{dying_at}
 use Rattle.pkg_state.specs.Package.{Package, line_of}
-use Rattle.plan_law.specs.Plans.{Group, Removal, clears}
+use Rattle.plan_law.specs.Plans.{Group, clears}
 use Rattle.database_law.specs.Packages.{Installed}
 use Rattle.commit_law.specs.Lit.{as_recorded}
-use Rattle.group_run.specs.Lines.{line_in}
 use Rattle.group_run.specs.declared.files.Files.{Files}
 use Rattle.package_law.specs.Records.{owned_of}
 use Rattle.record_write.specs.Recorded.{AreNamed}
 use Rattle.record_write.specs.Written.{AreFolderFiles, installed_with}
 use Rattle.exchange_make.specs.Keys.{key_with}
-use Rattle.exchange_make.specs.declared.made.Made.{Made}
 use Rattle.exchange_make.specs.declared.newcomer.Newcomer.{Newcomer}
-
--- the number of the one group
-abbrev pub GROUP : ℕ
-GROUP = 1
-
--- the line of that group, and none of any other
-abbrev pub only_line : List ℕ → ℕ → List ℕ
-only_line line g = if g == GROUP then line else []
 
 -- what a newcomer is
 abbrev pub package_of : Newcomer → Package
 package_of n = n.pkg
-
--- the group that takes away what stands on the lines of these, and brings these packages
-abbrev pub group_with : List Removal → List Newcomer → Group
-group_with removals newcomers =
-    record { after = []; removals = removals; additions = map package_of newcomers }
 
 -- the package leaves with the group: it stands on a line that the group clears
 abbrev pub leaves : Group → Installed → Bool
@@ -57,15 +41,3 @@ pub record AreFilesFor (ps : List Installed) (coming : List Package) (n : Newcom
   pub owner : files.owner ≡ key_with ps coming (recorded n)
   pub image : files.image.items ≡ n.image.items
   pub folder : AreGood n.image.items → AreFolderFiles (recorded n) files.folder.items
-
--- what is made of a group: the files of each package that comes, the keys of the packages that
--- leave, and the line of the one group of the run
-pub record IsMadeFor (ps : List Installed) (g : Group) (newcomers : List Newcomer)
-    (line : List ℕ) (made : Made) : Type 0 where
-  pub group : made.turn.group ≡ GROUP
-  pub named : AllByRecursion IsNamed newcomers
-  pub files : AllZip (AreFilesFor ps g.additions) newcomers made.turn.packages.items
-  pub dying : dying_at made.groups.items GROUP ≡
-      map (key_with ps g.additions) (filter (leaves g) ps)
-  pub count : length made.groups.items ≡ 2
-  pub lines : (i : ℕ) → line_in made.groups.items i ≡ only_line line i

@@ -1,5 +1,4 @@
 ghost use Rattle.std.specs.Prelude.{◌≡◌, ℕ, List, IfOk, map};
-ghost use Rattle.std.specs.List.{AllZip};
 ghost use Rattle.image_fit.specs.Misfits.{AreGood};
 ghost use Rattle.package_law.specs.Records.{owned_of};
 ghost use Rattle.record_write.specs.Written.{AreFolderFiles, installed_with};
@@ -60,21 +59,4 @@ pub fn files_of(alloc: Global, places: &Places, newcomer: Newcomer) -> Result<Fi
         image: newcomer.image,
         folder,
     })
-}
-
-/// The files of each package that comes.
-pub(crate) fn all_files(
-    alloc: Global,
-    places: &Places,
-    newcomers: Vec<Newcomer>,
-) -> Result<Vec<Files>, AllocError>
-    ensures { (ps : List InstalledValue) (coming : List Package) →
-        ArePlaces (folders_with ps coming) places.now →
-        IfOk result (λ v. AllZip (AreFilesFor ps coming) newcomers.items v.items) }
-{
-    let mut all = Vec::with_capacity(alloc, newcomers.len())?;
-    for newcomer in newcomers {
-        all.push(files_of(alloc, places, newcomer)?)?;
-    }
-    Ok(all)
 }

@@ -1,15 +1,10 @@
-ghost use Rattle.std.specs.Prelude.{◌≡◌, ◌++◌, ◌∷◌, [], ℕ, List, IfOk, OnOk, map};
+ghost use Rattle.std.specs.Prelude.{◌≡◌, ◌++◌, ◌∷◌, [], ℕ, List, IfOk, OnOk};
 ghost use Rattle.dep_atom.specs.Ids.{id_text};
-ghost use Rattle.database_law.specs.Packages.{Installed as InstalledValue};
 ghost use Rattle.run_law.specs.Openings.{key_at, place_of};
-ghost use Rattle.exchange_make.specs.Keys.{folders_with};
-ghost use Rattle.exchange_make.specs.Made.{package_of};
 ghost use Rattle.exchange_make.specs.Places.{ArePlaces};
 
-use crate::newcomer::Newcomer;
 use dep_atom::PackageId;
 use merge_record::OwnerKey;
-use record_read::Installed;
 use std::alloc::{AllocError, Global};
 use std::collections::BTreeMap;
 
@@ -60,23 +55,4 @@ impl Places {
         };
         Ok(OwnerKey { number })
     }
-}
-
-/// The places of the installed packages, and behind them those of the packages that come.
-pub(crate) fn places_of(
-    alloc: Global,
-    installed: &[Installed],
-    newcomers: &[Newcomer],
-) -> Result<Places, AllocError>
-    ensures { IfOk result
-        (ArePlaces (folders_with installed.now (map package_of newcomers.now))) }
-{
-    let mut places = Places::new(alloc);
-    for package in installed {
-        places.add(alloc, &package.pkg.facts.id)?;
-    }
-    for newcomer in newcomers {
-        places.add(alloc, &newcomer.pkg.facts.id)?;
-    }
-    Ok(places)
 }

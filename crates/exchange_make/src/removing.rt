@@ -1,41 +1,13 @@
-ghost use Rattle.std.specs.Prelude.{◌≡◌, ◌++◌, List, ℕ, IfOk, IsErrOf, IsTrue, OnOk, map};
-ghost use Rattle.basics.specs.Members.{AreDistinct};
-ghost use Rattle.file_tree.specs.Disk.{CountsFault};
+ghost use Rattle.std.specs.Prelude.{◌≡◌, ◌++◌, List, ℕ, IfOk, OnOk, map};
 ghost use Rattle.group_run.specs.Working.{all_of};
 ghost use Rattle.image_fit.specs.Images.{path_of as entry_path};
 ghost use Rattle.merge_record.specs.Judging.{HasSame};
-ghost use Rattle.exchange_make.specs.Removing.{AddsFree, AreRemoved};
+ghost use Rattle.exchange_make.specs.Removing.{AddsFree};
 
-use file_tree::{Entry, Path, Tree, TreeFault};
+use file_tree::{Entry, Path};
 use group_run::Files;
 use merge_record::TakenPaths;
-use opening::paths_of;
-use record_read::Installed;
 use std::alloc::{AllocError, Global};
-
-/// The paths that the packages own and that none of the files are for, each once.
-pub(crate) fn removals_of<T: Tree>(
-    alloc: Global,
-    tree: &mut T,
-    packages: &[&Installed],
-    files: &[Files],
-) -> Result<Vec<Path>, TreeFault>
-    ensures removed { IsTrue T.tells → IfOk result (λ v. AreRemoved
-        (T.story tree.old).now.holds (map (λ p. p.now) packages.now)
-        (map entry_path (all_of files.now)) v.items) }
-    ensures once { IfOk result (λ v. AreDistinct v.items) }
-    ensures same { IsTrue T.tells → T.story tree.new ≡ T.story tree.old }
-    ensures faults { CountsFault (IsErrOf result TreeFault.Failed) (T.faults tree.old)
-        (T.faults tree.new) }
-{
-    let mut taken = placed(alloc, files)?;
-    let mut removals = Vec::new(alloc);
-    for package in packages {
-        let paths = paths_of(alloc, tree, package)?;
-        add_free(alloc, paths, &mut taken, &mut removals)?;
-    }
-    Ok(removals)
-}
 
 /// The paths that the files are for.
 pub fn placed(alloc: Global, files: &[Files]) -> Result<TakenPaths, AllocError>

@@ -166,9 +166,6 @@ wished_on ws next g k folder before done e lt is here =
     ∙ (ap (λ (l : List Wish). l ++ wish_for k folder e ∷ []) here
     ∙ (append_assoc before (wishes_for k folder done) (wish_for k folder e ∷ []) ∙ ap (λ (l : List Wish). before ++ l) (sym (map-append (wish_for k folder) done (e ∷ []))))))
 
-pub rows_there : (ws : List (List Wish)) (n g : ℕ) → ws ≡ replicate n [] → g < n → g < length ws
-rows_there ws n g is lt = subst (λ (m : ℕ). g < m) (sym (ap length is ∙ length-replicate n [])) lt
-
 -- ---- the whole run
 
 -- a site that was just opened has the tree, the book and the groups that it was given

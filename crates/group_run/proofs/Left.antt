@@ -1,5 +1,5 @@
 -- What the groups of some turns leave: the map, the owners, and the rest of the run.
-use Rattle.std.proofs.Common.{◌≡◌, ◌⊎◌, ◌<◌, ◌≤◌, ◌++◌, ◌||◌, ◌∙◌, ℕ, zero, suc, Bool, true, false, cond, not, filter, Option, List, [], ◌∷◌, None, inl, inr, refl, sym, ap, subst, length, take, drop, get_or, map, is_some, append_assoc, append-nil, arith}
+use Rattle.std.proofs.Common.{◌≡◌, ◌⊎◌, ◌<◌, ◌≤◌, ◌++◌, ◌||◌, ◌∙◌, ℕ, zero, suc, Bool, true, false, cond, not, filter, Option, List, [], ◌∷◌, None, inl, inr, refl, sym, ap, subst, length, take, drop, get_or, map, is_some, append_assoc, arith}
 use Rattle.std.specs.Map.{lookup}
 use Rattle.std.specs.Prelude.{bytes_eq}
 use Rattle.std.proofs.Math.Seq.{drop-cons, take-append_seam}
@@ -21,7 +21,7 @@ use Rattle.merge_site.specs.declared.group.SiteGroup.{SiteGroup}
 use Rattle.group_run.specs.Applied.{number}
 use Rattle.group_run.specs.Causes.{IsOfGroup, StopsChanges}
 use Rattle.group_run.specs.Granted.{MayChange}
-use Rattle.group_run.specs.Lines.{IsBeginning}
+use Rattle.group_run.specs.Lines.{AreTold, IsBeginning}
 use Rattle.group_run.specs.Through.{settled_all}
 use Rattle.group_run.specs.Turns.{AreFirst, AreLetIn, StopsBehind, changes_of, group_for, numbers, settled}
 use Rattle.group_run.specs.Working.{Changes}
@@ -83,9 +83,9 @@ first_numbers all ts us t old new is front (inr more) =
     beginning_of (numbers all) new (numbers us)
     (ap numbers is ∙ (numbers_then ts (t ∷ us) ∙ (sym (append_assoc (numbers ts) (t.group ∷ []) (numbers us)) ∙ ap (λ (l : List ℕ). l ++ numbers us) (sym (more ∙ ap (λ (l : List ℕ). l ++ t.group ∷ []) front)))))
 
-pub told_first : (old new told : List ℕ) (g : ℕ) → told ≡ old → (new ≡ old) ⊎ (new ≡ old ++ g ∷ []) → IsBeginning new told
-told_first old new told g is (inl same) = beginning_of new told [] (same ∙ (sym is ∙ sym (append-nil told)))
-told_first old new told g is (inr more) = beginning_of new told (g ∷ []) (more ∙ ap (λ (l : List ℕ). l ++ g ∷ []) (sym is))
+pub told_then : (old new told : List ℕ) (g : ℕ) → told ≡ old → (new ≡ old) ⊎ (new ≡ old ++ g ∷ []) → AreTold new told
+told_then old new told g is (inl same) = inl (is ∙ sym same)
+told_then old new told g is (inr more) = inr (g, more ∙ ap (λ (l : List ℕ). l ++ g ∷ []) (sym is))
 
 -- ---- the map
 

@@ -6,7 +6,6 @@ pub mod Left
 pub mod Onward
 pub mod Rest
 pub mod Settling
-pub mod Single
 pub mod Staged
 pub mod Stood
 pub mod Stopped

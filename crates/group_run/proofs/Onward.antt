@@ -18,7 +18,7 @@ use Rattle.group_run.specs.Working.{Works, group_in, is_shut, standing_at, stood
 use Rattle.group_run.specs.declared.stop.Stop.{Stop}
 use Rattle.group_run.specs.declared.stop.Stop.TheVariants as stops
 use Rattle.group_run.specs.declared.turn.Turn.{Turn}
-use Rattle.group_run.proofs.Left.{beginning, beginning_of, first_numbers, numbers_then, one_longer, parts_in, told_first}
+use Rattle.group_run.proofs.Left.{beginning, beginning_of, first_numbers, numbers_then, one_longer, parts_in, told_then}
 use Rattle.group_run.proofs.Through.{cause_on, ended_on, rest_behind, through_on}
 
 module _ {T S : Type 0} (tells : Bool) (opening : Map) (ts : List Turn) (t : Turn) (a b : Account T S) (old told new newly : List ℕ)
@@ -44,7 +44,7 @@ module _ {T S : Type 0} (tells : Bool) (opening : Map) (ts : List Turn) (t : Tur
     rest = rest_behind tells opening ts [] t a b under.through fresh works let_in (suc (length new))
         (omega (arith, one_longer old new t.group one, ap length under.merged ∙ length-map ts (λ (u : Turn). u.group)));
     first = first_numbers (ts ++ t ∷ []) ts [] t old new refl under.merged one;
-    kept = told_first old new newly t.group (untold ∙ (under.told ∙ sym under.merged)) one;
+    kept = told_then old new newly t.group (untold ∙ (under.told ∙ sym under.merged)) one;
     all_told = λ of. untold ∙ (under.told ∙ sym (early of ∙ under.merged));
     merged = tt;
     told = tt;

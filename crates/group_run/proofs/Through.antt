@@ -38,14 +38,6 @@ use Rattle.group_run.proofs.Worked.{run_on}
 pub recovers_weaker : (P Q : List Group → Type 0) (m : Map) (among : List ℕ) (c : Map) → ((xs : List Group) → P xs → Q xs) → RecoversWith P m among c → RecoversWith Q m among c
 recovers_weaker P Q m among c so h = record { groups = h.groups; of = so h.groups h.of; has = h.has; is = h.is }
 
-pub went_weaker : {A : Type 0} (P Q : List Group → Type 0) (old new : Story) (history : List ℕ) (end : Result A Stop) → ((xs : List Group) → P xs → Q xs) → WentWith P old new history end → WentWith Q old new history end
-went_weaker P Q old new history end so h = record {
-  moments = since_weaker (RecoversWith P old.now.holds []) (RecoversWith Q old.now.holds []) (λ c. recovers_weaker P Q old.now.holds [] c so) old new h.moments;
-  crash = λ c image. recovers_weaker P Q old.now.holds history c so (h.crash c image);
-  left = λ healthy. let k = h.left healthy in record { groups = k.groups; of = so k.groups k.of; are = k.are; each = k.each };
-  tree = λ healthy fed. let k = h.tree healthy fed in record { groups = k.groups; of = so k.groups k.of; are = k.are; reads = k.reads; untouched = k.untouched };
-}
-
 -- ---- a site that is through with some turns
 
 module _ {T S : Type 0} (tells : Bool) (opening : Map) (ts : List Turn) (a : Account T S) (through : IsThrough tells opening ts a) where

@@ -333,10 +333,6 @@ order_answered m e false k = order_begun m e
 pub order_kept : {T S : Type 0} (old new : Account T S) (e : Event) (ok : Bool) → Adds old new e ok → settles e ≡ false → new.keeping.order ≡ old.keeping.order
 order_kept old new e ok adds k = ap (λ (m : Machine). m.roll.order) adds.machine ∙ order_answered (machine_of old.keeping) e ok k
 
--- the order behind a failed event
-pub order_failed : {T S : Type 0} (old new : Account T S) (e : Event) → Adds old new e false → new.keeping.order ≡ old.keeping.order
-order_failed old new e adds = ap (λ (m : Machine). m.roll.order) adds.machine ∙ order_begun (machine_of old.keeping) e
-
 -- ---- until a group is sealed it may end
 
 abbrev phase_here : Machine → ℕ → pure.Phase

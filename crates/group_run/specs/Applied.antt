@@ -43,9 +43,3 @@ pub record ReadsWith (Run : List Group → Type 0) (m : Map) (history : List ℕ
 -- the same where a run is any list of groups that are all of one kind
 abbrev pub Recovers : (Group → Type 0) → Map → List ℕ → Map → Type 0
 Recovers Of = RecoversWith (AreOf Of)
-
-abbrev pub LeavesHistory : (Group → Type 0) → Map → List ℕ → Disk → Type 0
-LeavesHistory Of = LeavesWith (AreOf Of)
-
-abbrev pub HasHistory : (Group → Type 0) → Map → List ℕ → Disk → Type 0
-HasHistory Of = ReadsWith (AreOf Of)

@@ -1,5 +1,5 @@
 -- What is written for groups.
-use Rattle.std.specs.Prelude.{◌≡◌, ◌++◌, ℕ, List, [], Option, Some, None, slice_get, take}
+use Rattle.std.specs.Prelude.{◌≡◌, ◌⊎◌, ◌++◌, ℕ, List, [], ◌∷◌, Option, Some, None, slice_get, take}
 use Rattle.std.specs.List.{flat_map}
 use Rattle.merge_site.specs.declared.group.SiteGroup.{SiteGroup}
 
@@ -10,6 +10,11 @@ Wrote P old new = (text : List ℕ) × P text × (new ≡ old ++ text)
 -- some beginning of a text
 abbrev pub IsBeginning : List ℕ → List ℕ → Type 0
 IsBeginning whole text = (n : ℕ) × (text ≡ take n whole)
+
+-- of the history all groups are acknowledged, or all but its last
+abbrev pub AreTold : List ℕ → List ℕ → Type 0
+AreTold history acknowledged = (acknowledged ≡ history)
+    ⊎ ((last : ℕ) × (history ≡ acknowledged ++ last ∷ []))
 
 -- the lines of the acknowledged groups, in order, and then some beginning of the lines of the
 -- groups of the history that are not acknowledged

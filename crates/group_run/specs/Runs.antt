@@ -7,7 +7,7 @@ use Rattle.merge_core.specs.Roll.{resting}
 use Rattle.merge_site.specs.Site.{Account}
 use Rattle.group_run.specs.Applied.{number}
 use Rattle.group_run.specs.Causes.{IsOfGroup}
-use Rattle.group_run.specs.Lines.{IsBeginning}
+use Rattle.group_run.specs.Lines.{AreTold, IsBeginning}
 use Rattle.group_run.specs.Through.{HasEnded, IsThrough}
 use Rattle.group_run.specs.Turns.{StopsBehind, numbers}
 use Rattle.group_run.specs.Working.{standing_at}
@@ -27,8 +27,8 @@ abbrev pub IsNew : List Turn → Turn → Type 0
 IsNew turns t = ¬ Has (numbers turns) t.group
 
 -- a run that began these turns ended so: its history is their first groups and the machine's order,
--- no group behind the next one has begun, the told ones are the first of the history, and all of it
--- where a group was stopped for what it has; a stop is that of the group behind the history
+-- no group behind the next one has begun; of the history all groups are told or all but its last,
+-- and all where a group was stopped for what it has; a stop is that of the group behind the history
 pub record IsOver {A T S : Type 0} (tells : Bool) (opening : Map) (turns : List Turn)
     (history acknowledged : List ℕ) (end : Result A Stop) (a : Account T S) : Type 0 where
   pub ended : HasEnded tells opening turns a end
@@ -36,7 +36,7 @@ pub record IsOver {A T S : Type 0} (tells : Bool) (opening : Map) (turns : List 
   pub rest : (h : ℕ) → ¬ Has (take (suc (length history)) (numbers turns)) h →
       standing_at a h ≡ resting
   pub first : IsBeginning (numbers turns) history
-  pub kept : IsBeginning history acknowledged
+  pub kept : AreTold history acknowledged
   pub all_told : IfErr end (λ e. IsOfGroup e → acknowledged ≡ history)
   pub merged : OnOk end (history ≡ numbers turns)
   pub told : OnOk end (acknowledged ≡ numbers turns)

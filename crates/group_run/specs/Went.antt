@@ -27,12 +27,6 @@ pub record WentWith {A : Type 0} (Run : List Group → Type 0) (old new : Story)
 abbrev pub Went : {A : Type 0} → (Group → Type 0) → Story → Story → List ℕ → Result A Stop → Type 0
 Went Of = WentWith (AreOf Of)
 
--- the machine of so many groups, of which only this one has begun, with this history
-pub record HasRun (g n : ℕ) (history : List ℕ) (k : Keeping) : Type 0 where
-  pub order : history ≡ map number k.order
-  pub count : length k.standings ≡ n
-  pub alone : (h : ℕ) → ¬ (h ≡ g) → standing_in k.standings h ≡ resting
-
 -- the machine of so many groups with this history: of these it has begun only those of the history
 -- and the next one, and no other
 pub record HaveRun (gs : List ℕ) (n : ℕ) (history : List ℕ) (k : Keeping) : Type 0 where

@@ -5,7 +5,7 @@ ghost use Rattle.basics.specs.Members.{AreDistinct, Has};
 ghost use Rattle.file_tree.specs.Disk.{CountsFault};
 ghost use Rattle.merge_core.specs.Trail.{IsAtRest};
 ghost use Rattle.group_run.specs.Causes.{IsOfGroup};
-ghost use Rattle.group_run.specs.Lines.{AreLines, IsBeginning, Wrote, line_in};
+ghost use Rattle.group_run.specs.Lines.{AreLines, AreTold, IsBeginning, Wrote, line_in};
 ghost use Rattle.group_run.specs.Turns.{AreFirst, HaveCause, numbers};
 ghost use Rattle.group_run.specs.Went.{HaveRun, WentWith};
 ghost use Rattle.group_run.specs.declared.turn.Turn.{Turn};
@@ -67,7 +67,7 @@ pub fn merge_groups<T: Tree, S: Sink>(alloc: Global, tree: T, sink: S, batch: Ba
     ensures machine { MatchOption result.machine (result.history.items ≡ [])
         (HaveRun (numbers batch.turns.items) (length batch.groups.items) result.history.items) }
     ensures first { IsBeginning (numbers batch.turns.items) result.history.items }
-    ensures kept { IsBeginning result.history.items result.acknowledged.items }
+    ensures kept { AreTold result.history.items result.acknowledged.items }
     ensures all_told { IfErr result.end (λ e. IsOfGroup e →
         result.acknowledged.items ≡ result.history.items) }
     ensures merged { OnOk result.end (result.history.items ≡ numbers batch.turns.items) }

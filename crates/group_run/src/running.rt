@@ -14,7 +14,7 @@ ghost use Rattle.merge_site.specs.Site.{IsOpened};
 ghost use Rattle.group_run.specs.Applied.{number};
 ghost use Rattle.group_run.specs.Causes.{IsOfGroup, StopsChanges};
 ghost use Rattle.group_run.specs.Granted.{IsAdmitted, changes_in, wishes_of};
-ghost use Rattle.group_run.specs.Lines.{AreLines, IsBeginning, Wrote, line_in};
+ghost use Rattle.group_run.specs.Lines.{AreLines, AreTold, IsBeginning, Wrote, line_in};
 ghost use Rattle.group_run.specs.Through.{HasEnded, HasRoom, IsSameSite, IsThrough};
 ghost use Rattle.group_run.specs.Turns.{AreFirst, StopsBehind, numbers};
 ghost use Rattle.group_run.specs.Went.{DroveWith, HaveRun};
@@ -157,7 +157,7 @@ fn merge_all<T: Tree, S: Sink>(
         standing_at site.new h ≡ resting }
     ensures history { history.new.items ≡ map number site.new.keeping.order }
     ensures first { IsBeginning (numbers turns.items) history.new.items }
-    ensures kept { IsBeginning history.new.items acknowledged.new.items }
+    ensures kept { AreTold history.new.items acknowledged.new.items }
     ensures all_told { IfErr result (λ e. IsOfGroup e →
         acknowledged.new.items ≡ history.new.items) }
     ensures merged { OnOk result (history.new.items ≡ numbers turns.items) }
@@ -204,7 +204,7 @@ pub(crate) fn drive<T: Tree, S: Sink>(
     ensures machine { HaveRun (numbers turns.items) (length site.old.groups) history.new.items
         site.new.keeping }
     ensures first { IsBeginning (numbers turns.items) history.new.items }
-    ensures kept { IsBeginning history.new.items acknowledged.new.items }
+    ensures kept { AreTold history.new.items acknowledged.new.items }
     ensures all_told { IfErr result (λ e. IsOfGroup e →
         acknowledged.new.items ≡ history.new.items) }
     ensures merged { OnOk result (history.new.items ≡ numbers turns.items) }

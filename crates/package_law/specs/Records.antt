@@ -21,16 +21,3 @@ content_by kinds.Link bytes = Link bytes
 -- what is recorded of an entry of the image
 abbrev pub owned_of : Entry → Owned
 owned_of e = record { path = e.path; content = content_by e.object.kind e.object.bytes }
-
--- the package with these facts that needs nothing
-abbrev pub needing_nothing : Facts → Package
-needing_nothing f = record {
-  facts = f;
-  eapi = Eight;
-  rdepend = no_trees;
-  pdepend = no_trees;
-  depend = no_trees;
-  bdepend = no_trees;
-  idepend = no_trees;
-  required = no_trees;
-}

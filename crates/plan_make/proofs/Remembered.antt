@@ -3,7 +3,7 @@ use Rattle.std.proofs.Common.{◌≡◌, ◌∙◌, ◌++◌, ◌||◌, ◌<◌,
 use Rattle.std.specs.Prelude.{◌↔◌, bytes_eq, if◌then◌else◌}
 use Rattle.std.specs.List.{list_any}
 use Rattle.std.proofs.lemmas.Bool.{cases_Bool}
-use Rattle.std.proofs.lemmas.List.{map-append, take_more}
+use Rattle.std.proofs.lemmas.List.{map-append}
 use Rattle.std.proofs.lemmas.List.Folds.{list_any_more}
 use Rattle.std.proofs.lemmas.Slice.Eq.{bytes_eq-Decides}
 use Rattle.basics.specs.Members.{AreDistinct, Has}
@@ -12,7 +12,6 @@ use Rattle.basics.proofs.Tests.{cond-or, or-assoc}
 use Rattle.basics.proofs.Texts.{bytes_eq-same}
 use Rattle.dep_atom.specs.Ids.{id_text}
 use Rattle.file_tree.specs.Disk.{Map}
-use Rattle.merge_site.specs.declared.group.SiteGroup.{SiteGroup}
 use Rattle.package_law.proofs.Places.{distinct_front}
 use Rattle.plan_law.specs.Plans.{Group, Removal}
 use Rattle.plan_law.proofs.Members.{passes_some}
@@ -94,14 +93,6 @@ folder_more rs i r folder was old new lt is text so_far changed q =
     ∙ (or-assoc (was q) (names_folder (take i rs) q) (f (get_or rs i r)) ∙ ap (λ (b : Bool). was q || b) (sym (list_any_more f rs i r lt))))))
 
 -- ---- what a site is opened for
-
-pub site_more : {A : Type 0} {X : Type 0} (f : SiteGroup → List X) (h : A → List X) (xs : List SiteGroup) (x : SiteGroup) (gs : List A) (i : ℕ) (g : A) → i < length gs → g ≡ get_or gs i g
-    → map f xs ≡ [] ∷ map h (take i gs) → f x ≡ h g → map f (xs ++ x ∷ []) ≡ [] ∷ map h (take (i + 1) gs)
-site_more {A = A} {X = X} f h xs x gs i g lt is so_far same =
-    map-append f xs (x ∷ [])
-    ∙ (ap (λ (l : List (List X)). l ++ f x ∷ []) so_far
-    ∙ (ap (λ (y : List X). [] ∷ (map h (take i gs) ++ y ∷ [])) (same ∙ ap h is)
-    ∙ ap (λ (l : List (List X)). [] ∷ l) (sym (map-append h (take i gs) (get_or gs i g ∷ [])) ∙ ap (map h) (sym (take_more gs i g lt)))))
 
 pub take_whole : {A : Type 0} (xs : List A) (n : ℕ) → length xs ≤ n → take n xs ≡ xs
 take_whole [] zero le = refl

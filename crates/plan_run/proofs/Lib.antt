@@ -2,3 +2,4 @@ pub mod Course
 pub mod Ending
 pub mod Ordered
 pub mod Whole
+pub mod Unmade

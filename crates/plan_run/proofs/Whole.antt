@@ -1,5 +1,5 @@
 -- The whole run of a plan, from those of its parts.
-use Rattle.std.proofs.Common.{◌≡◌, ◌⊎◌, ◌∙◌, ◌++◌, ◌∷◌, ◌≤◌, ◌+◌, ◌^◌, ℕ, zero, suc, Bool, true, List, [], Option, None, Some, Result, Ok, Err, ap, arith, drop, inl, inr, length, map, refl, subst, sym, take, take-append-drop}
+use Rattle.std.proofs.Common.{◌≡◌, ◌⊎◌, ◌∙◌, ◌++◌, ◌∷◌, ◌≤◌, ◌+◌, ◌^◌, ℕ, zero, suc, List, [], Option, None, Some, Result, Ok, Err, ap, arith, drop, inl, inr, length, map, refl, subst, sym, take, take-append-drop}
 use Rattle.std.specs.Prelude.{IfErr, IsErrOf, OnOk, slice_get}
 use Rattle.std.proofs.lemmas.List.{length-map}
 use Rattle.basics.specs.Members.{Has}
@@ -7,7 +7,6 @@ use Rattle.file_tree.specs.Disk.{CountsFault, Rose}
 use Rattle.file_tree.specs.declared.fault.TreeFault.{TreeFault}
 use Rattle.file_tree.specs.declared.fault.TreeFault.TheVariants as trees
 use Rattle.owner_book.specs.Book.{Book}
-use Rattle.merge_core.specs.Keeping.{Keeping}
 use Rattle.merge_core.specs.Roll.{resting}
 use Rattle.merge_core.specs.Core.{standing_in}
 use Rattle.merge_site.specs.Site.{Account}

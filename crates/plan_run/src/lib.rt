@@ -25,5 +25,4 @@ mod stop;
 mod turns;
 
 pub use merge::{Merged, Task, merge_plan};
-pub use newcomers::newcomers_of;
 pub use stop::PlanStop;

@@ -6,7 +6,7 @@ ghost use Rattle.merge_core.specs.Trail.{IsAtRest};
 ghost use Rattle.exchange_make.specs.Keys.{folders_with};
 ghost use Rattle.exchange_make.specs.Places.{ArePlaces};
 ghost use Rattle.group_run.specs.Causes.{IsOfGroup};
-ghost use Rattle.group_run.specs.Lines.{AreLines, IsBeginning, Wrote};
+ghost use Rattle.group_run.specs.Lines.{AreLines, AreTold, IsBeginning, Wrote};
 ghost use Rattle.group_run.specs.Stops.{stop_of_tree};
 ghost use Rattle.group_run.specs.Through.{HasRoom};
 ghost use Rattle.group_run.specs.Went.{HaveRun};
@@ -75,7 +75,7 @@ pub fn merge_plan<T: Tree, S: Sink, B: Builder>(
     ensures machine { MatchOption result.machine (result.history.items ≡ [])
         (HaveRun (upto (length plan.now)) (length plan.now + 1) result.history.items) }
     ensures first { IsBeginning (upto (length plan.now)) result.history.items }
-    ensures kept { IsBeginning result.history.items result.acknowledged.items }
+    ensures kept { AreTold result.history.items result.acknowledged.items }
     ensures all_told { IfErr (merge_end tt result.end) (λ s. IsOfGroup s →
         result.acknowledged.items ≡ result.history.items) }
     ensures so_far { OnOk (merge_end tt result.end)
@@ -90,6 +90,7 @@ pub fn merge_plan<T: Tree, S: Sink, B: Builder>(
     ensures ids { SameIds B.number pool.old pool.new }
     ensures lent { pool.new.lent ≡ pool.old.lent }
     ensures builds { faults_of B.faults pool.old ≤ faults_of B.faults pool.new }
+    ensures unasked { result.machine ≡ None → pool.new ≡ pool.old }
     ensures device { CountsFault (IsErrOf result.end (PlanStop.Merge stops.Device)) (T.faults tree)
         (T.faults result.tree) }
     ensures output { CountsFault (IsErrOf result.end (PlanStop.Merge stops.Output)) (S.faults sink)
@@ -135,7 +136,7 @@ fn run_course<T: Tree, S: Sink, B: Builder>(
     ensures machine { MatchOption result.machine (result.history.items ≡ [])
         (HaveRun (upto (length plan.now)) (length plan.now + 1) result.history.items) }
     ensures first { IsBeginning (upto (length plan.now)) result.history.items }
-    ensures kept { IsBeginning result.history.items result.acknowledged.items }
+    ensures kept { AreTold result.history.items result.acknowledged.items }
     ensures all_told { IfErr (merge_end tt result.end) (λ s. IsOfGroup s →
         result.acknowledged.items ≡ result.history.items) }
     ensures so_far { OnOk (merge_end tt result.end)
@@ -150,6 +151,7 @@ fn run_course<T: Tree, S: Sink, B: Builder>(
     ensures ids { SameIds B.number pool.old pool.new }
     ensures lent { pool.new.lent ≡ pool.old.lent }
     ensures builds { faults_of B.faults pool.old ≤ faults_of B.faults pool.new }
+    ensures unasked { result.machine ≡ None → pool.new ≡ pool.old }
     ensures device { CountsFault (IsErrOf result.end (PlanStop.Merge stops.Device)) (T.faults tree)
         (T.faults result.tree) }
     ensures output { CountsFault (IsErrOf result.end (PlanStop.Merge stops.Output)) (S.faults sink)

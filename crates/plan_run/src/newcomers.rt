@@ -16,7 +16,7 @@ use std::alloc::{AllocError, Global};
 
 /// The additions of a group, each with the image that a builder of the pool makes for its order. The
 /// first that has none stops it.
-pub fn newcomers_of<B: Builder>(
+pub(crate) fn newcomers_of<B: Builder>(
     alloc: Global,
     pool: &mut BuildPool<B>,
     additions: &[Pkg],

@@ -15,12 +15,11 @@ use Rattle.group_run.specs.Applied.{ReadsWith, RecoversWith, number}
 use Rattle.group_run.specs.Turns.{AreFirst}
 use Rattle.group_run.proofs.Granted.{none_there}
 use Rattle.package_law.proofs.Runs.{none_told}
-use Rattle.change_law.specs.Planned.{RecoversSoundly}
 use Rattle.run_law.specs.Ends.{BeginsWith, IsKept}
 use Rattle.run_law.proofs.Runs.{applied_empty, applied_none, rest_recovers}
 use Rattle.plan_run.specs.Runs.{upto}
 use Rattle.plan_sound.specs.Ends.{AreAmong, AreMadeOver, Choice, ChoosesPlans, Course, EndsSoundly, FirstTurnsLeaveSoundTrees, HasGroups, HoldsAfterSome, Images, IsReached, IsRunOf, StaysSound}
-use Rattle.plan_sound.specs.Sound.{AnyImage, IsPlanFor, LeavesSound}
+use Rattle.plan_sound.specs.Sound.{AnyImage, IsPlanFor, LeavesSound, RecoversSoundly}
 use Rattle.plan_sound.proofs.Images.{any_turns}
 use Rattle.plan_sound.proofs.Soundly.{after_weaker}
 

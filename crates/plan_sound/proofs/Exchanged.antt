@@ -42,7 +42,6 @@ use Rattle.exchange_make.specs.Keys.{folder_of, folders_with, key_with}
 use Rattle.exchange_make.specs.Laws.{CanBeRecorded}
 use Rattle.exchange_make.specs.Made.{IsNamed, leaves, package_of}
 use Rattle.exchange_make.specs.declared.newcomer.Newcomer.{Newcomer}
-use Rattle.exchange_make.proofs.Exchanged.{folders_as}
 use Rattle.exchange_make.proofs.PlaceLemmas.{one_at_a_place}
 use Rattle.exchange_make.proofs.Zips.{distinct_by}
 use Rattle.plan_make.specs.Held.{Holdings, held_for}
@@ -52,6 +51,10 @@ use Rattle.plan_make.specs.declared.job.Job.{Job}
 use Rattle.plan_sound.proofs.Beginnings.{below}
 use Rattle.plan_sound.proofs.Placed.{Brings, added_comes, added_files, added_keys, turn_brings}
 use Rattle.plan_sound.proofs.Present.{AcceptedAreSound, brings_apart, leaving_named, named_leaves, removed_there}
+
+folders_as : (flags : List (List ℕ)) (ps : List Installed) → map folder_name ps ≡ map folder_of (packages_of flags ps)
+folders_as flags [] = refl
+folders_as flags (p ∷ ps) = ap (λ (l : List (List ℕ)). folder_name p ∷ l) (folders_as flags ps)
 
 -- ---- the dying keys of a group of a site
 

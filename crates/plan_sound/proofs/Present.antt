@@ -1,18 +1,19 @@
 -- Which packages are there before a group of a plan, and what its removals name.
-use Rattle.std.proofs.Common.{◌≡◌, ◌∙◌, ◌++◌, ◌≤◌, ◌<◌, ℕ, suc, true, List, [], ap, arith, filter, inl, inr, length, map, not, subst, sym}
-use Rattle.std.specs.Prelude.{bytes_eq}
+use Rattle.std.proofs.Common.{◌≡◌, ◌∙◌, ◌++◌, ◌≤◌, ◌<◌, ℕ, suc, true, List, [], ◌∷◌, ap, arith, filter, inl, inr, length, map, not, subst, sym}
+use Rattle.std.specs.Prelude.{bytes_eq, codes}
 use Rattle.std.proofs.lemmas.List.{map-append}
 use Rattle.std.proofs.lemmas.Slice.Eq.{bytes_eq-Decides}
 use Rattle.basics.specs.Members.{AreDistinct, Has}
 use Rattle.basics.proofs.Each.{all_has}
 use Rattle.basics.proofs.Membership.{has-map, has-map_back}
 use Rattle.std.specs.List.{AllByRecursion}
-use Rattle.dep_atom.specs.Ids.{IsId}
+use Rattle.dep_atom.specs.Ids.{IsId, id_text}
 use Rattle.dep_atom.specs.declared.package.PackageId.{PackageId}
 use Rattle.dep_atom.proofs.Joined.{ComesApart}
 use Rattle.pkg_state.specs.Package.{Package, line_of}
 use Rattle.pkg_state.proofs.Lines.{one_on_line}
-use Rattle.vdb_text.proofs.Packages.{OneSpelling}
+use Rattle.vdb_text.specs.Files.{record_path}
+use Rattle.vdb_text.proofs.Packages.{OneSpelling, one_id}
 use Rattle.plan_law.specs.Accepted.{IsAccepted}
 use Rattle.plan_law.specs.Lives.{ComesBefore, Life, Moment, StandsBefore, commit, never, opening}
 use Rattle.plan_law.specs.Plans.{Group, Removal, WaitsForEarlier, after, clears, group_at, removed_line}
@@ -29,9 +30,13 @@ use Rattle.commit_law.proofs.Members.{AreSame}
 use Rattle.commit_law.proofs.Whole.{one_change}
 use Rattle.package_law.proofs.Places.{distinct_front}
 use Rattle.exchange_make.specs.Keys.{folder_of}
-use Rattle.exchange_make.proofs.Once.{one_of_text}
 use Rattle.exchange_make.proofs.Zips.{distinct_by}
 use Rattle.plan_sound.proofs.Beginnings.{after_push, below, below_less, less_below, runs_below}
+
+-- ids with one text are one
+one_of_text : ComesApart → OneSpelling → (a b : PackageId) → IsId a → IsId b → id_text a ≡ id_text b → a ≡ b
+unfolding record_path
+one_of_text comes spells a b is also e = one_id comes spells a b [] [] is also (ap (λ (t : List ℕ). codes "var/db/pkg/" ++ (t ++ (47 ∷ []))) e)
 
 abbrev pub AcceptedAreSound : Type 0
 AcceptedAreSound = (plan : List Group) (start : List Package) → WaitsForEarlier plan → IsAccepted plan start → IsSound plan start

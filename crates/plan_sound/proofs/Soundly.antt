@@ -12,7 +12,7 @@ use Rattle.journal.specs.Group.{applied}
 use Rattle.merge_site.specs.declared.group.SiteGroup.{SiteGroup}
 use Rattle.owner_book.specs.Book.{Book, owner_in}
 use Rattle.recovery.proofs.Lists.{distinct_if_sorted}
-use Rattle.plan_law.specs.Plans.{Group, group_at, no_group}
+use Rattle.plan_law.specs.Plans.{Group, group_at}
 use Rattle.database_law.specs.Database.{folder_name}
 use Rattle.database_law.specs.Packages.{Installed}
 use Rattle.database_law.specs.Step.{GroupsKeepDatabase}
@@ -23,17 +23,15 @@ use Rattle.group_run.specs.Went.{WentWith}
 use Rattle.group_run.specs.declared.stop.Stop.{Stop}
 use Rattle.group_run.specs.declared.turn.Turn.{Turn}
 use Rattle.group_run.proofs.Left.{numbers_of}
-use Rattle.change_law.specs.Planned.{RecoversSoundly}
 use Rattle.exchange_make.specs.Keys.{folder_of}
 use Rattle.exchange_make.specs.Laws.{OwnersKeepTheirKeys}
-use Rattle.exchange_run.proofs.Soundly.{none_sound}
 use Rattle.plan_make.specs.Held.{HoldOwned, Holdings}
 use Rattle.plan_make.specs.Plans.{AreSiteGroups, coming, is_named}
 use Rattle.plan_make.specs.Turns.{AreTurns}
 use Rattle.plan_make.specs.declared.job.Job.{Job}
 use Rattle.plan_run.specs.Runs.{upto}
 use Rattle.plan_sound.specs.Ends.{AreMadeOver, FirstTurnsLeaveSoundTrees}
-use Rattle.plan_sound.specs.Sound.{AnyImage, HoldsAfterGroups, IsPlanFor, IsSoundRun, LeavesSound, PlanRunsAreSound, RecoversAfterFirst}
+use Rattle.plan_sound.specs.Sound.{AnyImage, HoldsAfterGroups, IsPlanFor, IsSoundRun, LeavesSound, PlanRunsAreSound, RecoversAfterFirst, RecoversSoundly}
 use Rattle.plan_sound.proofs.Beginnings.{first_turns, turns_numbered, turns_within}
 use Rattle.plan_sound.proofs.Turning.{Facts, Stands, turns_sound}
 
@@ -46,6 +44,12 @@ named_group : (plan : List Group) (h : ℕ) (p : Installed) → is_named (group_
 named_group [] h p e = absurd (cc e)
 named_group (g ∷ plan) zero p e = inl refl
 named_group (g ∷ plan) (suc h) p e = inr (named_group plan h p e)
+
+-- no group leaves a sound tree as sound as it was
+none_sound : (flags : List (List ℕ)) (m : Map) (ps : List Installed) → GroupsKeepDatabase → IsSoundTree flags m ps → IsSoundTree flags (applied m []) ps
+none_sound flags m ps keep sound =
+    let both = keep [] m ps ps sound.database sound.kept refl in
+    record { database = both.0; kept = both.1; consistent = sound.consistent }
 
 module _ (flags : List (List ℕ)) (P Q : List Installed → Type 0) (so : (qs : List Installed) → P qs → Q qs) where
   -- what follows of the packages holds after the groups, too
@@ -121,7 +125,7 @@ first_turns_sound facts stay flags m ps plan jobs book groups turns xs planned m
 
 -- nothing came in
 none_leaves : (keep : GroupsKeepDatabase) (flags : List (List ℕ)) (m : Map) (ps : List Installed) (plan : List Group) → IsSoundTree flags m ps → (xs : List journal.Group) → AreOf (λ x. ⊥) xs → LeavesSound flags ps plan m xs
-none_leaves keep flags m ps plan sound [] of = record { count = 0; within = omega arith; numbered = refl; sound = none_sound flags m ps no_group keep sound }
+none_leaves keep flags m ps plan sound [] of = record { count = 0; within = omega arith; numbered = refl; sound = none_sound flags m ps keep sound }
 none_leaves keep flags m ps plan sound (y ∷ ys) of = absurd (of y (inl refl))
 
 pub plan_runs_sound : GroupsKeepDatabase → FirstTurnsLeaveSoundTrees → PlanRunsAreSound

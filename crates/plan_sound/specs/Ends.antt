@@ -18,7 +18,6 @@ use Rattle.commit_law.specs.Lit.{packages_of}
 use Rattle.group_run.specs.Applied.{AreOf, LeavesWith, ReadsWith, RecoversWith}
 use Rattle.group_run.specs.Turns.{AreFirst}
 use Rattle.group_run.specs.declared.turn.Turn.{Turn}
-use Rattle.change_law.specs.Planned.{RecoversSoundly}
 use Rattle.run_law.specs.Ends.{BeginsWith, IsKept}
 use Rattle.run_law.specs.Openings.{AreOwners}
 use Rattle.exchange_make.specs.Laws.{CanBeRecorded}
@@ -27,7 +26,7 @@ use Rattle.plan_make.specs.Plans.{AreSiteGroups, coming}
 use Rattle.plan_make.specs.Turns.{AreTurns}
 use Rattle.plan_make.specs.declared.job.Job.{Job}
 use Rattle.plan_run.specs.Runs.{upto}
-use Rattle.plan_sound.specs.Sound.{AnyImage, HoldsAfterGroups, IsPlanFor, LeavesSound}
+use Rattle.plan_sound.specs.Sound.{AnyImage, HoldsAfterGroups, IsPlanFor, LeavesSound, RecoversSoundly}
 
 -- the images that may be made for an order
 abbrev pub Images : Type 1

@@ -9,19 +9,20 @@ use Rattle.file_tree.specs.Moments.{Leaves, Since}
 use Rattle.file_tree.specs.declared.objects.Entry.{Entry}
 use Rattle.journal.specs.Group as journal
 use Rattle.journal.specs.Group.{applied}
+use Rattle.merge_record.specs.Recovered.{IsRecovered}
 use Rattle.owner_book.specs.Book.{Book}
 use Rattle.plan_law.specs.Accepted.{IsAccepted}
 use Rattle.plan_law.specs.Plans.{Group, WaitsForEarlier}
 use Rattle.database_law.specs.Packages.{Installed}
+use Rattle.database_law.specs.Step.{IsAfter}
 use Rattle.commit_law.specs.Commits.{IsSoundTree}
 use Rattle.commit_law.specs.Lit.{packages_of}
 use Rattle.group_run.specs.Applied.{number}
 use Rattle.group_run.specs.declared.stop.Stop.{Stop}
 use Rattle.group_run.specs.declared.stop.Stop.TheVariants as stops
 use Rattle.run_law.specs.Openings.{AreOwners}
-use Rattle.change_law.specs.Planned.{RecoversSoundly}
 use Rattle.exchange_make.specs.Laws.{CanBeRecorded}
-use Rattle.exchange_run.specs.Sound.{HoldsAfterGroup}
+use Rattle.exchange_make.specs.Made.{leaves}
 use Rattle.plan_make.specs.Plans.{coming}
 use Rattle.plan_make.specs.declared.job.Job.{Job}
 use Rattle.plan_run.specs.Runs.{WentFor, upto}
@@ -35,6 +36,18 @@ pub record IsPlanFor (flags : List (List ℕ)) (m : Map) (ps : List Installed) (
   pub earlier : WaitsForEarlier plan
   pub accepted : IsAccepted plan (packages_of flags ps)
   pub recordable : AllByRecursion (CanBeRecorded flags) (coming plan)
+
+-- a map recovers to a sound tree with these packages
+pub record RecoversSoundly (flags : List (List ℕ)) (c : Map) (ps : List Installed) : Type 0 where
+  pub tree : Map
+  pub recovers : IsRecovered c tree
+  pub sound : IsSoundTree flags tree ps
+
+-- something holds of the packages that these are after the group
+abbrev pub HoldsAfterGroup : List (List ℕ) → List Installed → Group →
+    (List Installed → Type 0) → Type 0
+HoldsAfterGroup flags ps g P = (added : List Installed) × (packages_of flags added ≡ g.additions)
+    × ((qs : List Installed) × IsAfter ps (leaves g) added qs × P qs)
 
 -- something holds of the packages that these are after the groups, one after another
 abbrev pub HoldsAfterGroups : List (List ℕ) → List Installed → List Group →

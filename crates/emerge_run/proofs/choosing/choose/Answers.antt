@@ -1,4 +1,4 @@
-use Rattle.std.proofs.Common.{◌≡◌, List, map, refl, subst, sym}
+use Rattle.std.proofs.Common.{◌≡◌, List, map, subst, sym}
 use Rattle.std.specs.Prelude.{string_bytes}
 use Rattle.std.proofs.lemmas.Result.{IfErr-weaker}
 use Rattle.database_law.specs.Packages.{Installed}
@@ -7,9 +7,9 @@ use Rattle.emerge_run.specs.Openings.{AreInstalled, AreInstalledAfter, GivesBack
 use Rattle.emerge_run.specs.Outcomes.{EndsEarly, HasRecovered}
 use Rattle.run_status.specs.Faults.{status_of_recovery}
 use Rattle.run_status.specs.declared.status.Status.{Status}
-use Rattle.emerge_run.proofs.Endings.{at_rest, early_recovery, early_words, ends_at_recovery, ends_at_words, usage_recovery}
+use Rattle.emerge_run.proofs.Endings.{at_rest, ends_at_recovery, ends_at_words}
 use Rattle.emerge_run.proofs.Found.{ended_after, named_after, recovered_after, todo_after, unchanged_after}
-use Rattle.emerge_run.proofs.Givens.{gives_after, gives_none, recovery_no_paths, recovery_not_read, words_no_paths, words_not_read}
+use Rattle.emerge_run.proofs.Givens.{gives_after, gives_none, recovery_no_paths, recovery_not_read}
 use Rattle.emerge_run.proofs.choosing.choose.Goals as goal
 
 pub returns-in-Ok-recover-clause-recovered : goal.returns-in-Ok-recover-clause-recovered

@@ -1,12 +1,10 @@
-use Rattle.std.proofs.Common.{◌≡◌, ◌∙◌, List, [], ap, inr, refl, subst, sym}
-use Rattle.std.specs.Prelude.{Err, MatchOption, map, string_bytes}
+use Rattle.std.proofs.Common.{◌≡◌, ◌∙◌, [], ap, inr, refl, subst, sym}
+use Rattle.std.specs.Prelude.{Err, map, string_bytes}
 use Rattle.image_build.specs.Images.{IsBuilt}
-use Rattle.plan_law.specs.Plans.{Group}
 use Rattle.emerge_run.specs.Openings.{AreInstalledAfter, HasTooMuchAfter}
 use Rattle.emerge_run.specs.Outcomes.{IsToDo, IsWork}
 use Rattle.emerge_run.specs.declared.choosing.Work.{Work}
 use Rattle.emerge_run.specs.declared.choosing.Work.TheVariants as work
-use Rattle.run_status.specs.declared.status.Status.{Status}
 use Rattle.run_status.specs.declared.status.Status.TheVariants as status
 use Rattle.emerge_run.proofs.Endings.{outcome_merged, outcome_rest, outcome_shown, outcome_unfound}
 use Rattle.emerge_run.proofs.Givens.{beside_work, gives_all, plan_beside}
@@ -61,6 +59,13 @@ returns-in-Ok-Merge-clause-written g c t =
     let r = c.merge_ready.result in
     let named = subst (λ (w : Work). IsWork words g.T.Tree.tells opening w) c.in-Ok-Merge.field-0-is (rw c.in-Ok-Merge.is at c.choose-opening.ensures.work) in
     wrote_merging words g.T.Tree.tells opening c.in-Ok-Merge.plan r.history.items r.acknowledged.items r.status (g.S.Sink.written c.args.out) (g.S.Sink.written r.out) named (c.merge_ready.ensures.written t)
+
+pub returns-in-Ok-Merge-clause-asked : goal.returns-in-Ok-Merge-clause-asked
+returns-in-Ok-Merge-clause-asked g c =
+    let words = map string_bytes c.args.words.now in
+    let opening = (g.T.Tree.story c.args.tree).now.holds in
+    let named = subst (λ (w : Work). IsWork words g.T.Tree.tells opening w) c.in-Ok-Merge.field-0-is (rw c.in-Ok-Merge.is at c.choose-opening.ensures.work) in
+    inr (named.asked, named.is, named.done)
 
 pub returns-in-Ok-Show-clause-outcome : goal.returns-in-Ok-Show-clause-outcome
 returns-in-Ok-Show-clause-outcome g c t =

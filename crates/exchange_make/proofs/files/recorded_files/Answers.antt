@@ -1,6 +1,5 @@
 use Rattle.std.proofs.Common.{List, map, subst}
 use Rattle.std.specs.Prelude.{IfOk}
-use Rattle.commit_law.specs.Lit.{as_recorded}
 use Rattle.contents_text.specs.declared.owned.Owned.{Owned}
 use Rattle.package_law.specs.Records.{owned_of}
 use Rattle.pkg_state.specs.Package.{Package}

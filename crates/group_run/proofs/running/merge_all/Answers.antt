@@ -14,7 +14,7 @@ use Rattle.group_run.specs.Turns.{StopsBehind, numbers}
 use Rattle.group_run.specs.declared.stop.Stop.{Stop}
 use Rattle.group_run.specs.declared.turn.Turn.{Turn}
 use Rattle.group_run.proofs.Caused.{front_push}
-use Rattle.group_run.proofs.Left.{first_numbers, new_turn, numbers_then, one_longer, split_at, told_first}
+use Rattle.group_run.proofs.Left.{first_numbers, new_turn, numbers_then, one_longer, split_at, told_then}
 use Rattle.group_run.proofs.Through.{alone_now, cause_on, ended_now, ended_on, history_now, rest_behind, taken_now, through_on}
 use Rattle.group_run.proofs.running.merge_all.Goals as goal
 
@@ -208,7 +208,7 @@ returns-in_err-merge_and_tell-clause-first g c =
 pub returns-in_err-merge_and_tell-clause-kept : goal.returns-in_err-merge_and_tell-clause-kept
 returns-in_err-merge_and_tell-clause-kept g c =
     let i = c.loop-turn.invariant in
-    told_first c.loop-turn.history.items c.merge_and_tell.new.history.items c.merge_and_tell.new.acknowledged.items c.in-Some.turn.group (c.in_err-merge_and_tell.ensures.untold ∙ (i.3 ∙ sym i.2)) c.merge_and_tell.ensures.one
+    told_then c.loop-turn.history.items c.merge_and_tell.new.history.items c.merge_and_tell.new.acknowledged.items c.in-Some.turn.group (c.in_err-merge_and_tell.ensures.untold ∙ (i.3 ∙ sym i.2)) c.merge_and_tell.ensures.one
 
 pub returns-in_err-merge_and_tell-clause-all_told : goal.returns-in_err-merge_and_tell-clause-all_told
 returns-in_err-merge_and_tell-clause-all_told g c =

@@ -3,7 +3,7 @@ use Rattle.file_tree.specs.Disk.{Story}
 use Rattle.journal.specs.Group.{Group}
 use Rattle.merge_core.specs.Trail.{IsAtRest}
 use Rattle.group_run.specs.Lines.{AreLines, Wrote}
-use Rattle.exchange_run.proofs.Made.{of_tree, went_unmade}
+use Rattle.plan_run.proofs.Unmade.{of_tree, went_unmade}
 use Rattle.image_build.specs.Images.{IsBuilt}
 use Rattle.plan_make.specs.Held.{HoldOwned, holdings_of}
 use Rattle.plan_make.specs.Plans.{line_for}

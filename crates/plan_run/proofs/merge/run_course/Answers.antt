@@ -1,25 +1,25 @@
-use Rattle.std.proofs.Common.{◌≡◌, ◌∙◌, ◌+◌, ℕ, Bool, List, [], ap, append-nil, arith, inl, inr, length, refl, subst, sym}
-use Rattle.std.specs.Prelude.{IfErr, IsErrOf, MatchOption}
+use Rattle.std.proofs.Common.{◌≡◌, ◌∙◌, ◌+◌, ℕ, Bool, List, [], ap, append-nil, arith, inl, inr, length, subst, sym}
+use Rattle.std.specs.Prelude.{IfErr, IsErrOf}
 use Rattle.file_tree.specs.Disk.{CountsFault}
 use Rattle.file_tree.specs.declared.fault.TreeFault.TheVariants as trees
 use Rattle.journal.specs.Group.{Group}
 use Rattle.group_run.specs.Causes.{IsOfGroup}
 use Rattle.group_run.specs.Lines.{AreLines, Wrote, line_in}
-use Rattle.group_run.specs.Runs.{IsOver, IsUnderWay}
+use Rattle.group_run.specs.Runs.{IsOver}
 use Rattle.group_run.specs.Turns.{AreFirst, StopsBehind, numbers}
 use Rattle.group_run.specs.Went.{HaveRun, WentWith}
 use Rattle.group_run.specs.declared.stop.Stop.{Stop}
 use Rattle.group_run.specs.declared.stop.Stop.TheVariants as merges
 use Rattle.group_run.proofs.Left.{plain_behind}
 use Rattle.group_run.proofs.Told.{lines_none}
-use Rattle.exchange_run.proofs.Made.{went_unmade}
+use Rattle.plan_run.proofs.Unmade.{went_unmade}
 use Rattle.image_build.specs.Images.{IsPastLimit}
 use Rattle.build_pool.specs.Pool.{PoolRose}
 use Rattle.plan_make.specs.Held.{holdings_of}
 use Rattle.plan_make.specs.Plans.{line_for, orders_at}
 use Rattle.plan_run.specs.Runs.{SaysBuild, merge_end, upto}
 use Rattle.plan_run.specs.declared.stop.PlanStop.TheVariants as stops
-use Rattle.plan_run.proofs.Whole.{as_opened, begins_then, closed_cause, closed_fine, closed_ok, closed_stop, counts_closed, ended_told, fine_told, machine_for, one_more, memory_is, output_before, same_lines, unmerged_build, unmerged_failed, unmerged_ok, unmerged_plain, unmerged_quiet, unmerged_told}
+use Rattle.plan_run.proofs.Whole.{as_opened, begins_then, closed_cause, closed_fine, closed_ok, closed_stop, counts_closed, ended_told, fine_told, machine_for, one_more, output_before, same_lines, unmerged_plain}
 use Rattle.plan_run.proofs.merge.run_course.Goals as goal
 
 pub open_run-requires-clause-small : goal.open_run-requires-clause-small
