@@ -1,3 +1,4 @@
 pub mod Hearing
 pub mod Naming
 pub mod Putting
+pub mod Weaving

@@ -25,7 +25,7 @@ use Rattle.candidate_rules.specs.declared.line.KeywordLine.{KeywordLine}
 use Rattle.std.specs.List.{flat_map}
 
 -- an atom that matches a package is of its name
-of_name : (facts : Facts) (atom : Atom) → is_meant facts atom ≡ true → is_of facts.id.name.«package» atom ≡ true
+pub of_name : (facts : Facts) (atom : Atom) → is_meant facts atom ≡ true → is_of facts.id.name.«package» atom ≡ true
 of_name facts atom e = bytes_eq-swap facts.id.name.«package» atom.name.«package» ∙ same_package (atom_value atom) facts [] e
 
 item_of_name : (facts : Facts) (o : Option Atom) → option_map_or (is_meant facts) o false ≡ true → option_map_or (is_of facts.id.name.«package») o false ≡ true

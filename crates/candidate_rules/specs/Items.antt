@@ -1,7 +1,6 @@
 -- What the items of the configuration say of one package (PMS 5.2.4 to 5.2.11).
-use denote.Ref.{Bor}
 use Rattle.std.specs.Prelude.{◌&&◌, ℕ, Bool, false, true, not, List, [], filter, fold, map}
-use Rattle.std.specs.List.{flat_map, list_any}
+use Rattle.std.specs.List.{list_any}
 use Rattle.std.specs.Option.{option_map_or}
 use Rattle.dep_atom.specs.Match.{matches}
 use Rattle.dep_atom.specs.declared.atom.Atom.{Atom}
@@ -30,10 +29,6 @@ counts_for facts item = option_map_or (is_meant facts) item.atom true
 -- the changes of the items that count, item by item in their order
 abbrev pub changes_for : Facts → List Item → List (List Change)
 changes_for facts items = map (λ i. i.changes.items) (filter (counts_for facts) items)
-
--- the same for layers of items, layer by layer
-abbrev pub layers_for : Facts → List (Bor (List Item)) → List (List Change)
-layers_for facts layers = flat_map (λ l. changes_for facts l.now) layers
 
 -- the flag is on once these changes are applied to no flags
 abbrev pub is_turned_on : List (List Change) → List ℕ → Bool

@@ -2,3 +2,4 @@ pub mod Heard
 pub mod Index
 pub mod Items
 pub mod Keywords
+pub mod Near

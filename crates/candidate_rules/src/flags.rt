@@ -1,59 +1,95 @@
-ghost use Rattle.std.specs.Prelude.{◌≡◌, ◌++◌, ℕ, [], IfOk, List, OnOk, map};
+ghost use Rattle.std.specs.Prelude.{◌≡◌, ℕ, IfOk, List, OnOk, map};
 ghost use Rattle.pms_names.specs.Flags.{has};
 ghost use Rattle.use_flags.specs.Changes.{changed, has_after};
-ghost use Rattle.candidate_rules.specs.Items.{changes_for, counts_for, is_turned_on, layers_for};
+ghost use Rattle.candidate_rules.specs.Items.{changes_for, counts_for, is_turned_on};
 
 use crate::meaning::is_meant;
+use crate::near::Near;
 use dep_atom::Facts;
 use pms_names::Flags;
 use profile_read::Item;
 use std::alloc::{AllocError, Global};
+use std::marker::Model;
 use use_flags::Change;
 
-/// The changes of the package's flags that layers of items make, layer by layer and item by item:
-/// those of the items whose atom matches it, or that have none.
-pub fn layers_for<'a>(
-    alloc: Global,
-    layers: &[&'a [Item]],
-    facts: &Facts,
-) -> Result<Vec<&'a [Change]>, AllocError>
-    ensures { IfOk result (λ v. map (λ c. c.now) v.items ≡ layers_for facts.now layers.now) }
-{
-    let mut changes = Vec::new(alloc);
-    for layer in layers {
-        add_changes(alloc, layer, facts, &mut changes)?;
-    }
-    Ok(changes)
+/// Items of flags, which are found by the names of their atoms. Contracts see their list.
+#[derive(Drop)]
+pub struct FlagItems<'a> {
+    items: &'a [Item],
+    near: Near<'a>,
 }
 
-fn add_changes<'a>(
+impl<'a> Model for FlagItems<'a> {
+    ghost use Rattle.std.specs.Prelude.{List};
+    ghost use Rattle.profile_read.specs.declared.item.Item.{Item};
+    ghost use Rattle.candidate_rules.specs.Near.{AreNear};
+
+    ghost Value = { List Item };
+
+    ghost view = { λ f. f.items.now };
+
+    ghost invariant = { λ f. AreNear f.items.now f.near };
+}
+
+impl<'a> FlagItems<'a> {
+    /// The items, put in order by their names once.
+    pub fn new(alloc: Global, items: &'a [Item]) -> Result<FlagItems<'a>, AllocError>
+        ensures { IfOk result (λ f. f ≡ items.now) }
+    {
+        let near = Near::new(alloc, items)?;
+        Ok(FlagItems { items, near })
+    }
+
+    /// The changes of the package's flags, item by item in the order of the list: those of the items
+    /// whose atom matches it, or that have none.
+    pub fn changes_for<'b>(
+        &'b self,
+        alloc: Global,
+        facts: &Facts,
+    ) -> Result<Vec<&'b [Change]>, AllocError>
+        ensures { IfOk result (λ v. map (λ c. c.now) v.items ≡ changes_for facts.now self.now) }
+    {
+        let near = self.near.of(alloc, facts.id.name.package.text())?;
+        changes_among(alloc, &near, facts)
+    }
+
+    /// The flags that these changes turn on, where none is on before: those that are forced, or those
+    /// that are masked.
+    pub fn turned_on(&self, alloc: Global, facts: &Facts) -> Result<Flags, AllocError>
+        ensures { IfOk result (λ set. (flag : List ℕ) →
+            has set flag ≡ is_turned_on (changes_for facts.now self.now) flag) }
+    {
+        let changes = self.changes_for(alloc, facts)?;
+        turned_on(alloc, &changes)
+    }
+}
+
+/// The changes of those of the items that count for the package.
+fn changes_among<'a>(
     alloc: Global,
-    items: &'a [Item],
+    items: &[&'a Item],
     facts: &Facts,
-    changes: &mut Vec<&'a [Change]>,
-) -> Result<(), AllocError>
-    ensures { OnOk result (map (λ c. c.now) changes.new.items ≡
-        map (λ c. c.now) changes.old.items ++ changes_for facts.now items.now) }
+) -> Result<Vec<&'a [Change]>, AllocError>
+    ensures { IfOk result (λ v. map (λ c. c.now) v.items ≡
+        changes_for facts.now (map (λ i. i.now) items.now)) }
 {
+    let mut changes = Vec::new(alloc);
     for item in items {
         if counts_for(alloc, item, facts) {
             changes.push(item.changes.as_slice())?;
         }
     }
-    Ok(())
+    Ok(changes)
 }
 
-/// The flags that are forced, or those that are masked: what the changes of the items that count
-/// make of no flags.
-pub fn fixed_flags(alloc: Global, items: &[Item], facts: &Facts) -> Result<Flags, AllocError>
+/// The flags that the changes turn on, where none is on before.
+fn turned_on(alloc: Global, changes: &[&[Change]]) -> Result<Flags, AllocError>
     ensures { IfOk result (λ set. (flag : List ℕ) →
-        has set flag ≡ is_turned_on (changes_for facts.now items.now) flag) }
+        has set flag ≡ is_turned_on (map (λ c. c.now) changes.now) flag) }
 {
     let mut flags = Flags::new(alloc);
-    for item in items {
-        if counts_for(alloc, item, facts) {
-            change_all(&mut flags, &item.changes)?;
-        }
+    for change in changes {
+        change_all(&mut flags, change)?;
     }
     Ok(flags)
 }

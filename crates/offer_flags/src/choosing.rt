@@ -7,11 +7,10 @@ ghost use Rattle.offer_flags.specs.Layers.{base_by, free_by, layers_of, settings
 use crate::changes::changes_said;
 use crate::config::FlagConfig;
 use candidate_flags::{FlagRules, base_flags, variants};
-use candidate_rules::{fixed_flags, layers_for};
+use candidate_rules::FlagItems;
 use dep_atom::Facts;
 use md5_cache::CacheEntry;
 use pms_names::Flags;
-use profile_read::Item;
 use required_use::RequiredUse;
 use std::alloc::{AllocError, Global};
 use use_flags::Change;
@@ -33,12 +32,12 @@ pub(crate) fn settings_of(
         alloc,
         facts,
         &defaults,
-        config.profile_uses,
+        &config.profile_uses,
         &conf,
-        config.uses,
+        &config.uses,
     )?;
-    let forced = fixed_flags(alloc, config.forces, facts)?;
-    let masked = fixed_flags(alloc, config.masks, facts)?;
+    let forced = config.forces.turned_on(alloc, facts)?;
+    let masked = config.masks.turned_on(alloc, facts)?;
     settings_by(
         alloc,
         entry,
@@ -81,19 +80,19 @@ fn layers_of<'a>(
     alloc: Global,
     facts: &Facts,
     defaults: &'a [Change],
-    profile_uses: &'a [Item],
+    profile_uses: &'a FlagItems<'_>,
     conf: &'a [Change],
-    uses: &'a [Item],
+    uses: &'a FlagItems<'_>,
 ) -> Result<Vec<&'a [Change]>, AllocError>
     ensures { IfOk result (λ v. map (λ c. c.now) v.items ≡ layers_of facts.now defaults.now
         profile_uses.now conf.now uses.now) }
 {
     let mut layers = Vec::new(alloc);
     layers.push(defaults)?;
-    let mut rules = layers_for(alloc, &[profile_uses], facts)?;
+    let mut rules = profile_uses.changes_for(alloc, facts)?;
     layers.append(&mut rules)?;
     layers.push(conf)?;
-    let mut rules = layers_for(alloc, &[uses], facts)?;
+    let mut rules = uses.changes_for(alloc, facts)?;
     layers.append(&mut rules)?;
     Ok(layers)
 }

@@ -1,23 +1,23 @@
 use crate::word::FlagWord;
+use candidate_rules::FlagItems;
 use pms_names::Flags;
-use profile_read::Item;
 use std::marker::Model;
 
 /// What the configuration says of flags.
-#[derive(Debug, Drop)]
+#[derive(Drop)]
 pub struct FlagConfig<'a> {
     /// What the variables of the profile say.
     pub defaults: &'a [FlagWord],
     /// The rules of the profile's `package.use`.
-    pub profile_uses: &'a [Item],
+    pub profile_uses: FlagItems<'a>,
     /// What `make.conf` says.
     pub conf: &'a [FlagWord],
     /// The rules of the user's `package.use`.
-    pub uses: &'a [Item],
+    pub uses: FlagItems<'a>,
     /// Which flags are forced.
-    pub forces: &'a [Item],
+    pub forces: FlagItems<'a>,
     /// Which flags are masked.
-    pub masks: &'a [Item],
+    pub masks: FlagItems<'a>,
     /// The flags that are on for every package.
     pub implicit: &'a Flags,
 }
@@ -29,11 +29,11 @@ impl<'a> Model for FlagConfig<'a> {
 
     ghost view = { λ c. record {
       defaults = c.defaults.now;
-      profile_uses = c.profile_uses.now;
+      profile_uses = c.profile_uses;
       conf = c.conf.now;
-      uses = c.uses.now;
-      forces = c.forces.now;
-      masks = c.masks.now;
+      uses = c.uses;
+      forces = c.forces;
+      masks = c.masks;
       implicit = c.implicit.now;
     } };
 }

@@ -14,7 +14,8 @@
 //!
 //! **Only tested**: that with ample memory this is answered.
 //!
-//! The words, and the items of flags, are gone through for each candidate.
+//! The words are gone through for each candidate, and of the items of flags those that have no atom or
+//! an atom of its name.
 //!
 //! ```
 //! let words = flag_words(alloc, &variables, &files)?;

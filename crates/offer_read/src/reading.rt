@@ -12,6 +12,7 @@ use crate::files::files_of;
 use crate::offers::Offers;
 use crate::said::{Said, said_by};
 use crate::visible::visible_by;
+use candidate_rules::FlagItems;
 use candidate_set::Candidates;
 use config_vars::{FileVars, judge};
 use file_tree::Tree;
@@ -89,14 +90,30 @@ fn collect(
         said.now.defaults.items said.now.conf.items said.now.implicit) flips
         found.now.visible.items found.now.hidden.items o.candidates.items o.hidden.items) }
 {
-    let flags = FlagConfig {
-        defaults: &said.defaults,
-        profile_uses: &config.profile_uses,
-        conf: &said.conf,
-        uses: &config.uses,
-        forces: &config.forces,
-        masks: &config.hides,
-        implicit: &said.implicit,
-    };
+    let flags = flags_of(alloc, config, said)?;
     offers_of(alloc, &flags, found, flips)
+}
+
+/// What the configuration says of flags, with its items put in order by their names.
+fn flags_of<'a>(
+    alloc: Global,
+    config: &'a UserConfig,
+    said: &'a Said,
+) -> Result<FlagConfig<'a>, AllocError>
+    ensures { IfOk result (λ c. c ≡ flags_by (configured config.now) said.now.defaults.items
+        said.now.conf.items said.now.implicit) }
+{
+    let profile_uses = FlagItems::new(alloc, &config.profile_uses)?;
+    let uses = FlagItems::new(alloc, &config.uses)?;
+    let forces = FlagItems::new(alloc, &config.forces)?;
+    let masks = FlagItems::new(alloc, &config.hides)?;
+    Ok(FlagConfig {
+        defaults: &said.defaults,
+        profile_uses,
+        conf: &said.conf,
+        uses,
+        forces,
+        masks,
+        implicit: &said.implicit,
+    })
 }
