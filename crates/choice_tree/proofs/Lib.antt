@@ -1,6 +1,9 @@
 pub mod Numbers
 pub mod Conflicts
 pub mod Packages
+pub mod Alone
+pub mod Under
+pub mod Marked
 pub mod Pick
 pub mod Placed
 pub mod Found

@@ -4,6 +4,8 @@ pub mod Places
 pub mod Lines
 pub mod Blocks
 pub mod Seen
+pub mod Told
+pub mod Marks
 pub mod Open
 pub mod Candidates
 pub mod Options

@@ -1,10 +1,12 @@
 ghost use Rattle.std.specs.Prelude.{◌≡◌, ◌++◌, ◌∷◌, IfOk, OnOk, map};
+ghost use Rattle.std.specs.Option.{option_map};
 ghost use Rattle.choice_law.specs.Tree.{held};
 ghost use Rattle.choice_law.specs.Universe.{as_is};
 ghost use Rattle.choice_tree.specs.Open.{obligation_of};
 ghost use Rattle.choice_tree.specs.Options.{options, second_part};
 ghost use Rattle.choice_tree.specs.Places.{places};
 ghost use Rattle.choice_tree.specs.Seen.{places_of};
+ghost use Rattle.choice_tree.specs.Tree.{tree_options};
 ghost use Rattle.choice_tree.specs.Views.{decisions_of, universe_of, value_of};
 
 use crate::choice::Choice;
@@ -12,6 +14,7 @@ use crate::choosing::{beside, decisions};
 use crate::obligation::Obligation;
 use crate::place::Place;
 use crate::places::all_places;
+use crate::taking_up::first_of_all;
 use crate::universe::Universe;
 use crate::value::{Decision, Value};
 use std::alloc::{AllocError, Global};
@@ -78,6 +81,25 @@ fn push_second(
     }
 }
 
+// The options, where all lines are at hand.
+fn options_of(
+    alloc: Global,
+    universe: &Universe,
+    choice: &Choice,
+    seen: &[Place<'_>],
+    obligation: &Obligation<'_>,
+) -> Result<Vec<Choice>, AllocError>
+    requires { places_of seen.now ≡ places (universe_of universe.now) choice.now }
+    ensures { IfOk result (λ v. v.items ≡ options universe.now.update
+        (universe_of universe.now) choice.now (obligation_of obligation.now)) }
+{
+    let mut out = Vec::new(alloc);
+    let first = decisions(alloc, universe.update, seen, obligation)?;
+    push_choices(alloc, choice, &first, &mut out)?;
+    push_second(alloc, universe, choice, seen, obligation, &mut out)?;
+    Ok(out)
+}
+
 /// The options of a choice for what is open of it, in the order in which they are tried: values of
 /// lines that aren't decided, the greater version first, of equal ones what is kept, then the
 /// smaller text, the earlier line and the earlier variant. Without an update what is kept goes
@@ -92,9 +114,26 @@ pub fn options(
         (universe_of universe.now) choice.now (obligation_of obligation.now)) }
 {
     let places = all_places(alloc, universe, choice)?;
-    let mut out = Vec::new(alloc);
-    let first = decisions(alloc, universe.update, &places, obligation)?;
-    push_choices(alloc, choice, &first, &mut out)?;
-    push_second(alloc, universe, choice, &places, obligation, &mut out)?;
-    Ok(out)
+    let found = options_of(alloc, universe, choice, &places, obligation)?;
+    Ok(found)
+}
+
+/// The options of a choice for what is first open of it, if anything is: those of [`options`] for
+/// what [`first_open`](crate::first_open) tells, with one look at all lines.
+pub fn next_options(
+    alloc: Global,
+    universe: &Universe,
+    choice: &Choice,
+) -> Result<Option<Vec<Choice>>, AllocError>
+    ensures { IfOk result (λ found. option_map (λ v. v.items) found ≡
+        tree_options universe.now.update (universe_of universe.now) choice.now) }
+{
+    let places = all_places(alloc, universe, choice)?;
+    match first_of_all(alloc, &universe.wanted, &places)? {
+        Some(obligation) => {
+            let found = options_of(alloc, universe, choice, &places, &obligation)?;
+            Ok(Some(found))
+        }
+        None => Ok(None),
+    }
 }

@@ -10,12 +10,15 @@
 //! out whole in `specs/Open.antt`, and none where nothing is open; what it tells is a pick, so the
 //! laws of `choice_law` hold of it. [`options`] gives the options for it in the order that is
 //! written out in `specs/Options.antt` and `specs/Candidates.antt`: they are just those of
-//! `choice_law`, and each decides a line more.
+//! `choice_law`, and each decides a line more. [`next_options`] gives the options for what is first
+//! open.
 //!
 //! **Only tested**: whole trees of small universes, written out by hand, and that with ample memory
 //! each call answers.
 //!
-//! It looks at all lines anew for each choice, and at each two of them for conflicts.
+//! It looks at all lines and all decisions anew for each choice. What meets a need, and what may
+//! conflict, is found by its name or its text; only where a conflict may be is each two of the lines
+//! looked at.
 //!
 //! ```
 //! let choice = Choice::new(alloc);
@@ -25,14 +28,17 @@
 //! ```
 #![tactic(auto)]
 
+mod around;
 mod blocks;
 mod branching;
+mod calm;
 mod candidate;
 mod choice;
 mod choosing;
 mod filtering;
 mod gathering;
 mod laws;
+mod marks;
 mod obligation;
 mod opposing;
 mod place;
@@ -44,7 +50,7 @@ mod taking_up;
 mod universe;
 mod value;
 
-pub use branching::options;
+pub use branching::{next_options, options};
 pub use choice::Choice;
 pub use laws::{first_open_is_a_pick, options_are_those, options_decide_more};
 pub use obligation::Obligation;

@@ -11,10 +11,12 @@ ghost use Rattle.choice_tree.specs.Seen.{place_of, places_of};
 ghost use Rattle.choice_law.specs.Universe.{Value as TheValue, counts, is_new};
 ghost use Rattle.choice_tree.specs.Views.{universe_of};
 
+use crate::around::Around;
+use crate::calm::is_calm;
 use crate::choice::Choice;
 use crate::obligation::Obligation;
 use crate::place::Place;
-use crate::places::{Around, all_places, any_decides, any_opposes, opposes};
+use crate::places::{all_places, any_decides, any_opposes, opposes};
 use crate::universe::Universe;
 use crate::value::Value;
 use dep_atom::Atom;
@@ -55,11 +57,15 @@ fn has_conflict(places: &[Place<'_>], line: usize, other: usize) -> bool
 }
 
 /// The first line whose package the package of this line can't stand beside.
-fn first_conflict(places: &[Place<'_>], line: usize) -> Option<usize>
-    requires { line < length places.now }
-    ensures { result ≡ find (λ m. is_open_of (places_of places.now) (conflict line m))
-        (numbers (length places.now) 0) }
+fn first_conflict(around: &Around<'_, '_>, line: usize) -> Option<usize>
+    requires { line < length around.now.places.now }
+    ensures { result ≡ find (λ m. is_open_of (places_of around.now.places.now) (conflict line m))
+        (numbers (length around.now.places.now) 0) }
 {
+    if is_calm(around, line) {
+        return None;
+    }
+    let places = around.places;
     for other in 0..places.len() {
         if has_conflict(places, line, other) {
             return Some(other);
@@ -87,22 +93,23 @@ fn counts(class: Class, new: bool) -> bool
     }
 }
 
-fn is_unmet(places: &[Place<'_>], line: usize, class: Class) -> bool
-    requires { line < length places.now }
-    ensures { result ≡ is_open_of (places_of places.now) (tree line class) }
+fn is_unmet(around: &Around<'_, '_>, line: usize, class: Class) -> bool
+    requires { line < length around.now.places.now }
+    ensures { result ≡ is_open_of (places_of around.now.places.now) (tree line class) }
 {
-    match &places[line].standing {
+    match &around.places[line].standing {
         Some(standing) => {
-            counts(class, standing.is_new) && !standing.owner.is_met(class, &Around { places })
+            counts(class, standing.is_new) && !standing.owner.is_met(class, around)
         }
         None => false,
     }
 }
 
 /// The first class whose needs are not met.
-fn first_unmet(places: &[Place<'_>], line: usize) -> Option<Class>
-    requires { line < length places.now }
-    ensures { result ≡ find (λ class. is_open_of (places_of places.now) (tree line class)) classes }
+fn first_unmet(around: &Around<'_, '_>, line: usize) -> Option<Class>
+    requires { line < length around.now.places.now }
+    ensures { result ≡
+        find (λ class. is_open_of (places_of around.now.places.now) (tree line class)) classes }
 {
     let classes = [
         Class::Rdepend,
@@ -112,7 +119,7 @@ fn first_unmet(places: &[Place<'_>], line: usize) -> Option<Class>
         Class::Idepend,
     ];
     for class in &classes {
-        if is_unmet(places, line, *class) {
+        if is_unmet(around, line, *class) {
             return Some(*class);
         }
     }
@@ -120,34 +127,48 @@ fn first_unmet(places: &[Place<'_>], line: usize) -> Option<Class>
 }
 
 /// What is first open of the package on a line.
-fn first_of_line<'a>(places: &[Place<'_>], line: usize) -> Option<Obligation<'a>>
-    requires { line < length places.now }
+fn first_of_line<'a>(around: &Around<'_, '_>, line: usize) -> Option<Obligation<'a>>
+    requires { line < length around.now.places.now }
     ensures { option_map obligation_of result ≡
-        find (is_open_of (places_of places.now)) (obligations_of (length places.now) line) }
+        find (is_open_of (places_of around.now.places.now))
+        (obligations_of (length around.now.places.now) line) }
 {
-    if lacks_flags(places, line) {
+    if lacks_flags(around.places, line) {
         return Some(Obligation::Required(line));
     }
-    if let Some(other) = first_conflict(places, line) {
+    if let Some(other) = first_conflict(around, line) {
         return Some(Obligation::Conflict(line, other));
     }
-    match first_unmet(places, line) {
+    match first_unmet(around, line) {
         Some(class) => Some(Obligation::Tree(line, class)),
         None => None,
     }
 }
 
 /// What is first open of the packages, line by line.
-fn first_of_packages<'a>(places: &[Place<'_>]) -> Option<Obligation<'a>>
-    ensures { option_map obligation_of result ≡ find (is_open_of (places_of places.now))
-        (flat_map (obligations_of (length places.now)) (numbers (length places.now) 0)) }
+fn first_of_packages<'a>(around: &Around<'_, '_>) -> Option<Obligation<'a>>
+    ensures { option_map obligation_of result ≡ find (is_open_of (places_of around.now.places.now))
+        (flat_map (obligations_of (length around.now.places.now))
+        (numbers (length around.now.places.now) 0)) }
 {
-    for line in 0..places.len() {
-        if let Some(found) = first_of_line(places, line) {
+    for line in 0..around.places.len() {
+        if let Some(found) = first_of_line(around, line) {
             return Some(found);
         }
     }
     None
+}
+
+fn first_of_places<'a>(
+    alloc: Global,
+    places: &[Place<'_>],
+) -> Result<Option<Obligation<'a>>, AllocError>
+    ensures { IfOk result (λ found. option_map obligation_of found ≡
+        find (is_open_of (places_of places.now))
+        (flat_map (obligations_of (length places.now)) (numbers (length places.now) 0))) }
+{
+    let around = Around::new(alloc, places)?;
+    Ok(first_of_packages(&around))
 }
 
 fn is_forsaken(alloc: Global, places: &[Place<'_>], line: usize) -> Result<bool, AllocError>
@@ -178,7 +199,7 @@ fn first_forsaken(alloc: Global, places: &[Place<'_>]) -> Result<Option<usize>, 
 }
 
 /// What is first open of all.
-fn first_of_all<'a>(
+pub(crate) fn first_of_all<'a>(
     alloc: Global,
     atoms: &'a [Atom],
     places: &[Place<'_>],
@@ -190,7 +211,7 @@ fn first_of_all<'a>(
     if let Some(atom) = first_wanted(alloc, atoms, places) {
         return Ok(Some(Obligation::Wanted(atom)));
     }
-    if let Some(found) = first_of_packages(places) {
+    if let Some(found) = first_of_places(alloc, places)? {
         return Ok(Some(found));
     }
     match first_forsaken(alloc, places)? {

@@ -1,4 +1,4 @@
-use choice_tree::{Choice, Universe, first_open, options};
+use choice_tree::{Choice, Universe, next_options};
 use std::alloc::{AllocError, Global};
 use tree_search::Tree;
 
@@ -18,13 +18,7 @@ impl<'a> Tree<Choice> for Choices<'a> {
     ghost room = { λ t. free_lines (universe_of t.universe.now) };
 
     fn options(&self, alloc: Global, choice: &Choice) -> Result<Option<Vec<Choice>>, AllocError> {
-        match first_open(alloc, self.universe, choice)? {
-            Some(obligation) => {
-                let found = options(alloc, self.universe, choice, &obligation)?;
-                Ok(Some(found))
-            }
-            None => Ok(None),
-        }
+        next_options(alloc, self.universe, choice)
     }
 
     ghost smaller = { λ t. smaller t.universe.now.update (universe_of t.universe.now) };

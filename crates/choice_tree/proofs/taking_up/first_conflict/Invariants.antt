@@ -8,4 +8,4 @@ use Rattle.choice_tree.proofs.taking_up.first_conflict.Given as goal
 
 abbrev pub invariant-loop-other : goal.invariant-loop-other
 invariant-loop-other l =
-    find (λ m. is_open_of (places_of l.places) (conflict l.line m)) (numbers (length l.places - l.other) l.other) ≡ find (λ m. is_open_of (places_of l.places) (conflict l.line m)) (numbers (length l.places) 0)
+    find (λ m. is_open_of (places_of l.around.places.now) (conflict l.line m)) (numbers (length l.around.places.now - l.other) l.other) ≡ find (λ m. is_open_of (places_of l.around.places.now) (conflict l.line m)) (numbers (length l.around.places.now) 0)

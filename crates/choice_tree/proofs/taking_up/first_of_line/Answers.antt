@@ -8,18 +8,18 @@ use Rattle.choice_tree.proofs.taking_up.first_of_line.Goals as goal
 
 pub returns-in-Some : goal.returns-in-Some
 returns-in-Some c =
-    let test = is_open_of (places_of c.args.places.now) in
-    sym (line_found test c.args.line (length c.args.places.now) (Some c.in-Some.other) (find (λ k. test (tree c.args.line k)) classes)
+    let test = is_open_of (places_of c.args.around.now.places.now) in
+    sym (line_found test c.args.line (length c.args.around.now.places.now) (Some c.in-Some.other) (find (λ k. test (tree c.args.line k)) classes)
     (sym c.lacks_flags.ensures ∙ c.if-lacks_flags.false) (sym c.in-Some.is ∙ c.first_conflict.ensures) refl)
 
 pub returns-in-Some-first_unmet : goal.returns-in-Some-first_unmet
 returns-in-Some-first_unmet c =
-    let test = is_open_of (places_of c.args.places.now) in
-    sym (line_found test c.args.line (length c.args.places.now) None (Some c.in-Some-first_unmet.class)
+    let test = is_open_of (places_of c.args.around.now.places.now) in
+    sym (line_found test c.args.line (length c.args.around.now.places.now) None (Some c.in-Some-first_unmet.class)
     (sym c.lacks_flags.ensures ∙ c.if-lacks_flags.false) (sym c.in_default.is ∙ c.first_conflict.ensures) (sym c.in-Some-first_unmet.is ∙ c.first_unmet.ensures))
 
 pub returns-in-None : goal.returns-in-None
 returns-in-None c =
-    let test = is_open_of (places_of c.args.places.now) in
-    sym (line_found test c.args.line (length c.args.places.now) None None
+    let test = is_open_of (places_of c.args.around.now.places.now) in
+    sym (line_found test c.args.line (length c.args.around.now.places.now) None None
     (sym c.lacks_flags.ensures ∙ c.if-lacks_flags.false) (sym c.in_default.is ∙ c.first_conflict.ensures) (sym c.in-None.is ∙ c.first_unmet.ensures))

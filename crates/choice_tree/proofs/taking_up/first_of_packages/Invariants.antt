@@ -7,4 +7,4 @@ use Rattle.choice_tree.proofs.taking_up.first_of_packages.Given as goal
 
 abbrev pub invariant-loop-line : goal.invariant-loop-line
 invariant-loop-line l =
-    find (is_open_of (places_of l.places)) (flat_map (obligations_of (length l.places)) (numbers (length l.places - l.line) l.line)) ≡ find (is_open_of (places_of l.places)) (flat_map (obligations_of (length l.places)) (numbers (length l.places) 0))
+    find (is_open_of (places_of l.around.places.now)) (flat_map (obligations_of (length l.around.places.now)) (numbers (length l.around.places.now - l.line) l.line)) ≡ find (is_open_of (places_of l.around.places.now)) (flat_map (obligations_of (length l.around.places.now)) (numbers (length l.around.places.now) 0))

@@ -7,4 +7,4 @@ use Rattle.choice_tree.proofs.taking_up.first_unmet.Given as goal
 
 abbrev pub invariant-loop-class : goal.invariant-loop-class
 invariant-loop-class l =
-    find (λ class. is_open_of (places_of l.places) (tree l.line class)) (drop l.class-index l.class-items) ≡ find (λ class. is_open_of (places_of l.places) (tree l.line class)) classes
+    find (λ class. is_open_of (places_of l.around.places.now) (tree l.line class)) (drop l.class-index l.class-items) ≡ find (λ class. is_open_of (places_of l.around.places.now) (tree l.line class)) classes
