@@ -63,7 +63,7 @@ fn is_told_broken(broken: &Broken) -> bool
 }
 
 /// Whether the plan was refused for a rule, and not for want of memory.
-fn is_told(refused: &PlanRefused) -> bool
+pub fn is_told(refused: &PlanRefused) -> bool
     ensures { IsTrue result ↔ IsSome (told refused.now) }
 {
     match refused {

@@ -1,6 +1,5 @@
-ghost use Rattle.std.specs.Prelude.{◌≡◌, ◌↔◌, ◌⊎◌, IfErr, IfOk, IsSome, IsTrue, List};
+ghost use Rattle.std.specs.Prelude.{◌≡◌, ◌⊎◌, IfErr, IfOk, IsSome, List};
 ghost use Rattle.dep_atom.specs.Values.{atom_value};
-ghost use Rattle.pkg_state.specs.Fault as state;
 ghost use Rattle.pkg_state.specs.Package.{Package};
 ghost use Rattle.plan_check.specs.Refusals.{told};
 ghost use Rattle.plan_link.specs.Linked.{IsLinked};
@@ -13,10 +12,10 @@ ghost use Rattle.plan_find.specs.declared.unfiled.Unfiled.TheVariants.{Memory, R
 
 use crate::unfiled::Unfiled;
 use dep_atom::{Atom, Block, Op, PackageId, SlotPart};
-use pkg_state::{Broken, Pkg};
+use pkg_state::Pkg;
 use plan_check as check;
 use plan_check::PlanRefused;
-use plan_choose::{NotTaken, reasons_of};
+use plan_choose::{NotTaken, is_told, reasons_of};
 use plan_link::{LinkFault, asks_of, link};
 use plan_text::Plan;
 use std::alloc::{AllocError, Global};
@@ -83,26 +82,6 @@ fn linked(
     match link(alloc, text, offered) {
         Ok(plan) => Ok(plan),
         Err(fault) => Err(of_link(alloc, fault, offered, hidden)?),
-    }
-}
-
-fn is_told_broken(broken: &Broken) -> bool
-    ensures { IsTrue result ↔ IsSome (state.told broken.now) }
-{
-    match broken {
-        Broken::Memory => false,
-        _ => true,
-    }
-}
-
-/// Whether the plan was refused for a rule, and not for want of memory.
-fn is_told(refused: &PlanRefused) -> bool
-    ensures { IsTrue result ↔ IsSome (told refused.now) }
-{
-    match refused {
-        PlanRefused::Opening(broken) => is_told_broken(broken),
-        PlanRefused::Memory => false,
-        _ => true,
     }
 }
 
