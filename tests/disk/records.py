@@ -42,12 +42,13 @@ def record_bytes(group, removals, placements):
 
 
 def records():
-    """Records of some sizes, each as a group, its removals and its placements."""
+    """Records of some sizes, each as a group, its removals and its placements. The last one has more
+    than 65,536 bytes."""
     digests = [hashlib.md5(text).hexdigest() for text in (b"", b"abc")]
     yield 0, [], []
     yield 4294967295, ["a" * 4095], []
     yield 26, ["a b", "\u00e4/->"], [("x", 268435456, digests[1], "a" * 4095)]
-    for count in (2, 300):
+    for count in (2, 300, 1_500):
         removals = [f"gone/{at}" for at in range(count)]
         placements = [(KINDS[at % 3], at, digests[at % 2], f"new/{at}") for at in range(count)]
         yield count, removals, placements

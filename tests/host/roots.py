@@ -9,7 +9,7 @@ import tempfile
 
 from asked import TOP, Wrong
 from journal import JOBS as JOURNAL, OPEN, journal_path, record, stage_path
-from repository import package as files_of
+from repository import ebuild_path, entry_path, package as files_of
 
 # where the roots are made, and the program; set by what imports this
 WORK = PROGRAM = None
@@ -22,6 +22,8 @@ SPARE = ".emerge ->new"
 PLAIN, EXEC, LINK = 0, 1, 2
 MODES = {PLAIN: 0o644, EXEC: 0o755}
 LARGE = 100_000
+LINKS = 60_000
+VERSIONS = 256
 DONE = f"done 1 +{HELLO}\nemerge: ok 1\n"
 
 
@@ -104,6 +106,25 @@ def install_many(root, packages, files):
         write(f"{record}/SLOT", b"0\n")
         if at:
             write(f"{record}/RDEPEND", f"dev-many/part{at - 1}\n".encode())
+
+
+def offer_many(root, packages):
+    """Puts so many packages into the repository, some versions of each name. All have one entry and
+    one ebuild, in files that have as many links as a file may have."""
+    texts = [text.encode() for text in files_of("c/p-0").values()]
+    for at in range(packages):
+        package = f"c/p{at // VERSIONS}-{at % VERSIONS}"
+        names = [f"{root}/{path(package)}" for path in (entry_path, ebuild_path)]
+        if at % VERSIONS == 0:
+            for name in names:
+                os.makedirs(os.path.dirname(name), exist_ok=True)
+        if at % LINKS == 0:
+            firsts = names
+            for name, text in zip(names, texts):
+                write(name, text)
+        else:
+            for first, name in zip(firsts, names):
+                os.link(first, name)
 
 
 class Host:

@@ -33,6 +33,42 @@ def layers_of_flags():
     ])
 
 
+def items_with_and_without_atoms():
+    """What is said of all packages and what is said of one are heard in the order of their lines."""
+    head = {"p/top/make.defaults": "ARCH=amd64\nACCEPT_KEYWORDS=amd64\n", "p/top/parent": "../a\n"}
+    table = [
+        ({"p/a/package.use.force": "c/p a\n", "p/top/use.force": "-a b\n"}, "b"),
+        ({"p/a/use.force": "a b\n", "p/a/package.use.force": "c/q -b\nc/p -a\n"}, "b"),
+        (
+            {
+                "p/a/use.force": "a\n",
+                "p/a/package.use.force": "c/p -a\n",
+                "p/top/use.force": "a\n",
+            },
+            "a",
+        ),
+        (
+            {
+                "p/a/use.force": "a b c\n",
+                "p/a/package.use.force": "c/p -a\nc/p -b\n",
+                "p/top/use.force": "b -c\n",
+                "p/top/package.use.force": "c/q a\nc/p c\n",
+            },
+            "b c",
+        ),
+    ]
+    tree = package("c/p-1", IUSE="a b c")
+    return check([
+        row(
+            {**head, "p/a/eapi": "", **files, **tree},
+            "implicit amd64",
+            "offer c/p-1 amd64",
+            f"variant {in_order(on)}",
+        )
+        for files, on in table
+    ])
+
+
 def in_order(flags):
     return " ".join(sorted([*flags.split(), "amd64"]))
 
@@ -127,6 +163,7 @@ def configurations_without_offers():
 
 TESTS = [
     layers_of_flags,
+    items_with_and_without_atoms,
     words_that_clear,
     quotes_of_the_users_file,
     implicit_flags,

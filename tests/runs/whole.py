@@ -207,10 +207,13 @@ def last_line_fails():
 
 
 def builders_are_at_rest_behind_each_ending():
-    cases = [(word, call) for word in ("=c/p-1", "=c/p-2", "c") for call in range(1, 100)]
-    came = answers([case(word, sample_tree(), ONE, fail=call) for word, call in cases])
-    for (word, call), answer in zip(cases, came):
-        check(answer.resting, "1", f"{word} at call {call}")
+    words = ("=c/p-1", "=c/p-2", "c")
+    ends = [(word, ONE, {"fail": call}) for word in words for call in range(1, 100)]
+    ends += [("=c/p-1", ONE, it) for it in ({}, {"broken": True}, {"write": 1}, {"write": 2})]
+    ends += [("=c/p-1", image_of(it), {}) for it in ("l usr/a", "- a\n- a/b", "- var/db/pkg/a")]
+    came = answers([case(word, sample_tree(), image, **faults) for word, image, faults in ends])
+    for (word, image, faults), answer in zip(ends, came):
+        check(answer.resting, "1", f"{word} with {image} and {faults}")
 
 
 def each_failing_call_is_told():

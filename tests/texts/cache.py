@@ -98,9 +98,20 @@ def entries_that_are_not_utf8():
     return rows("pairs", [(b"A=1\nA\xc3\n", "an entry that is not UTF-8")])
 
 
+def texts_of_64_kib():
+    keys, value = [f"K{number:04}" for number in range(1_024)], "x" * 57
+    text = "".join(f"{key}={value}\n" for key in keys)
+    pairs = rows("pairs", [(text, "".join(f"{key}:{value}|" for key in keys))])
+    needs = " ".join(["c/d"] * 16_384)
+    entry = f"EAPI=8\nRDEPEND={needs}\nSLOT=0\n_md5_={ABC}\n"
+    said = "; ".join(["0/0 ", "", "", needs] + [""] * 5)
+    return pairs + rows("fields", [(entry, "in form")]) + rows("entry", [(entry, said)])
+
+
 TESTS = [
     entries_of_an_ebuild,
     fields_of_entries,
     pairs_of_entries,
     entries_that_are_not_utf8,
+    texts_of_64_kib,
 ]

@@ -65,6 +65,13 @@ def assignments_out_of_form():
     return rows("config", table)
 
 
+def texts_of_64_kib():
+    value = "x" * 61
+    told = "".join(f"{number}:A={value}|" for number in range(1, 1_025))
+    text = f"A={value}\n" * 1_024
+    return rows("lines", [(text, told)]) + rows("config", [(text, told)])
+
+
 def open_quote(line):
     return f"line {line} opens a quote that is not closed"
 
@@ -79,4 +86,5 @@ TESTS = [
     assignments_in_form,
     values_of_earlier_files,
     assignments_out_of_form,
+    texts_of_64_kib,
 ]

@@ -25,6 +25,12 @@ def bad_byte(at):
     return f"a name has a byte at {at} that it may not have"
 
 
+def names_of_the_greatest_length():
+    table = [("a" * 255, "a" * 255), ("a" * 256, "a name of more than 255 bytes")]
+    kinds = ["category", "package", "slot_name", "flag"]
+    return [row for kind in kinds for row in rows(kind, table)]
+
+
 def flags_are_a_set():
     # A plus for each word that changed the set, a dot for each other one, and the flags then.
     return rows("set", [("b a c a", "+++. a b c"), ("b a c a -b -b", "+++.+. a c"), ("", "")])
@@ -36,4 +42,10 @@ def values_of_slot():
     return rows("slot", good + [(text, "none") for text in bad])
 
 
-TESTS = [names_that_gentoo_uses, first_faults, flags_are_a_set, values_of_slot]
+TESTS = [
+    names_that_gentoo_uses,
+    first_faults,
+    names_of_the_greatest_length,
+    flags_are_a_set,
+    values_of_slot,
+]

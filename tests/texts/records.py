@@ -1,4 +1,5 @@
 """The texts of an installed package's record: CONTENTS, EAPI, SLOT, USE and IUSE."""
+from flags import RISING
 from lines import rows
 
 # The digests of nothing and of `abc` in RFC 1321.
@@ -61,4 +62,20 @@ def bad_word(at):
     return f"the word at {at} is none of a flag"
 
 
-TESTS = [odd_but_right_texts, faulty_lines, odd_but_right_values, faulty_values]
+def texts_of_64_kib():
+    names = [f"{number:04}" for number in range(1_500)]
+    text = "".join(f"obj /{name} {NOTHING} 0\n" for name in names)
+    owned = "".join(f"{name}={NOTHING}|" for name in names)
+    blanks = " " * 65_536
+    single = rows("eapi", [(f"{blanks}8", "yes")]) + rows("slots", [(f"{blanks}0", "0 0")])
+    flags = [(" ".join(RISING), "".join(f"{flag} " for flag in RISING))]
+    return rows("contents", [(text, owned)]) + single + rows("use", flags) + rows("iuse", flags)
+
+
+TESTS = [
+    odd_but_right_texts,
+    faulty_lines,
+    odd_but_right_values,
+    faulty_values,
+    texts_of_64_kib,
+]
