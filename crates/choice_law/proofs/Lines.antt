@@ -6,6 +6,7 @@ use Rattle.basics.proofs.Membership.{has-append_cases, has-append_left, has-appe
 use Rattle.pkg_state.specs.Package.{Package}
 use Rattle.choice_law.specs.Universe.{Filling, IsValue, Offer, Stands, Universe, Value, as_is, as_list, lines, offer_at, package_of, packages, packages_below, standing}
 use Rattle.choice_law.specs.Tree.{Choice, decided, filling}
+use Rattle.choice_law.specs.Reasons.{Extends}
 
 -- a number that passes the test, below n, or none
 pub search_below : (test : ℕ → Bool) (n : ℕ) → ((l : ℕ) × (l < n) × (test l ≡ true)) ⊎ ((l : ℕ) → l < n → test l ≡ false)
@@ -105,39 +106,29 @@ abbrev pub free_below : Choice → ℕ → ℕ
 free_below c zero = 0
 free_below c (suc n) = free_below c n + is_free (decided c n)
 
--- what the first choice decides is decided in the second
-abbrev pub DecidesMore : Choice → Choice → Type 0
-DecidesMore c e = (l : ℕ) → decided e l ≡ None → decided c l ≡ None
-
-less_free : (x y : Option Value) → (y ≡ None → x ≡ None) → is_free y ≤ is_free x
+less_free : (x y : Option Value) → ((v : Value) → x ≡ Some v → y ≡ Some v) → is_free y ≤ is_free x
 less_free x (Some v) h = omega arith
 less_free None None h = omega arith
-less_free (Some v) None h = let bad : Some v ≡ None = h refl in absurd (cc bad)
+less_free (Some v) None h = let bad : ◌≡◌ {A = Option Value} None (Some v) = h v refl in absurd (cc bad)
 
-no_more_free : (c e : Choice) (n : ℕ) → DecidesMore c e → free_below e n ≤ free_below c n
-no_more_free c e zero more = omega arith
-no_more_free c e (suc n) more =
-    let before = no_more_free c e n more in
-    let here = less_free (decided c n) (decided e n) (more n) in
+no_more_free : (c e : Choice) (n : ℕ) → Extends c e → free_below e n ≤ free_below c n
+no_more_free c e zero alike = omega arith
+no_more_free c e (suc n) alike =
+    let before = no_more_free c e n alike in
+    let here = less_free (decided c n) (decided e n) (alike n) in
     omega (arith, before, here)
 
 -- fewer are free once one more is decided
-pub fewer_free : (c e : Choice) (n k : ℕ) (v : Value) → DecidesMore c e → k < n → decided c k ≡ None → decided e k ≡ Some v → free_below e n < free_below c n
-fewer_free c e zero k v more less was is = absurd (omega (arith, less))
-fewer_free c e (suc n) k v more less was is = elim (cases_eq k n) [
+pub fewer_free : (c e : Choice) (n k : ℕ) (v : Value) → Extends c e → k < n → decided c k ≡ None → decided e k ≡ Some v → free_below e n < free_below c n
+fewer_free c e zero k v alike less was is = absurd (omega (arith, less))
+fewer_free c e (suc n) k v alike less was is = elim (cases_eq k n) [
   | inl same ↦ (
-      let before = no_more_free c e n more in
+      let before = no_more_free c e n alike in
       let old : is_free (decided c n) ≡ 1 = ap (λ (j : ℕ). is_free (decided c j)) (sym same) ∙ ap is_free was in
       let new : is_free (decided e n) ≡ 0 = ap (λ (j : ℕ). is_free (decided e j)) (sym same) ∙ ap is_free is in
       omega (arith, before, old, new))
   | inr other ↦ (
-      let before = fewer_free c e n k v more (omega (arith, less, other)) was is in
-      let here = less_free (decided c n) (decided e n) (more n) in
+      let before = fewer_free c e n k v alike (omega (arith, less, other)) was is in
+      let here = less_free (decided c n) (decided e n) (alike n) in
       omega (arith, before, here))
-]
-
-pub adding_decides : (c : Choice) (m : ℕ) (v : Value) → DecidesMore c ((m, v) ∷ c)
-adding_decides c m v l none = elim (cases_eq m l) [
-  | inl same ↦ absurd (let here = decided_here m v c in let there : decided ((m, v) ∷ c) m ≡ None = ap (λ (k : ℕ). decided ((m, v) ∷ c) k) same ∙ none in let bad : Some v ≡ None = sym here ∙ there in cc bad)
-  | inr other ↦ sym (decided_there m l v c other) ∙ none
 ]

@@ -1,6 +1,6 @@
 -- Good leaves are solutions, and each solution has a good leaf.
-use Rattle.std.proofs.Common.{◌≡◌, ◌⊎◌, ◌<◌, ◌≤◌, ℕ, zero, suc, Bool, true, [], ◌∷◌, Option, None, Some, inl, inr, refl, sym, ap, subst, arith, ◌∙◌}
-use Rattle.std.proofs.lemmas.Bool.{cases_Bool, cases_eq}
+use Rattle.std.proofs.Common.{◌≡◌, ◌⊎◌, ◌<◌, ◌≤◌, ℕ, zero, suc, Bool, true, [], Option, None, Some, inl, inr, refl, sym, ap, subst, arith, ◌∙◌}
+use Rattle.std.proofs.lemmas.Bool.{cases_Bool}
 use Rattle.basics.specs.Members.{Has}
 use Rattle.dep_atom.specs.Match.{value_matches}
 use Rattle.dep_atom.specs.Values.{AtomValue}
@@ -8,43 +8,19 @@ use Rattle.pkg_state.specs.Consistent.{facts_of, fits_required, is_met}
 use Rattle.pkg_state.specs.Package.{Package}
 use Rattle.choice_law.specs.Universe.{Filling, IsValue, Stands, Universe, Value, absent, as_is, conflicts, is_new, keep, lines, offer_at, package_of, packages, standing}
 use Rattle.choice_law.specs.Solutions.{IsSolution}
-use Rattle.choice_law.specs.Tree.{Choice, IsGoodLeaf, IsNode, IsOpen, IsOption, IsPick, Obligation, absence, conflict, decided, filling, held, held_by, option, required, root, tree, wanted}
+use Rattle.choice_law.specs.Tree.{Choice, IsGoodLeaf, IsNode, IsOpen, IsOption, IsPick, Obligation, absence, conflict, decided, filling, option, required, root, tree, wanted}
 use Rattle.choice_law.specs.Laws.{Allows, DecidesValues, GoodLeavesAreSolutions, IsUniverse, SolutionsHaveLeaves}
-use Rattle.choice_law.proofs.Lines.{decided_here, decided_or_not, decided_there, filling_decided, filling_free, free_below, hit_is, hits, no_hit, search_below, standing_is_value}
+use Rattle.choice_law.proofs.Lines.{decided_or_not, filling_decided, filling_free, free_below, hit_is, hits, no_hit, search_below, standing_is_value}
 use Rattle.choice_law.proofs.Options.{some_option}
+use Rattle.choice_law.proofs.Steps.{allows_later, option_extends, option_fewer, option_values}
 
 module _ (u : Universe) where
-  one_more : (c : Choice) (m : ℕ) (v : Value) → DecidesValues u c → (m < lines u → IsValue (offer_at u m) v) → DecidesValues u ((m, v) ∷ c)
-  one_more c m v good here l w there d = elim (cases_eq m l) [
-    | inl same ↦ (
-        let first : decided ((m, v) ∷ c) m ≡ Some v = decided_here m v c in
-        let second : decided ((m, v) ∷ c) m ≡ Some w = ap (λ (k : ℕ). decided ((m, v) ∷ c) k) same ∙ d in
-        let both : v ≡ w = (let some : ◌≡◌ {A = Option Value} (Some v) (Some w) = sym first ∙ second in cc some) in
-        subst (λ (k : ℕ). IsValue (offer_at u k) w) same (subst (λ (x : Value). IsValue (offer_at u m) x) both (here (subst (λ (k : ℕ). k < lines u) (sym same) there))))
-    | inr other ↦ good l w there (sym (decided_there m l v c other) ∙ d)
-  ]
-
-  held_values : (c : Choice) (l : ℕ) → DecidesValues u c → DecidesValues u (held u c l)
-  held_values c l good = elim (decided_or_not c l) [
-    | inl none ↦ subst (λ (x : Option Value). DecidesValues u (held_by x u c l)) (sym none) (one_more c l (as_is u l) good (λ there. standing_is_value (offer_at u l)))
-    | inr some ↦ subst (λ (x : Option Value). DecidesValues u (held_by x u c l)) (sym some.1) good
-  ]
-
-  option_values : (c e : Choice) (o : Obligation) → DecidesValues u c → IsOption u c o e → DecidesValues u e
-  option_values c e (wanted a) good is = subst (λ (x : Choice). DecidesValues u x) (sym is.4) (one_more c is.0 is.1 good (λ there. is.2.value))
-  option_values c e (required l) good is = subst (λ (x : Choice). DecidesValues u x) (sym is.2) (one_more c l is.0 good (λ there. is.1.may.value))
-  option_values c e (conflict l m) good (inl is) = subst (λ (x : Choice). DecidesValues u x) (sym is.2) (one_more c l is.0 good (λ there. is.1.may.value))
-  option_values c e (conflict l m) good (inr is) = subst (λ (x : Choice). DecidesValues u x) (sym is.3) (one_more (held u c l) m is.0 (held_values c l good) (λ there. is.1.value))
-  option_values c e (tree l class) good (inl is) = subst (λ (x : Choice). DecidesValues u x) (sym is.9) (one_more c is.2 is.3 good (λ there. is.7.value))
-  option_values c e (tree l class) good (inr is) = subst (λ (x : Choice). DecidesValues u x) (sym is.2) (one_more c l is.0 good (λ there. is.1.may.value))
-  option_values c e (absence l) good is = subst (λ (x : Choice). DecidesValues u x) (sym is.9) (one_more c is.0 is.1 good (λ there. is.4.value))
-
   none_decided : DecidesValues u []
   none_decided l v there d = absurd (let bad : ◌≡◌ {A = Option Value} None (Some v) = d in cc bad)
 
   node_values : (pick : Choice → Option Obligation) (c : Choice) → IsNode u pick c → DecidesValues u c
   node_values pick c root = none_decided
-  node_values pick c (option b e o node picked is) = option_values b c o (node_values pick b node) is
+  node_values pick c (option b e o node picked is) = option_values u b o c (node_values pick b node) is
 
   module _ (c : Choice) (good : DecidesValues u c) (closed : (o : Obligation) → ¬ IsOpen u c o) where
     values : (l : ℕ) → l < lines u → IsValue (offer_at u l) (filling u c l)
@@ -98,7 +74,8 @@ module _ (u : Universe) where
           ])
         ]
 
-    closed_solution : IsSolution u (filling u c)
+    -- a choice that decides values and leaves nothing open is a solution
+    pub closed_solution : IsSolution u (filling u c)
     closed_solution = record {
       values = values;
       wanted = wanted_there;
@@ -112,6 +89,12 @@ pub leaves_solve : GoodLeavesAreSolutions
 leaves_solve u pick c picks good = closed_solution u c (node_values u pick c good.node) (picks.none c good.closed)
 
 module _ (u : Universe) (pick : Choice → Option Obligation) (f : Filling) (form : IsUniverse u) (picks : IsPick u pick) (s : IsSolution u f) where
+  -- an option that the solution allows
+  allowed_option : (c : Choice) (o : Obligation) → Allows c f → IsOpen u c o → (e : Choice) × IsOption u c o e × Allows e f
+  allowed_option c o allows open_now =
+      let e = some_option u f form s c o open_now (λ l v h d. allows l v d) in
+      (e.0, e.1, allows_later c e.0 f (option_extends u c o e.0 e.1) allows e.2)
+
   picked_or_not : (c : Choice) → (pick c ≡ None) ⊎ ((o : Obligation) × (pick c ≡ Some o))
   picked_or_not c = by_case (pick c) where
     by_case : (x : Option Obligation) → (x ≡ None) ⊎ ((o : Obligation) × (x ≡ Some o))
@@ -121,14 +104,17 @@ module _ (u : Universe) (pick : Choice → Option Obligation) (f : Filling) (for
   down : (left : ℕ) (c : Choice) → IsNode u pick c → Allows c f → free_below c (lines u) ≤ left → (e : Choice) × IsGoodLeaf u pick e × Allows e f
   down zero c node allows few = elim (picked_or_not c) [
     | inl none ↦ (c, record { node = node; closed = none }, allows)
-    | inr some ↦ absurd (let next = some_option u f form s c allows some.0 (picks.some c some.0 some.1) in let fewer = next.fewer in omega (arith, fewer, few))
+    | inr some ↦ absurd (
+        let next = allowed_option c some.0 allows (picks.some c some.0 some.1) in
+        let fewer = option_fewer u c some.0 next.0 next.1 in
+        omega (arith, fewer, few))
   ]
   down (suc left) c node allows few = elim (picked_or_not c) [
     | inl none ↦ (c, record { node = node; closed = none }, allows)
     | inr some ↦ (
-        let next = some_option u f form s c allows some.0 (picks.some c some.0 some.1) in
-        let fewer = next.fewer in
-        down left next.after (option c next.after some.0 node some.1 next.is) next.allows (omega (arith, fewer, few)))
+        let next = allowed_option c some.0 allows (picks.some c some.0 some.1) in
+        let fewer = option_fewer u c some.0 next.0 next.1 in
+        down left next.0 (option c next.0 some.0 node some.1 next.1) next.2 (omega (arith, fewer, few)))
   ]
 
   nothing_decided : Allows [] f

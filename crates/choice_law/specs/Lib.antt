@@ -2,3 +2,4 @@ pub mod Universe
 pub mod Solutions
 pub mod Tree
 pub mod Laws
+pub mod Reasons

@@ -1,4 +1,5 @@
 ghost use Rattle.choice_law.specs.Laws.{GoodLeavesAreSolutions, SolutionsHaveLeaves};
+ghost use Rattle.choice_law.specs.Reasons.{ReasonsSuffice};
 
 /// A law: a choice of the tree that leaves nothing open is a solution.
 pub fn good_leaves_are_solutions()
@@ -8,4 +9,10 @@ pub fn good_leaves_are_solutions()
 /// A law: for each solution the tree has a good leaf.
 pub fn solutions_have_leaves()
     ensures { SolutionsHaveLeaves }
+{}
+
+/// A law: a solution that agrees with a choice on the reason of what is open agrees with what some
+/// option for that adds.
+pub fn reasons_suffice()
+    ensures { ReasonsSuffice }
 {}

@@ -7,8 +7,12 @@
 //! **Proved**: a good leaf is a solution, and where there is a solution the tree has a good leaf,
 //! whichever open obligation is taken up first and in whatever order its options are tried. So a
 //! tree without a good leaf shows that there is no solution.
+//!
+//! That something is open of a choice rests on some of the decided lines alone, which are its reason
+//! (`specs/Reasons.antt`). A solution that agrees with the choice on those agrees with what some
+//! option adds, whatever it has on the other lines.
 #![tactic(auto)]
 
 mod laws;
 
-pub use laws::{good_leaves_are_solutions, solutions_have_leaves};
+pub use laws::{good_leaves_are_solutions, reasons_suffice, solutions_have_leaves};

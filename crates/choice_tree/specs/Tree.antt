@@ -1,15 +1,20 @@
 -- The tree of choices, by the options of each for what is first open of it.
-use Rattle.std.specs.Prelude.{◌≡◌, ◌<◌, ◌+◌, ℕ, zero, suc, Bool, List, Option, None, Some}
-use Rattle.std.specs.Option.{option_map}
+use Rattle.std.specs.Prelude.{◌≡◌, ◌<◌, ◌+◌, ℕ, zero, suc, Bool, List, [], Option, None, Some}
+use Rattle.std.specs.Option.{option_map, option_map_or}
 use Rattle.basics.specs.Members.{Has}
 use Rattle.choice_law.specs.Universe.{Universe, Value, lines}
 use Rattle.choice_law.specs.Tree.{Choice, decided}
+use Rattle.choice_law.specs.Reasons.{reason}
 use Rattle.choice_tree.specs.Open.{first_open}
 use Rattle.choice_tree.specs.Options.{options}
 
 -- the options of a choice, where something is open of it
 abbrev pub tree_options : Bool → Universe → Choice → Option (List Choice)
 tree_options update u c = option_map (options update u c) (first_open u c)
+
+-- the decided lines on which it rests that something is open of a choice
+abbrev pub tree_reason : Universe → Choice → List ℕ
+tree_reason u c = option_map_or (reason u c) (first_open u c) []
 
 abbrev pub one_if_free : Option Value → ℕ
 one_if_free None = 1

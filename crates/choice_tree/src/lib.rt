@@ -11,7 +11,7 @@
 //! laws of `choice_law` hold of it. [`options`] gives the options for it in the order that is
 //! written out in `specs/Options.antt` and `specs/Candidates.antt`: they are just those of
 //! `choice_law`, and each decides a line more. [`next_options`] gives the options for what is first
-//! open.
+//! open, and [`next_reason`] the decided lines on which it rests that this is open.
 //!
 //! **Only tested**: whole trees of small universes, written out by hand, and that with ample memory
 //! each call answers.
@@ -44,6 +44,7 @@ mod opposing;
 mod place;
 mod places;
 mod ranking;
+mod reasons;
 mod repeats;
 mod standing;
 mod taking_up;
@@ -54,6 +55,7 @@ pub use branching::{next_options, options};
 pub use choice::Choice;
 pub use laws::{first_open_is_a_pick, options_are_those, options_decide_more};
 pub use obligation::Obligation;
+pub use reasons::next_reason;
 pub use taking_up::first_open;
 pub use universe::{Offer, Universe};
 pub use value::{Decision, Value};
