@@ -1,3 +1,4 @@
 pub mod Plain
 pub mod Leaves
 pub mod Offers
+pub mod Counted

@@ -1,32 +1,44 @@
 -- What the resolver answers.
-use Rattle.std.specs.Prelude.{◌≡◌, ◌<◌, ◌≤◌, ℕ, Bool, List, None, Some, length, take, ⊤}
+use Rattle.std.specs.Prelude.{◌≡◌, ◌<◌, ◌≤◌, ℕ, Bool, List, [], None, Some, length, take, ⊤}
+use Rattle.basics.specs.Members.{Has}
 use Rattle.choice_law.specs.Universe.{Filling, Universe}
+use Rattle.choice_law.specs.Laws.{Allows}
 use Rattle.choice_law.specs.Solutions.{IsSolution}
 use Rattle.choice_law.specs.Tree.{Choice, filling}
+use Rattle.tree_search.specs.Jumping.{IsPart}
 use Rattle.tree_search.specs.Leaves.{dead_before, first_good}
-use Rattle.resolver.specs.Tree.{tree_leaves}
+use Rattle.tree_search.specs.Visit.{visit}
+use Rattle.resolver.specs.Tree.{tree_leaves, tree_shape}
 use Rattle.resolver.specs.declared.fault.ResolveFault.{ResolveFault}
 use Rattle.resolver.specs.declared.fault.ResolveFault.TheVariants.{BacktrackLimit, Memory, NoSolution}
 
--- the first good leaf, before which fewer dead ones stand than are too many
+-- the dead leaves that the search meets, in their order
+abbrev pub met : Bool → Universe → List Choice
+met update u = (visit (tree_shape update u) []).met
+
+-- the first good leaf of the tree, before which fewer dead ones are met than are too many
 pub record IsChosen (update : Bool) (u : Universe) (limit : ℕ) (c : Choice) : Type 0 where
   pub first : first_good (tree_leaves update u) ≡ Some c
-  pub early : length (dead_before (tree_leaves update u)) < limit
+  pub early : length (met update u) < limit
   -- it is a solution, with the lines that it doesn't decide as they are
   pub solution : IsSolution u (filling u c)
 
--- no leaf is good, and the dead ones are fewer than are too many
+-- no leaf is good, and the dead ones that are met are fewer than are too many
 pub record HasNone (update : Bool) (u : Universe) (limit : ℕ) : Type 0 where
   pub no_leaf : first_good (tree_leaves update u) ≡ None
-  pub few : length (dead_before (tree_leaves update u)) < limit
+  pub few : length (met update u) < limit
   -- so there is no solution
   pub no_solution : (f : Filling) → ¬ IsSolution u f
 
--- as many dead leaves as are too many stand before a good one, and these are the first
+-- as many dead leaves as are too many are met, and these are the first
 pub record IsTooMany (update : Bool) (u : Universe) (limit : ℕ)
     (refuted : List Choice) : Type 0 where
-  pub these : refuted ≡ take limit (dead_before (tree_leaves update u))
-  pub many : limit ≤ length (dead_before (tree_leaves update u))
+  pub these : refuted ≡ take limit (met update u)
+  pub many : limit ≤ length (met update u)
+  -- those that are met stand in the tree before the first good leaf, in this order
+  pub before : IsPart (met update u) (dead_before (tree_leaves update u))
+  -- no solution has all that one of them decides
+  pub in_vain : (c : Choice) (f : Filling) → Has refuted c → IsSolution u f → ¬ Allows c f
 
 abbrev pub HasCause : Bool → Universe → ℕ → ResolveFault → Type 0
 HasCause update u limit NoSolution = HasNone update u limit

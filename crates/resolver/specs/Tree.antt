@@ -1,9 +1,20 @@
--- The leaves of the tree of choices.
-use Rattle.std.specs.Prelude.{Bool, List, []}
+-- The tree of choices: what it is to a search, and its leaves.
+use Rattle.std.specs.Prelude.{Bool, List, [], is_some}
 use Rattle.choice_law.specs.Universe.{Universe}
-use Rattle.choice_law.specs.Tree.{Choice}
-use Rattle.choice_tree.specs.Tree.{free_lines, tree_options}
+use Rattle.choice_law.specs.Tree.{Choice, decided}
+use Rattle.choice_tree.specs.Tree.{free_lines, tree_options, tree_reason}
 use Rattle.tree_search.specs.Leaves.{Leaf, leaves}
+use Rattle.tree_search.specs.Shape.{Shape}
+
+-- the options of each choice, and the decided lines on which it rests that something is open
+abbrev pub tree_shape : Bool → Universe → Shape Choice
+tree_shape update u =
+    record {
+      options = tree_options update u;
+      room = free_lines u;
+      reason = tree_reason u;
+      knows = λ c l. is_some (decided c l);
+    }
 
 -- all leaves, in the order in which they are tried
 abbrev pub tree_leaves : Bool → Universe → List (Leaf Choice)

@@ -1,8 +1,11 @@
-ghost use Rattle.std.specs.Prelude.{IfErr, IfOk};
+ghost use Rattle.std.specs.Prelude.{[], IfErr, IfOk};
+ghost use Rattle.choice_law.specs.Solutions.{IsSolution};
+ghost use Rattle.choice_law.specs.Tree.{decided};
 ghost use Rattle.choice_tree.specs.Views.{universe_of};
 ghost use Rattle.resolver.specs.Answers.{HasCause, IsChosen};
-ghost use Rattle.resolver.specs.Tree.{tree_leaves};
-ghost use Rattle.tree_search.specs.Leaves.{IsOutcome};
+ghost use Rattle.resolver.specs.Tree.{tree_shape};
+ghost use Rattle.tree_search.specs.Jumping.{LosesNothing};
+ghost use Rattle.tree_search.specs.Visit.{IsOutcome, visit};
 
 use crate::fault::ResolveFault;
 use crate::form::universe_is_plain;
@@ -10,7 +13,7 @@ use crate::tree::Choices;
 use choice_law::{good_leaves_are_solutions, solutions_have_leaves};
 use choice_tree::{Choice, Universe, first_open_is_a_pick};
 use std::alloc::{AllocError, Global};
-use tree_search::{Outcome, first_good};
+use tree_search::{Outcome, first_good, jumps_lose_nothing};
 
 fn search(
     alloc: Global,
@@ -18,11 +21,20 @@ fn search(
     backtrack: usize,
 ) -> Result<Outcome<Choice>, AllocError>
     ensures { IfOk result (IsOutcome
-        (tree_leaves universe.now.update (universe_of universe.now)) backtrack) }
+        (visit (tree_shape universe.now.update (universe_of universe.now)) []) backtrack) }
 {
-    let choices = Choices { universe };
-    let outcome = first_good(alloc, &choices, Choice::new(alloc), backtrack)?;
+    let mut choices = Choices { universe };
+    let outcome = first_good(alloc, &mut choices, Choice::new(alloc), backtrack)?;
     Ok(outcome)
+}
+
+// What the jumps leave out is of no account.
+fn no_jump_loses(universe: &Universe)
+    ensures { LosesNothing (tree_shape universe.now.update (universe_of universe.now)) decided
+        (IsSolution (universe_of universe.now)) [] }
+{
+    universe_is_plain(universe);
+    jumps_lose_nothing(&Choices { universe });
 }
 
 /// The first choice of the tree of which nothing is open. It gives up where so many were tried in
@@ -37,6 +49,7 @@ pub fn resolve(alloc: Global, universe: &Universe, backtrack: usize) -> Result<C
     solutions_have_leaves();
     first_open_is_a_pick();
     universe_is_plain(universe);
+    no_jump_loses(universe);
     match search(alloc, universe, backtrack)? {
         Outcome::Found(choice) => Ok(choice),
         Outcome::NoneGood => Err(ResolveFault::NoSolution),

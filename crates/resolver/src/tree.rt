@@ -1,6 +1,6 @@
-use choice_tree::{Choice, Universe, next_options};
+use choice_tree::{Choice, Universe, next_options, next_reason};
 use std::alloc::{AllocError, Global};
-use tree_search::Tree;
+use tree_search::{Deciding, Tree};
 
 /// The choices of a universe, each with its options for what is first open of it.
 #[derive(Drop)]
@@ -10,16 +10,45 @@ pub(crate) struct Choices<'a> {
 
 impl<'a> Tree<Choice> for Choices<'a> {
     ghost use Rattle.choice_tree.specs.Views.{universe_of};
-    ghost use Rattle.choice_tree.specs.Tree.{free_lines, tree_options};
     ghost use Rattle.choice_tree.proofs.Smaller.{smaller};
+    ghost use Rattle.resolver.specs.Tree.{tree_shape};
 
-    ghost options = { λ t. tree_options t.universe.now.update (universe_of t.universe.now) };
+    ghost shape = { λ t. tree_shape t.universe.now.update (universe_of t.universe.now) };
 
-    ghost room = { λ t. free_lines (universe_of t.universe.now) };
-
-    fn options(&self, alloc: Global, choice: &Choice) -> Result<Option<Vec<Choice>>, AllocError> {
+    fn options(
+        &mut self,
+        alloc: Global,
+        choice: &Choice,
+    ) -> Result<Option<Vec<Choice>>, AllocError> {
         next_options(alloc, self.universe, choice)
     }
 
+    fn reason(&mut self, alloc: Global, choice: &Choice) -> Result<Vec<usize>, AllocError> {
+        next_reason(alloc, self.universe, choice)
+    }
+
+    fn knows(&self, choice: &Choice, line: usize) -> bool {
+        choice.decided(line).is_some()
+    }
+
     ghost smaller = { λ t. smaller t.universe.now.update (universe_of t.universe.now) };
+}
+
+impl<'a> Deciding<Choice> for Choices<'a> {
+    ghost use Rattle.choice_law.specs.Solutions.{IsSolution};
+    ghost use Rattle.choice_law.specs.Tree.{decided};
+    ghost use Rattle.choice_law.specs.Universe.{Value as LineValue};
+    ghost use Rattle.choice_tree.specs.Views.{universe_of};
+    ghost use Rattle.resolver.specs.Nodes.{IsOfTree};
+    ghost use Rattle.resolver.specs.Jumping.{choices_jump};
+
+    ghost Value = { LineValue };
+
+    ghost decided = { λ t. decided };
+
+    ghost fits = { λ t. IsOfTree (universe_of t.universe.now) };
+
+    ghost is_solution = { λ t. IsSolution (universe_of t.universe.now) };
+
+    ghost jumps = { λ t. choices_jump t.universe.now.update (universe_of t.universe.now) };
 }

@@ -1,2 +1,7 @@
 pub mod Deep
-pub mod Ahead
+pub mod Walk
+pub mod Causes
+pub mod Parts
+pub mod Jumps
+pub mod Resuming
+pub mod Searching

@@ -1,8 +1,6 @@
 -- The leaves of a tree of choices, in the order in which a walk through it comes by them.
-use Rattle.std.specs.Prelude.{◌≡◌, ◌<◌, ◌≤◌, ℕ, zero, suc, List, [], ◌∷◌, Option, None, Some, length, take}
+use Rattle.std.specs.Prelude.{ℕ, zero, suc, List, [], ◌∷◌, Option, None, Some}
 use Rattle.std.specs.List.{flat_map}
-use Rattle.tree_search.specs.declared.outcome.Outcome.{Outcome}
-use Rattle.tree_search.specs.declared.outcome.Outcome.TheVariants.{Found, Limit, NoneGood}
 
 -- of a good leaf nothing is open; a dead one has no option for what is open
 pub data Leaf (C : Type 0) : Type 0 where
@@ -34,10 +32,3 @@ abbrev pub dead_before : {C : Type 0} → List (Leaf C) → List C
 dead_before [] = []
 dead_before (good c ∷ ls) = []
 dead_before (dead c ∷ ls) = c ∷ dead_before ls
-
--- what a search among these leaves ends with, where so many dead ones are too many
-abbrev pub IsOutcome : {C : Type 0} → List (Leaf C) → ℕ → Outcome C → Type 0
-IsOutcome ls limit (Found c) = (first_good ls ≡ Some c) × (length (dead_before ls) < limit)
-IsOutcome ls limit NoneGood = (first_good ls ≡ None) × (length (dead_before ls) < limit)
-IsOutcome ls limit (Limit refuted) =
-    (refuted.items ≡ take limit (dead_before ls)) × (limit ≤ length (dead_before ls))

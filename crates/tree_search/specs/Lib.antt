@@ -1,2 +1,6 @@
 pub mod Leaves
 pub mod Laws
+pub mod Shape
+pub mod Visit
+pub mod Jumping
+pub mod Frames

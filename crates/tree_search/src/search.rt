@@ -1,6 +1,8 @@
-ghost use Rattle.std.specs.Prelude.{◌≡◌, ◌==◌, ◌++◌, IfOk, OnOk, length, reverse};
-ghost use Rattle.tree_search.specs.Leaves.{IsOutcome, leaves};
+ghost use Rattle.std.specs.Prelude.{◌≡◌, ◌==◌, IfOk, length};
+ghost use Rattle.tree_search.specs.Visit.{IsOutcome, visit};
 
+use crate::back::{go_back, join_reason};
+use crate::frame::Frame;
 use crate::outcome::Outcome;
 use crate::tree::Tree;
 use std::alloc::{AllocError, Global};
@@ -12,44 +14,43 @@ fn is_full<C>(dead: &Vec<C>, limit: usize) -> bool
     dead.len() == limit
 }
 
-// Puts options on the stack of what is still to be tried, so that the first is on top.
-fn push_all<C: Drop>(pending: &mut Vec<C>, mut options: Vec<C>) -> Result<(), AllocError>
-    ensures { OnOk result
-        (reverse pending.new.items ≡ options.items ++ reverse pending.old.items) }
-{
-    options.reverse();
-    pending.append(&mut options)?;
-    Ok(())
-}
-
-/// Looks for the first good leaf, and gives up at the dead leaf with this number. It keeps the
-/// options that are still to be tried, and never goes back.
+/// Looks for the first good leaf, and gives up at the dead leaf with this number. At a dead end it
+/// goes back to a choice that had a part in it.
 pub fn first_good<C: Drop, T: Tree<C>>(
     alloc: Global,
-    tree: &T,
+    tree: &mut T,
     root: C,
     limit: usize,
 ) -> Result<Outcome<C>, AllocError>
-    ensures { IfOk result
-        (IsOutcome (leaves (T.options tree.now) (T.room tree.now) root) limit) }
+    ensures same { T.shape tree.new ≡ T.shape tree.old }
+    ensures outcome { IfOk result (IsOutcome (visit (T.shape tree.old) root) limit) }
 {
     let mut dead = Vec::new(alloc);
     if limit == 0 {
         return Ok(Outcome::Limit(dead));
     }
-    let mut pending = Vec::new(alloc);
-    pending.push(root)?;
-    while let Some(choice) = pending.pop() {
-        let Some(options) = tree.options(alloc, &choice)? else {
+    let mut frames = Vec::new(alloc);
+    let mut next = Some(root);
+    while let Some(choice) = next {
+        let Some(mut options) = tree.options(alloc, &choice)? else {
             return Ok(Outcome::Found(choice));
         };
-        if options.is_empty() {
+        options.reverse();
+        let mut cause = Vec::new(alloc);
+        if let Some(option) = options.pop() {
+            frames.push(Frame {
+                choice,
+                cause,
+                rest: options,
+            })?;
+            next = Some(option);
+        } else {
+            join_reason(alloc, tree, &choice, &mut cause)?;
             dead.push(choice)?;
             if is_full(&dead, limit) {
                 return Ok(Outcome::Limit(dead));
             }
-        } else {
-            push_all(&mut pending, options)?;
+            next = go_back(alloc, tree, &mut frames, cause)?;
         }
     }
     Ok(Outcome::NoneGood)

@@ -1,30 +1,40 @@
-use Rattle.std.proofs.Common.{subst}
+use Rattle.std.proofs.Common.{[], subst, sym, ◌∙◌}
 use Rattle.choice_law.specs.Tree.{Choice}
 use Rattle.choice_tree.specs.Views.{universe_of}
-use Rattle.tree_search.specs.Leaves.{IsOutcome}
+use Rattle.tree_search.specs.Visit.{IsOutcome, visit}
 use Rattle.tree_search.specs.declared.outcome.Outcome.{Outcome}
-use Rattle.resolver.specs.Tree.{tree_leaves}
+use Rattle.resolver.specs.Tree.{tree_shape}
 use Rattle.resolver.proofs.Leaves.{chosen_solves, none_solves}
+use Rattle.resolver.proofs.Counted.{too_many}
 use Rattle.resolver.proofs.resolving.resolve.Goals as goal
 
 pub returns-in-Found-clause-chosen : goal.returns-in-Found-clause-chosen
 returns-in-Found-clause-chosen c =
     let update = c.args.universe.now.update in
     let u = universe_of c.args.universe.now in
-    let r = subst (λ (o : Outcome Choice). IsOutcome (tree_leaves update u) c.args.backtrack o) c.in-Found.is c.in_ok-choice.ensures in
+    let r = subst (λ (o : Outcome Choice). IsOutcome (visit (tree_shape update u) []) c.args.backtrack o) c.in-Found.is c.in_ok-choice.ensures in
+    let first = sym c.no_jump_loses.ensures.same_end ∙ r.0 in
     record {
-      first = r.0;
+      first = first;
       early = r.1;
-      solution = chosen_solves update u c.in-Found.choice c.good_leaves_are_solutions.ensures c.first_open_is_a_pick.ensures r.0;
+      solution = chosen_solves update u c.in-Found.choice c.good_leaves_are_solutions.ensures c.first_open_is_a_pick.ensures first;
     }
 
 pub returns-in-NoneGood-clause-cause : goal.returns-in-NoneGood-clause-cause
 returns-in-NoneGood-clause-cause c =
     let update = c.args.universe.now.update in
     let u = universe_of c.args.universe.now in
-    let r = subst (λ (o : Outcome Choice). IsOutcome (tree_leaves update u) c.args.backtrack o) c.in-NoneGood.is c.in_ok-choice.ensures in
+    let r = subst (λ (o : Outcome Choice). IsOutcome (visit (tree_shape update u) []) c.args.backtrack o) c.in-NoneGood.is c.in_ok-choice.ensures in
+    let none = sym c.no_jump_loses.ensures.same_end ∙ r.0 in
     record {
-      no_leaf = r.0;
+      no_leaf = none;
       few = r.1;
-      no_solution = none_solves update u c.solutions_have_leaves.ensures c.first_open_is_a_pick.ensures c.universe_is_plain.ensures r.0;
+      no_solution = none_solves update u c.solutions_have_leaves.ensures c.first_open_is_a_pick.ensures c.universe_is_plain.ensures none;
     }
+
+pub returns-in-Limit-clause-cause : goal.returns-in-Limit-clause-cause
+returns-in-Limit-clause-cause c =
+    let update = c.args.universe.now.update in
+    let u = universe_of c.args.universe.now in
+    let r = subst (λ (o : Outcome Choice). IsOutcome (visit (tree_shape update u) []) c.args.backtrack o) c.in-Limit.is c.in_ok-choice.ensures in
+    too_many update u c.args.backtrack c.in-Limit.refuted.items c.no_jump_loses.ensures r.0 r.1

@@ -1,16 +1,14 @@
-use Rattle.std.proofs.Common.{◌-◌, length, reverse}
-use Rattle.tree_search.specs.Leaves.{leaves}
-use Rattle.tree_search.proofs.Ahead.{IsSearching, steps_left}
+use Rattle.std.proofs.Common.{◌≡◌, ◌-◌, length}
+use Rattle.tree_search.proofs.Searching.{IsSearching, steps_left}
 use Rattle.tree_search.proofs.search.first_good.Given as goal
 
-abbrev pub invariant-loop-choice : goal.invariant-loop-choice
-invariant-loop-choice g l =
-    let options = g.T.Tree.options l.tree in
-    let room = g.T.Tree.room l.tree in
-    let root = l.fn.root in
-    IsSearching options room (room root) l.limit (leaves options room root) l.dead.items (reverse l.pending.items)
+abbrev pub invariant-loop-next : goal.invariant-loop-next
+invariant-loop-next g l =
+    let shape = g.T.Tree.shape l.fn.tree in
+    (g.T.Tree.shape l.tree ≡ shape)
+    × IsSearching shape l.fn.root l.limit l.dead.items l.frames.items l.next
 
-abbrev pub decreases-loop-choice : goal.decreases-loop-choice
-decreases-loop-choice g l =
-    let room = g.T.Tree.room l.tree in
-    steps_left room (room l.fn.root) (l.limit - length l.dead.items) (reverse l.pending.items)
+abbrev pub decreases-loop-next : goal.decreases-loop-next
+decreases-loop-next g l =
+    let shape = g.T.Tree.shape l.fn.tree in
+    steps_left shape (shape.room l.fn.root) (l.limit - length l.dead.items) l.next
