@@ -56,6 +56,16 @@ def backtrack_limits():
     return check_plans(rows)
 
 
+def jump_over_an_unrelated_choice():
+    """What `a` needs isn't there, whichever `x` is chosen, so no other `x` is tried."""
+    lines = ["a-1;RDEPEND c/zz", "x-2,x-1"]
+    rows = [
+        (case("resolve", "keep", "2", "c/x c/a", *lines), "none"),
+        (case("resolve", "keep", "1", "c/x c/a", *lines), "limit| 1=v0 0=v0"),
+    ]
+    return check_plans(rows)
+
+
 def flag_change_solves():
     """No variant has the flag on that the dependency asks for; then one has."""
     lines = ["a-1;IUSE x;RDEPEND c/b[x]", "b-1;IUSE x"]
@@ -162,6 +172,7 @@ TESTS = [
     what_is_kept_comes_first_without_an_update,
     what_is_broken_is_replaced,
     backtrack_limits,
+    jump_over_an_unrelated_choice,
     flag_change_solves,
     two_that_need_each_other,
     answers_are_solutions,
