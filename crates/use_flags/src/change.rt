@@ -1,4 +1,4 @@
-ghost use Rattle.std.specs.Prelude.{◌≡◌, ℕ, List, map, IfOk, IfErr, OnOk, OnErr, IfSome, IfNone};
+ghost use Rattle.std.specs.Prelude.{◌≡◌, ℕ, List, map, IfOk, IfErr, MatchOption, OnOk, OnErr};
 ghost use Rattle.pms_names.specs.Flags.{has};
 ghost use Rattle.use_flags.specs.Changes.{Applies, IsChange, change_of, changed};
 ghost use Rattle.use_flags.specs.Words.{EachWord, words};
@@ -41,10 +41,10 @@ pub fn changes(alloc: Global, text: &str) -> Result<Vec<Change>, UseFault>
     Ok(changes)
 }
 
-fn read_change(alloc: Global, word: &[u8]) -> Result<Option<Change>, AllocError>
-    ensures found { IfOk result (λ change. IfSome change (λ change. change ≡ change_of word.now)) }
-    ensures change { IfOk result (λ change. IfSome change (λ _. IsChange word.now)) }
-    ensures none { IfOk result (λ change. IfNone change (¬ IsChange word.now)) }
+/// The change that the word is, if it is one.
+pub fn read_change(alloc: Global, word: &[u8]) -> Result<Option<Change>, AllocError>
+    ensures { IfOk result (λ r. MatchOption r (¬ IsChange word.now)
+        (λ change. IsChange word.now × (change ≡ change_of word.now))) }
 {
     if word == b"-*".as_slice() {
         return Ok(Some(Change::Clear));
@@ -74,7 +74,8 @@ pub fn apply(flags: &mut Flags, changes: &[Change]) -> Result<(), AllocError>
     Ok(())
 }
 
-fn apply_one(flags: &mut Flags, change: &Change) -> Result<(), AllocError>
+/// Applies one change. Where memory runs out, the flags stay as they are.
+pub fn apply_one(flags: &mut Flags, change: &Change) -> Result<(), AllocError>
     ensures ok { OnOk result ((q : List ℕ) →
         has flags.new q ≡ changed q (has flags.old q) change.now) }
     ensures err { OnErr result (flags.new ≡ flags.old) }

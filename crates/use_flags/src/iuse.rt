@@ -67,7 +67,8 @@ impl Iuse {
     }
 }
 
-fn flag_of(word: &[u8]) -> &[u8]
+/// The item without its sign.
+pub fn flag_of(word: &[u8]) -> &[u8]
     ensures { result.now ≡ flag_of word.now }
 {
     match word {

@@ -22,7 +22,7 @@ mod iuse;
 mod laws;
 mod words;
 
-pub use change::{Change, apply, changes};
+pub use change::{Change, apply, apply_one, changes, read_change};
 pub use fault::UseFault;
-pub use iuse::Iuse;
+pub use iuse::{Iuse, flag_of};
 pub use laws::one_fault;
