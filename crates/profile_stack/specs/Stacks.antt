@@ -1,5 +1,6 @@
 -- Items that stack: a text adds itself, and behind a hyphen it takes an item back (PMS 5.2.4).
 use Rattle.std.specs.Prelude.{◌≡◌, ◌==◌, ℕ, List, [], ◌∷◌, ◌++◌, Option, None, Some, bytes_eq, fold, if◌then◌else◌}
+use Rattle.std.specs.Option.{unwrap_or}
 use Rattle.basics.specs.Members.{Has}
 use Rattle.indexmap.specs.IndexSet.{insert_key, remove_key}
 
@@ -10,6 +11,10 @@ hyphen = 45
 abbrev pub taken_back : List ℕ → Option (List ℕ)
 taken_back [] = None
 taken_back (b ∷ bytes) = if b == hyphen then Some bytes else None
+
+-- the text without a hyphen before it
+abbrev pub unsigned : List ℕ → List ℕ
+unsigned text = unwrap_or (taken_back text) text
 
 -- what stands once an item is taken back, or once the text is added, which stands behind the others
 -- where it isn't there

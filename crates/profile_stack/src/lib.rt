@@ -37,5 +37,5 @@ pub use folders::{MOST_PROFILES, Walk, find_folders};
 pub use law::{last_word_counts, one_walk};
 pub use line_file::{FileLine, read_lines};
 pub use parents::Parent;
-pub use stack::stacked;
-pub use text::file_in;
+pub use stack::{stacked, taken_back, unsigned};
+pub use text::{file_in, read_text};

@@ -1,5 +1,5 @@
 ghost use Rattle.std.specs.Prelude.{◌≡◌, ◌∷◌, IfOk, MatchOption, None, OnOk, Some, map};
-ghost use Rattle.profile_stack.specs.Stacks.{hyphen, stacked, taken_back, with_text};
+ghost use Rattle.profile_stack.specs.Stacks.{hyphen, stacked, taken_back, unsigned, with_text};
 
 use indexmap::IndexSet;
 use std::alloc::{AllocError, Global};
@@ -34,11 +34,21 @@ fn count<'a>(standing: &mut IndexSet<&'a str>, text: &'a str) -> Result<(), Allo
 }
 
 /// The item that the text takes back.
-fn taken_back(text: &str) -> Option<&str>
+pub fn taken_back(text: &str) -> Option<&str>
     ensures { MatchOption result (taken_back text.now ≡ None)
         (λ item. taken_back text.now ≡ Some item.now) }
 {
     text.strip_prefix('-')
+}
+
+/// The text without a hyphen before it.
+pub fn unsigned(text: &str) -> &str
+    ensures { result.now ≡ unsigned text.now }
+{
+    match taken_back(text) {
+        Some(item) => item,
+        None => text,
+    }
 }
 
 fn in_order<'a>(alloc: Global, standing: IndexSet<&'a str>) -> Result<Vec<&'a str>, AllocError>

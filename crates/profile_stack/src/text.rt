@@ -11,11 +11,7 @@ use file_tree::{Kind, Object, Path, Tree, TreeFault};
 use std::alloc::{AllocError, Global};
 
 /// The text of the file at the path. A missing file is empty, and a link counts as missing.
-pub(crate) fn read_text<T: Tree>(
-    alloc: Global,
-    tree: &mut T,
-    path: &Path,
-) -> Result<Vec<u8>, TreeFault>
+pub fn read_text<T: Tree>(alloc: Global, tree: &mut T, path: &Path) -> Result<Vec<u8>, TreeFault>
     ensures text { IsTrue T.tells → IfOk result
         (λ v. v.items ≡ text_of ((T.story tree.old).now.holds path.now)) }
     ensures same { IsTrue T.tells → T.story tree.new ≡ T.story tree.old }
