@@ -1,14 +1,13 @@
 -- Which values the variables of the files may have, and the first assignment with another one.
 use Rattle.std.specs.Prelude.{◌≡◌, ◌⊎◌, ℕ, false, true, List, [], ◌∷◌, ◌++◌, codes, if◌then◌else◌, ⊤}
 use Rattle.std.specs.List.{AllByRecursion, list_any}
-use Rattle.std.specs.Option.{unwrap_or}
 use Rattle.config_text.specs.Values.{IsKey}
 use Rattle.config_text.specs.declared.assignment.Assignment.{Assignment}
 use Rattle.dep_group.specs.Words.{words_of}
 use Rattle.pms_names.specs.Flags.{has}
 use Rattle.pms_names.specs.Names.{IsName}
 use Rattle.pms_names.specs.declared.kind.Kind.TheVariants.{Flag}
-use Rattle.profile_stack.specs.Stacks.{taken_back}
+use Rattle.profile_stack.specs.Stacks.{unsigned}
 use Rattle.use_flags.specs.Changes.{IsChange}
 use Rattle.config_vars.specs.Values.{expanded, flag_of, is_clear, is_of}
 use Rattle.config_vars.specs.declared.fault.VarFault.{VarFault}
@@ -16,10 +15,6 @@ use Rattle.config_vars.specs.declared.fault.VarFault.TheVariants.{Memory, Value}
 use Rattle.config_vars.specs.declared.grammar.Grammar.{Grammar}
 use Rattle.config_vars.specs.declared.grammar.Grammar.TheVariants.{Changes, Keys}
 use Rattle.config_vars.specs.declared.vars.FileVars.{FileVars}
-
--- the word without a hyphen before it
-abbrev pub unsigned : List ℕ → List ℕ
-unsigned word = unwrap_or (taken_back word) word
 
 -- the word is one that such a variable may have: a change of flags; or `-*`, or with a hyphen
 -- before it or without one the KEY of a variable

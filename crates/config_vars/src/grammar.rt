@@ -4,11 +4,12 @@ ghost use Rattle.config_text.specs.Values.{IsKey, begins_key, is_key_byte};
 ghost use Rattle.dep_group.specs.Views.{spot};
 ghost use Rattle.dep_group.specs.Words.{texts};
 ghost use Rattle.use_flags.specs.Changes.{IsChange};
-ghost use Rattle.config_vars.specs.Judged.{AreItemsOf, AreWordsOf, IsItemOf, IsWordOf, unsigned};
+ghost use Rattle.config_vars.specs.Judged.{AreItemsOf, AreWordsOf, IsItemOf, IsWordOf};
 
 use crate::stack::flag_of;
 use dep_group::{Word, words};
 use pms_names::Flag;
+use profile_stack::unsigned;
 use std::alloc::{AllocError, Global};
 
 /// Which words a variable may have.
@@ -79,16 +80,6 @@ fn is_item_of(alloc: Global, variable: &str, word: &str) -> Result<bool, AllocEr
 {
     let flag = flag_of(alloc, variable, unsigned(word))?;
     Ok(word == "-*" || Flag::is_one(flag.as_str().as_bytes()))
-}
-
-/// The word without a hyphen before it.
-fn unsigned(word: &str) -> &str
-    ensures { result.now ≡ unsigned word.now }
-{
-    match word.strip_prefix('-') {
-        Some(rest) => rest,
-        None => word,
-    }
 }
 
 fn is_key(bytes: &[u8]) -> bool

@@ -4,12 +4,12 @@ use Rattle.std.specs.Prelude.{◌++◌, ℕ, Bool, ◌||◌, false, List, [], �
 use Rattle.std.specs.List.{flat_map}
 use Rattle.std.specs.Option.{is_none, option_map_or, option_or}
 use Rattle.config_text.specs.declared.assignment.Assignment.{Assignment}
-use Rattle.config_vars.specs.Judged.{counted, unsigned}
+use Rattle.config_vars.specs.Judged.{counted}
 use Rattle.config_vars.specs.Values.{expanded, flag_of, is_clear, last_value, stacked}
 use Rattle.config_vars.specs.declared.vars.FileVars.{FileVars}
 use Rattle.dep_group.specs.Words.{words_of}
 use Rattle.pms_names.specs.Flags.{has}
-use Rattle.profile_stack.specs.Stacks.{taken_back}
+use Rattle.profile_stack.specs.Stacks.{taken_back, unsigned}
 use Rattle.offer_flags.specs.declared.word.FlagWord.{FlagWord}
 
 -- the variable's values are flags: it is USE, or one of those that are expanded

@@ -1,11 +1,11 @@
-ghost use Rattle.std.specs.Prelude.{◌≡◌, MatchOption, None, Some};
+ghost use Rattle.std.specs.Prelude.{◌≡◌};
 ghost use Rattle.std.specs.Option.{is_none};
-ghost use Rattle.config_vars.specs.Judged.{unsigned};
 ghost use Rattle.profile_stack.specs.Stacks.{taken_back};
 ghost use Rattle.offer_flags.specs.Words.{said, said_by, said_of};
 
 use crate::word::FlagWord;
 use pms_names::Flag;
+use profile_stack::{taken_back, unsigned};
 
 /// What the last of the words that speaks of the flag says of it: that it is on, or that it is off.
 pub(crate) fn said(words: &[FlagWord], flag: &Flag) -> Option<bool>
@@ -41,16 +41,6 @@ fn said_of(word: &str, item: &[u8]) -> Option<bool>
     None
 }
 
-/// The word without a hyphen before it.
-fn unsigned(word: &str) -> &str
-    ensures { result.now ≡ unsigned word.now }
-{
-    match taken_back(word) {
-        Some(rest) => rest,
-        None => word,
-    }
-}
-
 /// Whether no hyphen stands before the word.
 fn is_added(word: &str) -> bool
     ensures { result ≡ is_none (taken_back word.now) }
@@ -59,12 +49,4 @@ fn is_added(word: &str) -> bool
         Some(_) => false,
         None => true,
     }
-}
-
-/// What stands behind the word's hyphen.
-fn taken_back(word: &str) -> Option<&str>
-    ensures { MatchOption result (taken_back word.now ≡ None)
-        (λ rest. taken_back word.now ≡ Some rest.now) }
-{
-    word.strip_prefix('-')
 }
