@@ -2,6 +2,5 @@ pub mod Chains
 pub mod FolderLemmas
 pub mod Lines
 pub mod NoFault
-pub mod Signs
 pub mod WholeLemmas
 pub mod WordLemmas

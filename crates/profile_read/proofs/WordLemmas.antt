@@ -12,9 +12,10 @@ use Rattle.dep_atom.specs.declared.fault.AtomFault.TheVariants as atoms
 use Rattle.dep_group.specs.Views.{spot}
 use Rattle.dep_group.specs.Words.{spaced_after, texts}
 use Rattle.dep_group.specs.declared.word.Word.{Word}
+use Rattle.profile_stack.specs.Stacks.{unsigned}
 use Rattle.use_flags.specs.Changes.{IsChange}
 use Rattle.profile_read.specs.Faults.{ChangesNothing, IsBadBy, NamesNothing}
-use Rattle.profile_read.specs.Items.{IsPlainAtom, NamesPackages, is_signed, unsigned}
+use Rattle.profile_read.specs.Items.{IsPlainAtom, NamesPackages, is_signed}
 use Rattle.profile_read.specs.declared.fault.LineFault.{LineFault}
 use Rattle.profile_read.specs.declared.fault.LineFault.TheVariants.{Memory, NoAtom, NoChange}
 use Rattle.profile_read.specs.declared.item.Entry.{Entry}

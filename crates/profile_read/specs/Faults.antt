@@ -4,11 +4,12 @@ use Rattle.std.specs.List.{AllByRecursion}
 use Rattle.dep_atom.specs.declared.atom.Atom.{Atom}
 use Rattle.dep_group.specs.Words.{words_of}
 use Rattle.profile_stack.specs.Machine.{IsOfMachine}
+use Rattle.profile_stack.specs.Stacks.{unsigned}
 use Rattle.profile_stack.specs.declared.fault.ProfileFault.{ProfileFault}
 use Rattle.profile_stack.specs.declared.fault.ProfileFault.TheVariants as stacks
 use Rattle.profile_stack.specs.declared.line_file.FileLine.{FileLine}
 use Rattle.use_flags.specs.Changes.{IsChange}
-use Rattle.profile_read.specs.Items.{AreEntries, IsPlainAtom, unsigned}
+use Rattle.profile_read.specs.Items.{AreEntries, IsPlainAtom}
 use Rattle.profile_read.specs.declared.fault.LineFault.{LineFault}
 use Rattle.profile_read.specs.declared.fault.LineFault.TheVariants.{Memory, NoAtom, NoChange}
 use Rattle.profile_read.specs.declared.fault.ReadFault.{ReadFault}

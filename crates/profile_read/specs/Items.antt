@@ -1,13 +1,13 @@
 -- What a line of a line file says (PMS 5.2.4 to 5.2.11): an atom, an atom and changes of flags or
 -- keywords, or changes of flags alone; a hyphen before the atom takes equal items back.
-use Rattle.std.specs.Prelude.{◌≡◌, ◌==◌, ℕ, Bool, false, List, [], ◌∷◌, None, Some, if◌then◌else◌, length, map}
+use Rattle.std.specs.Prelude.{◌≡◌, ◌==◌, ℕ, Bool, false, List, [], ◌∷◌, None, Some, length, map}
 use Rattle.std.specs.List.{AllByRecursion, AllZip}
 use Rattle.dep_atom.specs.Atoms.{IsAtom}
 use Rattle.dep_atom.specs.Text.{atom_text}
 use Rattle.dep_atom.specs.declared.atom.Atom.{Atom}
 use Rattle.dep_atom.specs.declared.atom.Block.TheVariants.{No}
 use Rattle.dep_group.specs.Words.{spaced, words_of}
-use Rattle.profile_stack.specs.Stacks.{hyphen}
+use Rattle.profile_stack.specs.Stacks.{hyphen, unsigned}
 use Rattle.profile_stack.specs.declared.line_file.FileLine.{FileLine}
 use Rattle.use_flags.specs.Changes.{IsChange, change_of}
 use Rattle.use_flags.specs.declared.change.Change.{Change}
@@ -19,11 +19,6 @@ use Rattle.profile_read.specs.declared.item.Form.TheVariants as forms
 abbrev pub is_signed : List ℕ → Bool
 is_signed [] = false
 is_signed (b ∷ bytes) = b == hyphen
-
--- the word without that hyphen
-abbrev pub unsigned : List ℕ → List ℕ
-unsigned [] = []
-unsigned (b ∷ bytes) = if b == hyphen then bytes else b ∷ bytes
 
 -- the word is this atom, which has no block
 pub record IsPlainAtom (word : List ℕ) (atom : Atom) : Type 0 where

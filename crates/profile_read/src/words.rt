@@ -1,4 +1,4 @@
-ghost use Rattle.std.specs.Prelude.{◌≡◌, ◌↔◌, ◌⊎◌, ◌∷◌, [], IfErr, IfOk, IsTrue, List, MatchOption};
+ghost use Rattle.std.specs.Prelude.{◌≡◌, ◌↔◌, ◌⊎◌, ◌∷◌, [], IfErr, IfOk, IsTrue, List};
 ghost use Rattle.std.specs.Prelude.{map, ℕ};
 ghost use Rattle.std.specs.List.{AllByRecursion};
 ghost use Rattle.dep_atom.specs.declared.atom.Atom.{Atom as AtomValue};
@@ -6,10 +6,10 @@ ghost use Rattle.dep_atom.specs.declared.atom.Block.TheVariants.{No};
 ghost use Rattle.dep_atom.specs.declared.fault.AtomFault.TheVariants as atoms;
 ghost use Rattle.dep_group.specs.Views.{spot};
 ghost use Rattle.dep_group.specs.Words.{spaced_after, texts};
-ghost use Rattle.use_flags.specs.Changes.{IsChange, change_of};
+ghost use Rattle.use_flags.specs.Changes.{IsChange};
 ghost use Rattle.profile_read.specs.Faults.{IsBadBy, NamesNothing};
 ghost use Rattle.profile_read.specs.Items.{AreChanges, IsFlagLine, IsKeywordLine, IsPlainAtom};
-ghost use Rattle.profile_read.specs.Items.{IsRule, NamesPackages, Says, is_signed, unsigned};
+ghost use Rattle.profile_read.specs.Items.{IsRule, NamesPackages, Says, is_signed};
 ghost use Rattle.profile_read.specs.declared.fault.LineFault.TheVariants.{Memory, NoAtom, NoChange};
 ghost use Rattle.profile_read.specs.declared.item.Form.TheVariants as forms;
 
@@ -18,9 +18,9 @@ use crate::item::{Entry, Form, Item};
 use basics::Text;
 use dep_atom::{Atom, AtomFault, Block};
 use dep_group::{Word, push_word};
-use pms_names::{Flag, NameFault};
+use profile_stack::unsigned;
 use std::alloc::{AllocError, Global};
-use use_flags::Change;
+use use_flags::{Change, read_change};
 
 /// What the words of a line of this form say.
 pub(crate) fn read_words(alloc: Global, form: Form, words: &[Word]) -> Result<Entry, LineFault>
@@ -115,16 +115,6 @@ fn is_signed(word: &[u8]) -> bool
     }
 }
 
-/// The word without a hyphen before it.
-fn unsigned(word: &str) -> &str
-    ensures { result.now ≡ unsigned word.now }
-{
-    match word.strip_prefix('-') {
-        Some(rest) => rest,
-        None => word,
-    }
-}
-
 /// The atom that the word is. It may have no block.
 fn plain_atom(alloc: Global, word: &str) -> Result<Atom, LineFault>
     ensures found { IfOk result (IsPlainAtom word.now) }
@@ -173,7 +163,7 @@ fn changes_of(alloc: Global, words: &[Word]) -> Result<Vec<Change>, LineFault>
 {
     let mut changes = Vec::new(alloc);
     for word in words {
-        let Some(change) = change_of(alloc, word.text.as_bytes())? else {
+        let Some(change) = read_change(alloc, word.text.as_bytes())? else {
             return Err(LineFault::NoChange);
         };
         changes.push(change)?;
@@ -190,26 +180,6 @@ fn keywords_of(alloc: Global, words: &[Word]) -> Result<Vec<Text>, AllocError>
         keywords.push(Text::new(alloc, word.text)?)?;
     }
     Ok(keywords)
-}
-
-/// The change that the word is, if it is one.
-fn change_of(alloc: Global, word: &[u8]) -> Result<Option<Change>, AllocError>
-    ensures { IfOk result (λ r. MatchOption r (¬ IsChange word.now)
-        (λ change. IsChange word.now × (change ≡ change_of word.now))) }
-{
-    if word == b"-*".as_slice() {
-        return Ok(Some(Change::Clear));
-    }
-    let (takes, name) = match word {
-        [b'-', name @ ..] => (true, name),
-        _ => (false, word),
-    };
-    match Flag::from_bytes(alloc, name) {
-        Ok(flag) if takes => Ok(Some(Change::Take(flag))),
-        Ok(flag) => Ok(Some(Change::Add(flag))),
-        Err(NameFault::Memory) => Err(AllocError),
-        Err(_) => Ok(None),
-    }
 }
 
 /// The first word and the others, with one space between each two. There may be no first one.
