@@ -1,6 +1,6 @@
 ghost use Rattle.std.specs.Prelude.{◌≡◌, ℕ, IfOk, List, OnOk, map};
 ghost use Rattle.pms_names.specs.Flags.{has};
-ghost use Rattle.use_flags.specs.Changes.{changed, has_after};
+ghost use Rattle.use_flags.specs.Changes.{has_after};
 ghost use Rattle.candidate_rules.specs.Items.{changes_for, counts_for, is_turned_on};
 
 use crate::meaning::is_meant;
@@ -10,7 +10,7 @@ use pms_names::Flags;
 use profile_read::Item;
 use std::alloc::{AllocError, Global};
 use std::marker::Model;
-use use_flags::Change;
+use use_flags::{Change, apply_one};
 
 /// Items of flags, which are found by the names of their atoms. Contracts see their list.
 #[derive(Drop)]
@@ -109,23 +109,7 @@ fn change_all(flags: &mut Flags, changes: &[Change]) -> Result<(), AllocError>
         has flags.new flag ≡ has_after changes.now flag (has flags.old flag)) }
 {
     for change in changes {
-        change_one(flags, change)?;
-    }
-    Ok(())
-}
-
-fn change_one(flags: &mut Flags, change: &Change) -> Result<(), AllocError>
-    ensures { OnOk result ((flag : List ℕ) →
-        has flags.new flag ≡ changed flag (has flags.old flag) change.now) }
-{
-    match change {
-        Change::Add(flag) => {
-            let _ = flags.insert(flag.try_clone()?)?;
-        }
-        Change::Take(flag) => {
-            let _ = flags.remove(flag);
-        }
-        Change::Clear => flags.clear(),
+        apply_one(flags, change)?;
     }
     Ok(())
 }

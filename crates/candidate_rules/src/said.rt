@@ -1,10 +1,10 @@
-ghost use Rattle.std.specs.Prelude.{◌≡◌, ◌++◌, ℕ, List, [], MatchOption, None, OnOk};
+ghost use Rattle.std.specs.Prelude.{◌≡◌, ◌++◌, ℕ, List, [], OnOk};
 ghost use Rattle.std.specs.Prelude.{Some, bytes_eq, codes, false, if◌then◌else◌};
 ghost use Rattle.std.specs.Option.{option_or};
-ghost use Rattle.profile_stack.specs.Stacks.{taken_back};
 ghost use Rattle.candidate_rules.specs.Heard.{Remembers, said_by, told};
 
 use basics::Text;
+use profile_stack::taken_back;
 use std::alloc::{AllocError, Global};
 use std::collections::BTreeMap;
 
@@ -78,14 +78,6 @@ impl<'a> Said<'a> {
             None => None,
         }
     }
-}
-
-/// What the word takes back.
-fn taken_back(word: &str) -> Option<&str>
-    ensures { MatchOption result (taken_back word.now ≡ None)
-        (λ taken. taken_back word.now ≡ Some taken.now) }
-{
-    word.strip_prefix('-')
 }
 
 fn is_star(taken: &str) -> bool
