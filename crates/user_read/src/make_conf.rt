@@ -1,12 +1,12 @@
 ghost use Rattle.std.specs.Prelude.{◌≡◌, ◌⊎◌, IfErr, IfOk, IsErrOf, IsTrue};
 ghost use Rattle.file_tree.specs.Disk.{CountsFault};
 ghost use Rattle.profile_stack.specs.Machine.{IsOfMachine};
-ghost use Rattle.profile_stack.specs.Texts.{text_fault, text_of};
+ghost use Rattle.profile_stack.specs.Texts.{text_fault};
 ghost use Rattle.user_read.specs.Files.{AreOfConf, IsConfFault, make_conf};
 
 use config_text::{Assignment, TextFault, assignments};
-use file_tree::{Kind, Object, Path, Tree, TreeFault};
-use profile_stack::ProfileFault;
+use file_tree::{Path, Tree};
+use profile_stack::{ProfileFault, read_text};
 use std::alloc::{AllocError, Global};
 
 /// What the user's `make.conf` sets, where these variables are known. A missing file sets none.
@@ -35,30 +35,6 @@ fn path_of_conf(alloc: Global) -> Result<Path, AllocError>
     ensures { IfOk result (λ p. p ≡ make_conf) }
 {
     Path::parse(alloc, "etc/portage/make.conf").map_err(|_| AllocError)
-}
-
-/// The text of the file at the path. A missing file is empty, and a link counts as missing.
-fn read_text<T: Tree>(alloc: Global, tree: &mut T, path: &Path) -> Result<Vec<u8>, TreeFault>
-    ensures text { IsTrue T.tells → IfOk result
-        (λ v. v.items ≡ text_of ((T.story tree.old).now.holds path.now)) }
-    ensures same { IsTrue T.tells → T.story tree.new ≡ T.story tree.old }
-    ensures faults { CountsFault (IsErrOf result TreeFault.Failed) (T.faults tree.old)
-        (T.faults tree.new) }
-{
-    let object = tree.read(path)?;
-    Ok(text_of(alloc, object))
-}
-
-fn text_of(alloc: Global, object: Option<Object>) -> Vec<u8>
-    ensures { result.items ≡ text_of object }
-{
-    match object {
-        Some(Object { kind, bytes }) => match kind {
-            Kind::Plain | Kind::Exec => bytes,
-            Kind::Link => Vec::new(alloc),
-        },
-        None => Vec::new(alloc),
-    }
 }
 
 /// What the fault of the file's text is called.
