@@ -13,6 +13,7 @@ use crate::fault::FlagFault;
 use dep_group::{Word, words};
 use pms_names::{Flag, Flags, NameFault};
 use std::alloc::{AllocError, Global};
+use use_flags::flag_of;
 
 /// The flags that the text of USE has.
 pub fn read_flags(alloc: Global, text: &str) -> Result<Flags, FlagFault>
@@ -66,15 +67,6 @@ fn flag_in(word: &[u8], marked: bool) -> &[u8]
     ensures { result.now ≡ flag_in marked word.now }
 {
     if marked { flag_of(word) } else { word }
-}
-
-fn flag_of(word: &[u8]) -> &[u8]
-    ensures { result.now ≡ flag_of word.now }
-{
-    match word {
-        [b'+' | b'-', flag @ ..] => flag,
-        _ => word,
-    }
 }
 
 fn flag_from(alloc: Global, bytes: &[u8]) -> Result<Option<Flag>, AllocError>
