@@ -10,6 +10,11 @@
 //! as a tree are the tree's printed words.
 //!
 //! **Only tested**: the shapes of words, and where they stand.
+//!
+//! ```
+//! let words = words(alloc, text)?;
+//! let trees = read_text(alloc, text)?;
+//! ```
 #![tactic(auto)]
 
 mod law;

@@ -4,6 +4,8 @@
 //!
 //! **Proved**: a text is read exactly where it writes a digest, as just that digest.
 //!
+//! **Only tested**: nothing; `tests/texts` shows examples, by lines of CONTENTS and cache entries.
+//!
 //! ```
 //! let digest = digest_from(b"900150983cd24fb0d6963f7d28e17f72");
 //! ```

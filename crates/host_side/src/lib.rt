@@ -6,13 +6,21 @@
 //! a folder, and a [`CommandBuilder`] has a program prepare that folder first, which is started with
 //! the words of the order: `category/package-version`, `slot/subslot`, and each flag that is on.
 //!
-//! No contract can say what a disk holds, so these types tell no content. What is proved is that
-//! each call is safe and returns, that a failure is counted, that a list of paths is in byte order,
-//! that the image of a package is sought in its own folder, that the program which builds it has the
-//! words of its order (`order_words` of `specs/Words.antt`), and that no path is the name of what
-//! isn't written whole yet. What reaches a real disk is tested alone, by `tests/host`. Each failure
-//! is told on standard error: the call, the path, and the system's error. It stands on `basics`,
-//! `build_pool`, `dep_atom` and `file_tree`.
+//! **A contract sees** the counts of failures and the builders' numbers. What a disk holds no
+//! contract can say, so these types tell no content.
+//!
+//! **Proved**: each call is safe and returns, a failure is counted, a list of paths is in byte
+//! order, the image of a package is sought in its own folder, the program which builds it has the
+//! words of its order (`order_words` of `specs/Words.antt`), and no path is the name of what isn't
+//! written whole yet.
+//!
+//! **Only tested**: what reaches a real disk, by `tests/host`. Each failure is told on standard
+//! error: the call, the path, and the system's error.
+//!
+//! ```
+//! let mut tree = HostTree::open(rt, root)?;
+//! let held = tree.read(&path)?;
+//! ```
 #![tactic(auto)]
 
 mod builders;

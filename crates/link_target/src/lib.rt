@@ -1,6 +1,10 @@
 //! The texts that a link of a package may lead to.
 //!
+//! **A contract sees** a target as its bytes.
+//!
 //! **Proved**: a text is told to be a target exactly where it is one.
+//!
+//! **Only tested**: nothing; `tests/disk` shows examples, by whole runs.
 //!
 //! ```
 //! let good = is_target(&object.bytes);

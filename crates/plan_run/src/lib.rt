@@ -12,6 +12,8 @@
 //! device failed. What was written are the lines of the acknowledged groups and a beginning of the
 //! next. A stop for the device, the output or a builder comes only where its count of faults rose.
 //!
+//! **Only tested**, within whole runs: that with ample memory all groups of a plan are merged.
+//!
 //! ```
 //! let merged = merge_plan(alloc, tree, sink, &mut pool, &installed, plan.groups(), task);
 //! ```
