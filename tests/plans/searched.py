@@ -29,6 +29,63 @@ BROKEN = (
 )
 
 
+# the variant with its flag on, which comes behind the one without a flip
+WITH_FLAG = "b-1;IUSE x,b-1;IUSE x;USE x"
+# its flags don't go together
+BAD_FLAGS = "+a-1;IUSE x;REQUIRED_USE x"
+
+# how, what is wanted, the lines, and the whole tree in preorder
+WHOLE_TREES = [
+    (("keep", "c/a", "+a-1;DEPEND c/zz"), ": wanted; 0=+: good;"),
+    (("keep", "c/b c/a", "a-1", "b-1"), ": wanted; 1=v0: wanted; 1=v0 0=v0: good;"),
+    (
+        ("keep", "c/a", "a-1;RDEPEND c/c c/b", "b-1", "c-1"),
+        ": wanted; 0=v0: RDEPEND 0; 0=v0 2=v0: RDEPEND 0; 0=v0 2=v0 1=v0: good;"
+        " 0=v0 1=v0: RDEPEND 0; 0=v0 1=v0 2=v0: good;",
+    ),
+    (
+        ("keep", "c/a", "a-1;RDEPEND || ( c/b c/c )", "b-1", "c-1"),
+        ": wanted; 0=v0: RDEPEND 0; 0=v0 1=v0: good; 0=v0 2=v0: good;",
+    ),
+    (
+        ("keep", "c/a", "a-1;DEPEND c/b;RDEPEND c/c", "b-1", "c-1"),
+        ": wanted; 0=v0: RDEPEND 0; 0=v0 2=v0: DEPEND 0; 0=v0 2=v0 1=v0: good;",
+    ),
+    (
+        ("keep", "c/a", "a-1;IUSE x;RDEPEND c/b[x]", WITH_FLAG),
+        ": wanted; 0=v0: RDEPEND 0; 0=v0 1=v1: good;",
+    ),
+    (
+        ("keep", "c/a", "a-2;IUSE x;REQUIRED_USE x,a-1"),
+        ": wanted; 0=v0: required 0; 0=v1: good;",
+    ),
+    (
+        ("keep", "c/b", f"{BAD_FLAGS},a-2,a-1", "b-1"),
+        ": wanted; 1=v0: required 0; 1=v0 0=v0: good; 1=v0 0=v1: good; 1=v0 0=-: absence 0;",
+    ),
+    (
+        ("keep", "c/b", BAD_FLAGS, "b-1", "c-1;RDEPEND !c/a"),
+        ": wanted; 1=v0: required 0; 1=v0 0=-: absence 0; 1=v0 0=- 2=v0: good;",
+    ),
+    (
+        ("keep", "c/a", "a-1", "+b-1;RDEPEND !c/a,b-2"),
+        ": wanted; 0=v0: conflict 1 0; 0=v0 1=v0: good; 0=v0 1=-: absence 1;",
+    ),
+    (
+        ("keep", "c/a", "a-1;RDEPEND !<c/b-2", "+b-1,b-2"),
+        ": wanted; 0=v0: conflict 0 1; 0=v0 1=v0: good; 0=v0 1=-: good;",
+    ),
+    (
+        ("keep", "c/a:0 c/a:1", "a-1", "a-1:1,a-2:1"),
+        ": wanted; 0=v0: wanted; 0=v0 1=v1: good; 0=v0 1=v0: conflict 0 1;",
+    ),
+    (
+        ("keep", "=c/a-2", "+a-1,a-2", "+c-1;RDEPEND =c/a-1,c-2"),
+        ": wanted; 0=v0: RDEPEND 1; 0=v0 1=v0: good; 0=v0 1=-: absence 1;",
+    ),
+]
+
+
 def check_walk(universe, tree):
     return check_plans([(case("walk", *universe), tree)])
 
@@ -49,6 +106,11 @@ def what_is_broken_is_replaced():
     """A package that is installed and needs what isn't there is replaced, or it would have to go
     without a conflict."""
     return check_walk(*BROKEN)
+
+
+def whole_trees():
+    """Each obligation and each option, in their order."""
+    return check_plans([(case("walk", *universe), tree) for universe, tree in WHOLE_TREES])
 
 
 def backtrack_limits():
@@ -171,6 +233,7 @@ TESTS = [
     the_greater_version_comes_first,
     what_is_kept_comes_first_without_an_update,
     what_is_broken_is_replaced,
+    whole_trees,
     backtrack_limits,
     jump_over_an_unrelated_choice,
     flag_change_solves,
