@@ -15,9 +15,9 @@ use Rattle.file_tree.specs.Thing.{Thing}
 use Rattle.file_tree.specs.declared.objects.Entry.{Entry}
 use Rattle.image_fit.specs.Images as images
 use Rattle.journal.specs.Group.{Group}
-use Rattle.merge_record.specs.Judging.{is_in}
+use Rattle.journal.specs.Judging.{is_in}
 use Rattle.merge_record.specs.declared.record.OwnerKey.{OwnerKey}
-use Rattle.merge_record.proofs.Form.{are_free-words, has_if_in, in_if_has}
+use Rattle.journal.proofs.Form.{are_free-words, has_if_in, in_if_has}
 use Rattle.merge_site.specs.Booking.{dying_at, wish_for}
 use Rattle.merge_site.specs.declared.group.SiteGroup.{SiteGroup}
 use Rattle.owner_book.specs.Book as books

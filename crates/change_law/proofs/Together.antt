@@ -8,8 +8,8 @@ use Rattle.basics.proofs.Membership.{has-append_cases, has-append_left, has-appe
 use Rattle.basics.proofs.Tests.{none_is_not_some}
 use Rattle.file_tree.specs.declared.objects.Entry.{Entry}
 use Rattle.image_fit.specs.Images as images
-use Rattle.merge_record.specs.Judging.{is_in}
-use Rattle.merge_record.proofs.Form.{has_if_in, in_if_has}
+use Rattle.journal.specs.Judging.{is_in}
+use Rattle.journal.proofs.Form.{has_if_in, in_if_has}
 use Rattle.merge_site.specs.Booking.{wish_for}
 use Rattle.owner_book.specs.Book as books
 use Rattle.owner_book.specs.declared.wish.Wish.{Wish}

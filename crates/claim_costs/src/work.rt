@@ -4,7 +4,7 @@ ghost use Rattle.group_run.specs.Turns.{numbers};
 use crate::parts::filed_of;
 use crate::still::StillTree;
 use group_run::{Batch, Merged, merge_groups};
-use merge_record::gate_path;
+use journal::gate_path;
 use owner_book::{OwnerBook, Wish};
 use recovery::recover;
 use std::alloc::{AllocError, Global};

@@ -8,10 +8,10 @@ use Rattle.basics.proofs.Membership.{has-map, has-map_back}
 use Rattle.basics.proofs.Tests.{none_is_not_some, or_rest}
 use Rattle.file_tree.specs.Disk.{Map}
 use Rattle.file_tree.specs.Paths.{is_below}
-use Rattle.merge_record.specs.Judging.{is_in, path_of}
+use Rattle.journal.specs.Judging.{is_in, path_of}
 use Rattle.merge_record.specs.declared.record.OwnerKey.{OwnerKey}
-use Rattle.merge_record.proofs.Form.{has_if_in}
-use Rattle.merge_record.proofs.Free.{is_in-append}
+use Rattle.journal.proofs.Form.{has_if_in}
+use Rattle.journal.proofs.Free.{is_in-append}
 use Rattle.dep_atom.specs.Ids.{id_text}
 use Rattle.dep_atom.specs.declared.package.PackageId.{PackageId}
 use Rattle.journal.specs.Group.{covers}

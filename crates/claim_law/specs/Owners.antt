@@ -2,7 +2,7 @@
 use Rattle.std.specs.Prelude.{◌≡◌, ◌⊎◌, ℕ, Bool, true, false, List, Option, Some, map, IsSome}
 use Rattle.basics.specs.Members.{AreDistinct, Has}
 use Rattle.file_tree.specs.Disk.{Map}
-use Rattle.merge_record.specs.Judging.{path_of}
+use Rattle.journal.specs.Judging.{path_of}
 use Rattle.merge_record.specs.declared.record.OwnerKey.{OwnerKey}
 use Rattle.owner_book.specs.Book as books
 use Rattle.owner_book.specs.declared.wish.Wish.{Wish}

@@ -6,10 +6,10 @@ use Rattle.basics.specs.Members.{Has}
 use Rattle.basics.proofs.Tests.{none_is_not_some}
 use Rattle.file_tree.specs.Disk.{Map}
 use Rattle.file_tree.specs.Paths.{is_below}
-use Rattle.merge_record.specs.Judging.{is_in, path_of}
-use Rattle.merge_record.specs.Names.{jobs}
-use Rattle.merge_record.proofs.Form.{in_if_has}
-use Rattle.merge_record.proofs.Free.{is_in-append}
+use Rattle.journal.specs.Judging.{is_in, path_of}
+use Rattle.journal.specs.Names.{jobs}
+use Rattle.journal.proofs.Form.{in_if_has}
+use Rattle.journal.proofs.Free.{is_in-append}
 use Rattle.dep_atom.proofs.Joined.{ComesApart}
 use Rattle.vdb_text.specs.Files.{record_path}
 use Rattle.vdb_text.proofs.Packages.{OneSpelling}

@@ -5,8 +5,8 @@ use Rattle.basics.proofs.Membership.{has-append_right, has-map, has-map_back, ha
 use Rattle.file_tree.specs.Disk.{Disk, Map, Story}
 use Rattle.file_tree.specs.Moments.{Leaves}
 use Rattle.file_tree.proofs.Moments.{since_weaker}
-use Rattle.merge_record.specs.Open.{IsRising, open_groups}
-use Rattle.merge_record.specs.Recovered.{IsRecovered}
+use Rattle.journal.specs.Open.{IsRising, open_groups}
+use Rattle.journal.specs.Recovered.{IsRecovered}
 use Rattle.journal.specs.Group.{Group, applied, groups}
 use Rattle.journal.proofs.Forms.{groups_has}
 use Rattle.merge_core.specs.Event.{Admits, Event, answered, begun}

@@ -6,8 +6,8 @@ use Rattle.basics.specs.Members.{AreDistinct, Has}
 use Rattle.basics.proofs.Membership.{has-append_right, has-filter_back}
 use Rattle.file_tree.specs.Disk.{Map, Story}
 use Rattle.file_tree.specs.Paths.{is_below}
-use Rattle.merge_record.specs.Names.{jobs}
-use Rattle.merge_record.specs.Open.{IsRising, open_groups}
+use Rattle.journal.specs.Names.{jobs}
+use Rattle.journal.specs.Open.{IsRising, open_groups}
 use Rattle.dep_atom.proofs.Joined.{ComesApart}
 use Rattle.vdb_text.proofs.Packages.{OneSpelling}
 use Rattle.journal.specs.Group.{Group, applied, groups, with_groups}

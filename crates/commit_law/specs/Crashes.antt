@@ -3,7 +3,7 @@ use Rattle.std.specs.Prelude.{◌≡◌, ◌<◌, ℕ, true, List, [], ◌∷◌
 use Rattle.basics.specs.Members.{Has}
 use Rattle.file_tree.specs.Disk.{Disk, IsImage, Map, Story}
 use Rattle.file_tree.specs.Moments.{Since}
-use Rattle.merge_record.specs.Recovered.{IsRecovered}
+use Rattle.journal.specs.Recovered.{IsRecovered}
 use Rattle.journal.specs.Group.{applied}
 use Rattle.merge_core.specs.Order.{IsFirm, IsListed}
 use Rattle.merge_core.specs.Phase.{is_settled, was_opened}

@@ -22,7 +22,7 @@ pub fn crashes_recover_soundly()
     merge_core::events_keep();
     merge_core::runs_keep();
     merge_core::committed_is_run();
-    merge_record::open_groups_rise();
+    journal::open_groups_rise();
     commits_leave_sound_trees();
 }
 
@@ -34,7 +34,7 @@ pub fn good_claims_suffice()
     database_law::groups_keep_the_database();
     version_text::one_name_and_version();
     version_text::one_spelling();
-    merge_record::open_groups_rise();
+    journal::open_groups_rise();
 }
 
 /// A law, the two above together: whatever a crash leaves while an accepted plan is merged with good

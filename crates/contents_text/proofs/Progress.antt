@@ -6,9 +6,9 @@ use Rattle.std.proofs.Math.Bool.{or_comm}
 use Rattle.std.proofs.lemmas.List.{append-nil, length-append, map-append, take_at}
 use Rattle.basics.specs.Members.{AreDistinct, Has}
 use Rattle.basics.proofs.Membership.{distinct-append, has-map_back}
-use Rattle.merge_record.specs.Judging.{is_in}
-use Rattle.merge_record.proofs.Form.{has_if_in, in_if_has}
-use Rattle.merge_record.proofs.Free.{is_in-append}
+use Rattle.journal.specs.Judging.{is_in}
+use Rattle.journal.proofs.Form.{has_if_in, in_if_has}
+use Rattle.journal.proofs.Free.{is_in-append}
 use Rattle.contents_text.specs.Contents.{FirstFault, IsLine, Line, TellsOwned, dir, is_dropped, line_text, lines, obj, owned_by, owned_in, path_of, sym as link_line, unless_dropped}
 use Rattle.contents_text.specs.Cuts.{IsFirstLine}
 use Rattle.contents_text.specs.Reading.{Adds, Bars, Goes, Reads, Stops, item_of}

@@ -5,7 +5,7 @@ use Rattle.hex.specs.Hex.{encode_lower}
 use Rattle.basics.specs.Bytes.{is_digit}
 use Rattle.basics.specs.Members.{AreDistinct, Has}
 use Rattle.file_tree.specs.Paths.{is_below}
-use Rattle.merge_record.specs.Judging.{meets_jobs}
+use Rattle.journal.specs.Judging.{meets_jobs}
 use Rattle.merge_record.specs.Spelling.{IsPathText}
 use Rattle.vdb_text.specs.Files.{database_path}
 use Rattle.link_target.specs.Targets.{is_target}

@@ -1,7 +1,7 @@
 -- What reading CONTENTS line by line gives.
 use Rattle.std.specs.Prelude.{◌≡◌, ℕ, true, false, List, ◌++◌, Option, None, Some, map}
 use Rattle.basics.specs.Members.{Has}
-use Rattle.merge_record.specs.Judging.{is_in}
+use Rattle.journal.specs.Judging.{is_in}
 use Rattle.contents_text.specs.Contents.{IsLine, Line, dir, line_text, obj, owned_by, path_of, sym}
 use Rattle.contents_text.specs.declared.line.Item.{Item}
 use Rattle.contents_text.specs.declared.line.Item.TheVariants as items

@@ -8,10 +8,10 @@ use Rattle.basics.proofs.Tests.{none_is_not_some, some-IsSome}
 use Rattle.file_tree.specs.Disk.{Map}
 use Rattle.file_tree.specs.Paths.{is_below}
 use Rattle.file_tree.specs.Thing.{Thing}
-use Rattle.merge_record.specs.Judging.{is_in, meets_jobs}
-use Rattle.merge_record.specs.Names.{jobs}
+use Rattle.journal.specs.Judging.{is_in, meets_jobs}
+use Rattle.journal.specs.Names.{jobs}
 use Rattle.merge_record.specs.declared.record.Placement.{Placement}
-use Rattle.merge_record.proofs.Form.{has_if_in, in_if_has}
+use Rattle.journal.proofs.Form.{has_if_in, in_if_has}
 use Rattle.contents_text.specs.Contents.{is_dropped, meets, path_of}
 use Rattle.database_law.specs.Database.{Holds, IsCounted, IsDatabase, IsKept, IsOf, folder}
 use Rattle.database_law.specs.Fields.{Folder, Says}

@@ -11,7 +11,7 @@ use Rattle.basics.proofs.Membership.{has-append_cases, has-map_back}
 use Rattle.basics.proofs.Texts.{not_less}
 use Rattle.file_tree.specs.Paths.{is_below}
 use Rattle.file_tree.specs.Thing.{Thing}
-use Rattle.merge_record.specs.Names.{jobs}
+use Rattle.journal.specs.Names.{jobs}
 use Rattle.pms_names.specs.Flags.{IsRising, byte_order}
 use Rattle.contents_text.specs.Contents.{TellsOwned, Line, is_dropped, obj, sym as link_line, dir, owned_by, owned_in, path_of, unless_dropped}
 use Rattle.database_law.specs.Database.{IsCounted, IsFolderName, folder_name, has_slash, is_skipped}

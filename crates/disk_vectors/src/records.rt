@@ -1,10 +1,8 @@
 //! The journal's records, their names and digests.
 
 use file_tree::Path;
-use merge_record::{
-    Placement, Record, RecordFault, decode, decode_encode, digest_of, encode, gate_path,
-    jobs_folder, record_path, stage_path, token_path,
-};
+use journal::{gate_path, jobs_folder, record_path, stage_path, token_path};
+use merge_record::{Placement, Record, RecordFault, decode, decode_encode, digest_of, encode};
 use std::alloc::{AllocError, Global};
 use std::io;
 use tree_lines::{

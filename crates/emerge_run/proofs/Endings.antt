@@ -10,8 +10,8 @@ use Rattle.database_law.specs.Packages.{Installed}
 use Rattle.journal.specs.Group as journal
 use Rattle.journal.specs.Group.{applied}
 use Rattle.merge_core.specs.Trail.{IsAtRest}
-use Rattle.merge_record.specs.Names.{jobs}
-use Rattle.merge_record.specs.Recovered.{IsRecovered}
+use Rattle.journal.specs.Names.{jobs}
+use Rattle.journal.specs.Recovered.{IsRecovered}
 use Rattle.recovery.specs.Promise.{IsFaultOf}
 use Rattle.recovery.specs.declared.fault.RecoverFault.{RecoverFault}
 use Rattle.recovery.specs.declared.fault.RecoverFault.TheVariants as recovery

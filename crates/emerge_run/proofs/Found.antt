@@ -3,7 +3,7 @@ use Rattle.std.proofs.Common.{◌≡◌, ◌∙◌, ℕ, Bool, List, [], Result,
 use Rattle.std.specs.Prelude.{IfErr, IfOk, IsTrue}
 use Rattle.file_tree.specs.Disk.{Map, Story}
 use Rattle.file_tree.specs.declared.limits.Quantity.TheVariants.{Candidates, Groups, Packages, Paths, RecordBytes}
-use Rattle.merge_record.specs.Recovered.{IsRecovered}
+use Rattle.journal.specs.Recovered.{IsRecovered}
 use Rattle.database_law.specs.Packages.{Installed}
 use Rattle.plan_find.specs.declared.asked.Asked.{Asked}
 use Rattle.plan_find.specs.declared.ends.NoPlan.{NoPlan}

@@ -5,7 +5,7 @@ use Rattle.file_tree.specs.Disk.{Map, Story}
 use Rattle.file_tree.specs.declared.limits.Quantity.{Quantity}
 use Rattle.file_tree.specs.declared.limits.Quantity.TheVariants.{Candidates, Groups, Packages, Paths, RecordBytes}
 use Rattle.database_law.specs.Packages.{Installed}
-use Rattle.merge_record.specs.Recovered.{IsRecovered}
+use Rattle.journal.specs.Recovered.{IsRecovered}
 use Rattle.opening.specs.Faults as openings
 use Rattle.plan_law.specs.Plans.{Group}
 use Rattle.plan_find.specs.Choices.{AreChoices, Choices, IsFound, flips_of}

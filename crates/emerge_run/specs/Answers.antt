@@ -4,7 +4,7 @@ use Rattle.file_tree.specs.Disk.{Map}
 use Rattle.file_tree.specs.declared.limits.Quantity.TheVariants.{Groups, Paths, RecordBytes}
 use Rattle.merge_site.specs.declared.fault.ClaimStop.TheVariants as claims
 use Rattle.group_run.specs.declared.stop.Stop.TheVariants as stops
-use Rattle.merge_record.specs.Recovered.{IsRecovered}
+use Rattle.journal.specs.Recovered.{IsRecovered}
 use Rattle.owner_book.specs.declared.fault.Collision as books
 use Rattle.recovery.specs.Found.{HasTooManyGates}
 use Rattle.recovery.specs.Promise.{IsFaultOf}

@@ -5,7 +5,7 @@ use Rattle.file_tree.specs.declared.limits.Quantity.{Quantity}
 use Rattle.file_tree.specs.declared.limits.Quantity.TheVariants.{Candidates, Groups, Packages, Paths}
 use Rattle.database_law.specs.Database.{IsDatabase, IsTidy}
 use Rattle.database_law.specs.Packages.{Installed}
-use Rattle.merge_record.specs.Recovered.{IsRecovered}
+use Rattle.journal.specs.Recovered.{IsRecovered}
 use Rattle.opening.specs.Faults.{HasTooMuch}
 use Rattle.run_status.specs.declared.status.Part.TheVariants.{Command, Result}
 use Rattle.run_status.specs.declared.status.Status.{Status}

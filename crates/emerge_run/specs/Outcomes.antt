@@ -5,7 +5,7 @@ use Rattle.file_tree.specs.Moments.{Leaves, Since}
 use Rattle.file_tree.specs.declared.limits.Quantity.TheVariants.{Groups, Paths, RecordBytes}
 use Rattle.database_law.specs.Packages.{Installed}
 use Rattle.merge_core.specs.Trail.{IsAtRest}
-use Rattle.merge_record.specs.Recovered.{IsRecovered}
+use Rattle.journal.specs.Recovered.{IsRecovered}
 use Rattle.group_run.specs.Applied.{LeavesWith, ReadsWith, RecoversWith}
 use Rattle.run_law.specs.Ends.{IsKept}
 use Rattle.plan_law.specs.Plans.{Group}

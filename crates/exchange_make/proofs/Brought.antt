@@ -13,7 +13,7 @@ use Rattle.file_tree.specs.declared.objects.Entry.{Entry}
 use Rattle.image_fit.specs.Images as images
 use Rattle.image_fit.specs.Images.{is_good}
 use Rattle.image_fit.specs.Misfits.{AreGood}
-use Rattle.merge_record.specs.Judging.{meets_jobs}
+use Rattle.journal.specs.Judging.{meets_jobs}
 use Rattle.merge_record.specs.Spelling.{IsPathText}
 use Rattle.owner_book.specs.Rules.{is_reserved}
 use Rattle.contents_text.specs.Contents.{IsOwnable, is_dropped, path_of}

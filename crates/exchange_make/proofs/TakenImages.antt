@@ -9,7 +9,7 @@ use Rattle.file_tree.specs.declared.objects.Entry.{Entry}
 use Rattle.image_fit.specs.Images as images
 use Rattle.image_fit.specs.Images.{is_good}
 use Rattle.merge_record.specs.declared.record.OwnerKey.{OwnerKey}
-use Rattle.merge_record.proofs.Form.{are_free-words}
+use Rattle.journal.proofs.Form.{are_free-words}
 use Rattle.merge_site.specs.Booking.{dying_at, wish_for}
 use Rattle.merge_site.specs.declared.group.SiteGroup.{SiteGroup}
 use Rattle.owner_book.specs.Book as books

@@ -7,8 +7,8 @@ use Rattle.std.proofs.lemmas.Slice.Eq.{bytes_eq-Decides}
 use Rattle.basics.specs.Members.{AreDistinct, Has}
 use Rattle.basics.proofs.Membership.{distinct-push, has-append_cases, has-append_left, has-append_right}
 use Rattle.basics.proofs.Tests.{or-false}
-use Rattle.merge_record.specs.Judging.{HasSame, is_in}
-use Rattle.merge_record.proofs.Form.{has_if_in, in_if_has}
+use Rattle.journal.specs.Judging.{HasSame, is_in}
+use Rattle.journal.proofs.Form.{has_if_in, in_if_has}
 use Rattle.exchange_make.specs.Removing.{AddsFree}
 
 pub in_append : (xs ys : List (List ℕ)) (q : List ℕ) → is_in (xs ++ ys) q ≡ is_in xs q || is_in ys q

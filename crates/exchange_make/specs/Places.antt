@@ -1,7 +1,7 @@
 -- The places of folders, as they are looked up.
 use Rattle.std.specs.Prelude.{◌≡◌, ℕ, List, Option, None, Some, length, if◌then◌else◌}
 use Rattle.std.specs.BTreeMap.{get_by_text}
-use Rattle.merge_record.specs.Judging.{is_in}
+use Rattle.journal.specs.Judging.{is_in}
 use Rattle.run_law.specs.Openings.{place_of}
 use Rattle.exchange_make.specs.declared.places.Places.{Places}
 

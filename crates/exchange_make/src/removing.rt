@@ -1,12 +1,12 @@
 ghost use Rattle.std.specs.Prelude.{◌≡◌, ◌++◌, List, ℕ, IfOk, OnOk, map};
 ghost use Rattle.group_run.specs.Working.{all_of};
 ghost use Rattle.image_fit.specs.Images.{path_of as entry_path};
-ghost use Rattle.merge_record.specs.Judging.{HasSame};
+ghost use Rattle.journal.specs.Judging.{HasSame};
 ghost use Rattle.exchange_make.specs.Removing.{AddsFree};
 
 use file_tree::{Entry, Path};
 use group_run::Files;
-use merge_record::TakenPaths;
+use journal::TakenPaths;
 use std::alloc::{AllocError, Global};
 
 /// The paths that the files are for.

@@ -7,9 +7,9 @@ use Rattle.file_tree.specs.Moments.{Leaves, Since}
 use Rattle.file_tree.proofs.Moments.{since_same, since_start, since_then, since_weaker}
 use Rattle.journal.specs.Group.{Group, applied, with_groups}
 use Rattle.merge_core.specs.Trail.{IsAtRest}
-use Rattle.merge_record.specs.Names.{gate_path}
-use Rattle.merge_record.specs.Names.Part.{Gate}
-use Rattle.merge_record.specs.Recovered.{IsRecovered}
+use Rattle.journal.specs.Names.{gate_path}
+use Rattle.journal.specs.Names.Part.{Gate}
+use Rattle.journal.specs.Recovered.{IsRecovered}
 use Rattle.merge_core.proofs.Paths.{file_below}
 use Rattle.recovery.proofs.Shut.{shut_leaves}
 use Rattle.recovery.specs.Phases.{IsShut, cleared}

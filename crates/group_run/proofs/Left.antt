@@ -11,8 +11,8 @@ use Rattle.basics.specs.Members.{AreDistinct, Has}
 use Rattle.basics.proofs.Membership.{distinct-apart}
 use Rattle.file_tree.specs.Disk.{Map}
 use Rattle.file_tree.specs.Paths.{is_below}
-use Rattle.merge_record.specs.Judging.{is_in}
-use Rattle.merge_record.specs.Names.{jobs}
+use Rattle.journal.specs.Judging.{is_in}
+use Rattle.journal.specs.Names.{jobs}
 use Rattle.merge_record.specs.declared.record.OwnerKey.{OwnerKey}
 use Rattle.journal.specs.Group.{Group, applied, with_group, with_groups}
 use Rattle.owner_book.specs.Book.{Book, HasOwnersOf, HasSettled, Parts, key_in, owner_in, settled_owner}

@@ -3,7 +3,7 @@ use Rattle.std.proofs.Common.{◌≡◌, ℕ, true, Option, Some, None, Result, 
 use Rattle.std.specs.Prelude.{IfErr, IsErrOf, OnOk}
 use Rattle.file_tree.specs.Disk.{Disk, Map}
 use Rattle.file_tree.specs.Thing.{Thing}
-use Rattle.merge_record.specs.Names.{gate_path}
+use Rattle.journal.specs.Names.{gate_path}
 use Rattle.merge_core.specs.Order.{IsInOrder}
 use Rattle.merge_core.specs.Phase.{Phase, Idle, Building, Recorded, Marked, Sealed, Claimed, GatePut, Open, Placed, GateTaken, Done, Told, Abandoned, Redo, Redone, Odd, Emptied, gate_owed, is_working, may_end}
 use Rattle.merge_core.specs.Roll.{Machine, phase_at, stood}

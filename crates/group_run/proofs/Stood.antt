@@ -5,9 +5,9 @@ use Rattle.std.proofs.lemmas.Bool.{cases_eq, cond-false, cond-true}
 use Rattle.basics.specs.Members.{Has}
 use Rattle.basics.proofs.Membership.{has-append_right, has-filter_back}
 use Rattle.file_tree.specs.Disk.{Map}
-use Rattle.merge_record.specs.Open.{IsRising, open_groups}
-use Rattle.merge_record.specs.Recovered.{IsRecovered}
-use Rattle.merge_record.proofs.Opened.{open_groups_rise}
+use Rattle.journal.specs.Open.{IsRising, open_groups}
+use Rattle.journal.specs.Recovered.{IsRecovered}
+use Rattle.journal.proofs.Opened.{open_groups_rise}
 use Rattle.journal.specs.Group.{Group, applied, groups}
 use Rattle.journal.proofs.Forms.{has_groups}
 use Rattle.merge_core.specs.Event.{Abandon, Acknowledge, Begin, Claim, CloseGate, Event, OpenGate, PlacePath, PutRecord, PutStage, PutToken, RemovePath, SyncClosed, SyncGate, SyncPlaced, SyncSealed, answered, begun}

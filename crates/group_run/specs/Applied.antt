@@ -4,7 +4,7 @@ use Rattle.basics.specs.Members.{Has}
 use Rattle.file_tree.specs.Disk.{Disk, IsUntouched, Map}
 use Rattle.file_tree.specs.Moments.{Leaves}
 use Rattle.journal.specs.Group.{Group, applied}
-use Rattle.merge_record.specs.Recovered.{IsRecovered}
+use Rattle.journal.specs.Recovered.{IsRecovered}
 
 -- the number under which a group is merged
 abbrev pub number : Group → ℕ

@@ -3,7 +3,7 @@ use Rattle.std.specs.Prelude.{◌≡◌, ◌++◌, ℕ, zero, suc, Bool, List, [
 use Rattle.std.specs.Prelude.{Option, Some, None, ⊤}
 use Rattle.file_tree.specs.Disk.{Map}
 use Rattle.journal.specs.Group.{Group, applied}
-use Rattle.merge_record.specs.Judging.{is_in}
+use Rattle.journal.specs.Judging.{is_in}
 use Rattle.owner_book.specs.Book.{Book}
 use Rattle.merge_core.specs.Keeping.{Keeping}
 use Rattle.merge_site.specs.declared.group.SiteGroup.{SiteGroup}

@@ -2,7 +2,7 @@ ghost use Rattle.std.specs.Prelude.{◌≡◌, ◌≤◌, ◌⊎◌, ℕ, List};
 ghost use Rattle.std.specs.Prelude.{Err, IfErr, IsErrOf, IsOk, IsTrue, OnOk};
 ghost use Rattle.file_tree.specs.Disk.{IsUntouched, Map, Rose};
 ghost use Rattle.file_tree.specs.Moments.{Since};
-ghost use Rattle.merge_record.specs.Recovered.{IsRecovered};
+ghost use Rattle.journal.specs.Recovered.{IsRecovered};
 ghost use Rattle.recovery.specs.Phases.{IsShut, cleared};
 
 use crate::stop::Stop;

@@ -2,7 +2,7 @@
 //! nothing by its `Record`; `needs` asks whether a group needs a sync.
 
 ghost use Rattle.std.specs.Prelude.{◌≡◌, Some, IfOk};
-ghost use Rattle.merge_record.specs.Judging.{IsStaged};
+ghost use Rattle.journal.specs.Judging.{IsStaged};
 
 use file_tree::{Kind, Object};
 use merge_core::{Core, Refusal, Step};

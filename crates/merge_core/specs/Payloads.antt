@@ -3,7 +3,7 @@ use Rattle.std.specs.Prelude.{◌≡◌, ◌<◌, ◌≤◌, ◌^◌, ◌++◌, 
 use Rattle.std.specs.Prelude.{List, [], ◌∷◌, slice_set}
 use Rattle.file_tree.specs.Thing.{Thing, plain}
 use Rattle.journal.specs.Group.{covers}
-use Rattle.merge_record.specs.Judging.{are_free, footprint}
+use Rattle.journal.specs.Judging.{are_free, footprint}
 use Rattle.merge_record.specs.Spelling.{spelling}
 use Rattle.merge_record.specs.declared.record.Placement.{Placement}
 use Rattle.merge_core.specs.declared.phase.Phase.{Phase}

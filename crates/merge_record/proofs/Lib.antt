@@ -1,12 +1,5 @@
-pub mod Form
-pub mod Free
 pub mod Loop
-pub mod Named
-pub mod Naming
 pub mod Numbers
-pub mod Opened
-pub mod Recovery
 pub mod Steps
-pub mod Verdicts
 pub mod Whole
 pub mod Written

@@ -37,7 +37,9 @@ fn put_u64(out: &mut Vec<u8>, number: u64) -> Result<(), AllocError>
     out.extend_from_slice(&bytes)
 }
 
-pub(crate) fn byte_of(kind: Kind) -> u8
+/// The byte that stands for a kind in a record: 0 for a plain file, 1 for an executable one, 2 for a
+/// link.
+pub fn byte_of(kind: Kind) -> u8
     ensures { result ≡ byte_of kind }
 {
     match kind {

@@ -6,10 +6,10 @@ use Rattle.std.proofs.lemmas.Bool.{cases_Bool, cases_eq, cond-false, cond-true, 
 use Rattle.std.proofs.Math.Bool.{or_comm}
 use Rattle.basics.specs.Members.{Has}
 use Rattle.file_tree.specs.Thing.{Thing}
-use Rattle.merge_record.specs.Judging.{are_free, is_in, path_of}
+use Rattle.journal.specs.Judging.{are_free, is_in, path_of}
 use Rattle.merge_record.specs.declared.record.OwnerKey.{OwnerKey}
 use Rattle.merge_record.specs.declared.record.Placement.{Placement}
-use Rattle.merge_record.proofs.Free.{is_in-append}
+use Rattle.journal.proofs.Free.{is_in-append}
 use Rattle.owner_book.specs.Book as books
 use Rattle.owner_book.specs.Book.{AreDisjoint, Book, ChangesClaim, HasOwnersOf, HasSettled, IsClaimedBy, Parts, claim_in, has, is_wished, key_in, owner_in, settled_owner}
 use Rattle.owner_book.specs.declared.wish.Wish.{Wish}

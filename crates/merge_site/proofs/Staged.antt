@@ -3,7 +3,7 @@ use Rattle.std.proofs.Common.{◌≡◌, ◌<◌, ◌≤◌, ◌∷◌, ◌∙�
 use Rattle.std.specs.Prelude.{OnOk, is_err, slice_get, slice_index_or}
 use Rattle.file_tree.specs.Thing.{Thing}
 use Rattle.journal.specs.Group.{AreStaged}
-use Rattle.merge_record.specs.Names.{stage_path}
+use Rattle.journal.specs.Names.{stage_path}
 use Rattle.merge_record.specs.declared.record.Placement.{Placement}
 use Rattle.merge_core.specs.Core.{standing_in}
 use Rattle.merge_core.specs.Event.{PutStage, answered}

@@ -3,7 +3,7 @@ use Rattle.std.specs.Prelude.{◌≡◌, ◌⊎◌, ◌<◌, ◌≤◌, ◌-◌,
 use Rattle.file_tree.specs.Disk.{Disk, Map, Story}
 use Rattle.file_tree.specs.Thing.{Thing}
 use Rattle.journal.specs.Group.{covers, token}
-use Rattle.merge_record.specs.Names.{gate_path, record_path, stage_path, token_path}
+use Rattle.journal.specs.Names.{gate_path, record_path, stage_path, token_path}
 use Rattle.merge_core.specs.Core.{standing_in}
 use Rattle.owner_book.specs.Book.{Book}
 use Rattle.owner_book.specs.declared.wish.Wish.{Wish}

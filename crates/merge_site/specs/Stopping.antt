@@ -2,7 +2,7 @@
 use Rattle.std.specs.Prelude.{◌≡◌, true, false, [], List, ℕ, ⊤}
 use Rattle.file_tree.specs.declared.fault.TreeFault.{TreeFault}
 use Rattle.file_tree.specs.declared.fault.TreeFault.TheVariants as tree_faults
-use Rattle.merge_record.specs.Judging.{are_free}
+use Rattle.journal.specs.Judging.{are_free}
 use Rattle.owner_book.specs.declared.fault.ClaimFault.{ClaimFault}
 use Rattle.owner_book.specs.declared.fault.ClaimFault.TheVariants as claims
 use Rattle.owner_book.specs.declared.fault.Collision.TheVariants as collisions

@@ -4,7 +4,7 @@ ghost use Rattle.std.specs.Prelude.{IsErr, IsErrOf, IsSome, IsTrue};
 ghost use Rattle.file_tree.specs.Disk.{CountsFault};
 ghost use Rattle.journal.specs.Group.{token};
 ghost use Rattle.file_tree.specs.Thing.{plain};
-ghost use Rattle.merge_record.specs.Names.{gate_path, record_path, stage_path, token_path};
+ghost use Rattle.journal.specs.Names.{gate_path, record_path, stage_path, token_path};
 ghost use Rattle.merge_record.specs.Spelling.{spelling};
 ghost use Rattle.merge_record.specs.declared.record.Placement.{Placement};
 ghost use Rattle.merge_core.specs.Event.{CloseGate, OpenGate, PlacePath, PutRecord, PutStage};

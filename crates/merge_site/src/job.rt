@@ -1,7 +1,7 @@
 ghost use Rattle.std.specs.Prelude.{◌≡◌, ◌<◌, ◌≤◌, IfOk, OnOk};
 
 use file_tree::Path;
-use merge_record::{gate_path, record_path, stage_path, token_path};
+use journal::{gate_path, record_path, stage_path, token_path};
 use std::alloc::{AllocError, Global};
 use std::marker::Model;
 
@@ -30,7 +30,7 @@ impl Model for Job {
 }
 
 impl Job {
-    ghost use Rattle.merge_record.specs.Names.{gate_path, record_path, stage_path, token_path};
+    ghost use Rattle.journal.specs.Names.{gate_path, record_path, stage_path, token_path};
     ghost use Rattle.merge_site.specs.Site.{new_payload};
 
     pub(crate) fn new(alloc: Global, group: u32) -> Result<Job, AllocError>

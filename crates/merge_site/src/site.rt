@@ -2,8 +2,8 @@ ghost use Rattle.std.specs.Prelude.{◌≡◌, ◌<◌, ◌≤◌, ◌^◌, ◌+
 ghost use Rattle.std.specs.Prelude.{Ok, Some, IfOk, IfErr, IsTrue, OnErr, OnOk, length};
 ghost use Rattle.file_tree.specs.Disk.{CountsFault};
 ghost use Rattle.file_tree.specs.Thing.{plain};
-ghost use Rattle.merge_record.specs.Judging.{IsStaged};
-ghost use Rattle.merge_record.specs.Names.{stage_path};
+ghost use Rattle.journal.specs.Judging.{IsStaged};
+ghost use Rattle.journal.specs.Names.{stage_path};
 ghost use Rattle.merge_record.specs.Spelling.{Fits, spelling};
 ghost use Rattle.merge_core.specs.Core.{standing_in};
 ghost use Rattle.merge_core.specs.Event.{Admits, Claim, PutRecord, PutStage, answered, put_content};

@@ -11,10 +11,10 @@ use Rattle.file_tree.specs.declared.objects.Entry.{Entry}
 use Rattle.image_fit.specs.Images.{path_of}
 use Rattle.journal.specs.Group.{with_placements}
 use Rattle.journal.proofs.Changes.{placed_outside}
-use Rattle.merge_record.specs.Judging as judging
-use Rattle.merge_record.specs.Judging.{is_in}
+use Rattle.journal.specs.Judging as judging
+use Rattle.journal.specs.Judging.{is_in}
 use Rattle.merge_record.specs.declared.record.OwnerKey.{OwnerKey}
-use Rattle.merge_record.proofs.Form.{false_if_absent, has_if_in}
+use Rattle.journal.proofs.Form.{false_if_absent, has_if_in}
 use Rattle.merge_site.specs.Staging.{placement_of}
 use Rattle.database_law.specs.Step.{put}
 use Rattle.group_run.specs.Granted.{wishes_for}

@@ -21,7 +21,7 @@ use Rattle.database_law.specs.Step.{Owns}
 use Rattle.group_run.specs.Working.{all_in}
 use Rattle.group_run.specs.declared.files.Files.{Files}
 use Rattle.image_fit.specs.Images.{path_of}
-use Rattle.merge_record.specs.Judging.{HasSame}
+use Rattle.journal.specs.Judging.{HasSame}
 use Rattle.exchange_make.specs.Keys.{folder_of}
 use Rattle.exchange_make.specs.Removing.{AddsFree}
 use Rattle.exchange_make.specs.declared.newcomer.Newcomer.{Newcomer}

@@ -4,8 +4,8 @@ use Rattle.basics.specs.Members.{Has}
 use Rattle.file_tree.specs.Disk.{Disk, IsUntouched, Map}
 use Rattle.journal.specs.Group as journal
 use Rattle.journal.specs.Group.{applied}
-use Rattle.merge_record.specs.Recovered.{IsRecovered}
-use Rattle.merge_record.proofs.Recovery.{recovered_once}
+use Rattle.journal.specs.Recovered.{IsRecovered}
+use Rattle.journal.proofs.Recovery.{recovered_once}
 use Rattle.plan_law.specs.Accepted.{IsAccepted}
 use Rattle.plan_law.specs.Plans.{Group}
 use Rattle.database_law.specs.Packages.{Installed}

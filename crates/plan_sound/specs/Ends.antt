@@ -8,7 +8,7 @@ use Rattle.file_tree.specs.Disk.{Disk, Map}
 use Rattle.file_tree.specs.Moments.{Leaves}
 use Rattle.file_tree.specs.declared.objects.Entry.{Entry}
 use Rattle.journal.specs.Group as journal
-use Rattle.merge_record.specs.Recovered.{IsRecovered}
+use Rattle.journal.specs.Recovered.{IsRecovered}
 use Rattle.merge_site.specs.declared.group.SiteGroup.{SiteGroup}
 use Rattle.owner_book.specs.Book.{Book}
 use Rattle.plan_law.specs.Accepted.{IsAccepted}

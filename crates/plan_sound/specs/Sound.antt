@@ -9,7 +9,7 @@ use Rattle.file_tree.specs.Moments.{Leaves, Since}
 use Rattle.file_tree.specs.declared.objects.Entry.{Entry}
 use Rattle.journal.specs.Group as journal
 use Rattle.journal.specs.Group.{applied}
-use Rattle.merge_record.specs.Recovered.{IsRecovered}
+use Rattle.journal.specs.Recovered.{IsRecovered}
 use Rattle.owner_book.specs.Book.{Book}
 use Rattle.plan_law.specs.Accepted.{IsAccepted}
 use Rattle.plan_law.specs.Plans.{Group, WaitsForEarlier}

@@ -8,16 +8,16 @@ use Rattle.basics.proofs.Membership.{has-append_cases}
 use Rattle.file_tree.specs.Disk.{Disk, Map, Moves, Story}
 use Rattle.file_tree.specs.Paths.{is_below}
 use Rattle.merge_record.specs.Content.{Content}
-use Rattle.merge_record.specs.Judging.{are_free, footprint, judged, judged_all, judged_open, ◌>>=◌}
-use Rattle.merge_record.specs.Names.{jobs}
-use Rattle.merge_record.specs.Open.{open_groups}
-use Rattle.merge_record.specs.declared.fault.JudgeFault.{JudgeFault}
-use Rattle.merge_record.proofs.Form.{are_free-if, are_free-words, bind_ok, judged_words}
+use Rattle.journal.specs.Judging.{are_free, footprint, judged, judged_all, judged_open, ◌>>=◌}
+use Rattle.journal.specs.Names.{jobs}
+use Rattle.journal.specs.Open.{open_groups}
+use Rattle.journal.specs.declared.fault.JudgeFault.{JudgeFault}
+use Rattle.journal.proofs.Form.{are_free-if, are_free-words, bind_ok, judged_words}
 use Rattle.merge_core.specs.Recovery.{Asked, Recovers, found_content, redo, with_placed, with_redone, with_removed}
 use Rattle.merge_core.proofs.Redo.{form_found, judged_opens}
 use Rattle.merge_core.proofs.Redone.{redone_reads}
 use Rattle.merge_core.specs.Roll.{stood}
-use Rattle.merge_record.specs.Names.{stage_path}
+use Rattle.journal.specs.Names.{stage_path}
 use Rattle.std.proofs.Common.{drop}
 use Rattle.merge_core.proofs.Walk.{redo_walks}
 use Rattle.recovery.specs.Found.{AreApplicable}

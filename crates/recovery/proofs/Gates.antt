@@ -7,12 +7,12 @@ use Rattle.file_tree.specs.Thing.{Thing}
 use Rattle.file_tree.specs.declared.fault.TreeFault.{TreeFault}
 use Rattle.file_tree.specs.declared.fault.TreeFault.TheVariants as tree_faults
 use Rattle.merge_record.specs.Content.{Content}
-use Rattle.merge_record.specs.Judging.{Misses, judged_all, judged_open}
-use Rattle.merge_record.specs.Names.{gate_path}
-use Rattle.merge_record.specs.Open.{is_open, open_groups}
-use Rattle.merge_record.proofs.Opened.{Opens, open_groups_only, same_list}
-use Rattle.merge_record.specs.declared.fault.JudgeFault.{JudgeFault}
-use Rattle.merge_record.specs.declared.fault.JudgeFault.TheVariants as judge_faults
+use Rattle.journal.specs.Judging.{Misses, judged_all, judged_open}
+use Rattle.journal.specs.Names.{gate_path}
+use Rattle.journal.specs.Open.{is_open, open_groups}
+use Rattle.journal.proofs.Opened.{Opens, open_groups_only, same_list}
+use Rattle.journal.specs.declared.fault.JudgeFault.{JudgeFault}
+use Rattle.journal.specs.declared.fault.JudgeFault.TheVariants as judge_faults
 use Rattle.recovery.specs.Faults.{judge_fault, tree_fault}
 use Rattle.recovery.specs.Found.{AreGates, AreOdd, HasTooManyGates, IsFound}
 use Rattle.recovery.specs.Promise.{IsFaultOf}

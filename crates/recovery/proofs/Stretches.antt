@@ -11,12 +11,12 @@ use Rattle.file_tree.specs.Thing.{Thing}
 use Rattle.file_tree.proofs.Moments.{since_then, since_weaker}
 use Rattle.journal.specs.Group.{Group, covers}
 use Rattle.merge_record.specs.Content.{Content}
-use Rattle.merge_record.specs.Judging.{are_free, footprint, is_in, judged_open}
-use Rattle.merge_record.specs.Names.{gate_path, jobs, record_path}
-use Rattle.merge_record.specs.Names.Part.{Gate}
-use Rattle.merge_record.specs.Open.{is_open, open_groups}
-use Rattle.merge_record.specs.Recovered.{IsRecovered}
-use Rattle.merge_record.proofs.Form.{in_if_has}
+use Rattle.journal.specs.Judging.{are_free, footprint, is_in, judged_open}
+use Rattle.journal.specs.Names.{gate_path, jobs, record_path}
+use Rattle.journal.specs.Names.Part.{Gate}
+use Rattle.journal.specs.Open.{is_open, open_groups}
+use Rattle.journal.specs.Recovered.{IsRecovered}
+use Rattle.journal.proofs.Form.{in_if_has}
 use Rattle.merge_core.specs.Order.{IsFirm}
 use Rattle.merge_core.specs.Phase.{gate_owed}
 use Rattle.merge_core.specs.Recovery.{Asked, Recovers, found_group, recovered, redo, redone, redone_phase, shut, with_removed}

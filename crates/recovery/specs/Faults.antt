@@ -1,8 +1,8 @@
 -- The faults of the layers below, as recovery tells them.
 use Rattle.file_tree.specs.declared.fault.TreeFault.{TreeFault}
 use Rattle.file_tree.specs.declared.fault.TreeFault.TheVariants as tree_faults
-use Rattle.merge_record.specs.declared.fault.JudgeFault.{JudgeFault}
-use Rattle.merge_record.specs.declared.fault.JudgeFault.TheVariants as judge_faults
+use Rattle.journal.specs.declared.fault.JudgeFault.{JudgeFault}
+use Rattle.journal.specs.declared.fault.JudgeFault.TheVariants as judge_faults
 use Rattle.recovery.specs.declared.fault.RecoverFault.{RecoverFault}
 use Rattle.recovery.specs.declared.fault.RecoverFault.TheVariants as faults
 

@@ -1,15 +1,15 @@
 ghost use Rattle.std.specs.Prelude.{◌≡◌, ℕ, List, map, IfOk, IsErrOf, IsTrue, OnOk};
 ghost use Rattle.file_tree.specs.Disk.{CountsFault, IsUntouched, Map};
 ghost use Rattle.file_tree.specs.Moments.{Since};
-ghost use Rattle.merge_record.specs.Names.{gate_path};
-ghost use Rattle.merge_record.specs.Recovered.{IsRecovered};
+ghost use Rattle.journal.specs.Names.{gate_path};
+ghost use Rattle.journal.specs.Recovered.{IsRecovered};
 ghost use Rattle.merge_core.specs.Recovery.{recovered, redo};
 ghost use Rattle.merge_core.specs.Roll.{stood};
 ghost use Rattle.recovery.specs.Phases.{IsRedone, IsShut, cleared};
 
 use crate::changes::remove_all;
 use file_tree::{Path, Tree, TreeFault};
-use merge_record::{gate_path, jobs_folder};
+use journal::{gate_path, jobs_folder};
 use std::alloc::{AllocError, Global};
 
 /// The gates of the groups.

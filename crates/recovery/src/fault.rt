@@ -1,5 +1,5 @@
 use file_tree::{Failed, TreeFault};
-use merge_record::JudgeFault;
+use journal::JudgeFault;
 use std::alloc::{AllocError, AllocFailed};
 use thiserror::Error;
 

@@ -2,18 +2,17 @@ ghost use Rattle.std.specs.Prelude.{◌≡◌, ◌<◌, ◌^◌, ◌↔◌, [], 
 ghost use Rattle.std.specs.Prelude.{IsTrue};
 ghost use Rattle.basics.specs.Members.{AreDistinct, Has};
 ghost use Rattle.file_tree.specs.Disk.{CountsFault};
-ghost use Rattle.merge_record.specs.Judging.{Agrees, judged_all};
-ghost use Rattle.merge_record.specs.Names.{gate_path};
-ghost use Rattle.merge_record.specs.Open.{IsRising, is_open};
+ghost use Rattle.journal.specs.Judging.{Agrees, judged_all};
+ghost use Rattle.journal.specs.Names.{gate_path};
+ghost use Rattle.journal.specs.Open.{IsRising, is_open};
 ghost use Rattle.recovery.specs.Found.{AreApplicable, AreGates, IsFound};
 ghost use Rattle.recovery.specs.Promise.{IsFaultOf};
 
 use crate::fault::RecoverFault;
 use crate::limits::MOST_GATES;
 use file_tree::{Path, Tree, TreeFault};
-use merge_record::{
-    JudgeFault, Record, TakenPaths, gate_path, group_of_gate, is_open_gate, jobs_folder, judge,
-};
+use journal::{JudgeFault, TakenPaths, gate_path, group_of_gate, is_open_gate, jobs_folder, judge};
+use merge_record::Record;
 use std::alloc::{AllocError, Global};
 use std::marker::Model;
 

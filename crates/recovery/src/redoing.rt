@@ -1,8 +1,8 @@
 ghost use Rattle.std.specs.Prelude.{◌≡◌, ◌<◌, ◌^◌, [], ℕ, List, Ok, true, length, map, IfOk};
 ghost use Rattle.std.specs.Prelude.{IsErrOf, IsSome, IsTrue, OnOk};
 ghost use Rattle.file_tree.specs.Disk.{CountsFault, IsUntouched};
-ghost use Rattle.merge_record.specs.Judging.{are_free, footprint, judged_open};
-ghost use Rattle.merge_record.specs.Names.{record_path, stage_path};
+ghost use Rattle.journal.specs.Judging.{are_free, footprint, judged_open};
+ghost use Rattle.journal.specs.Names.{record_path, stage_path};
 ghost use Rattle.merge_core.specs.Recovery.{Asked, Recovers, redo, with_placed, with_removed};
 ghost use Rattle.merge_core.specs.Roll.{stood};
 ghost use Rattle.recovery.specs.Calls.{empty_record, emptied};
@@ -13,7 +13,8 @@ use crate::changes::{place_all, remove_all};
 use crate::finding::Journal;
 use crate::paths::StagePaths;
 use file_tree::{Kind, Object, Tree, TreeFault};
-use merge_record::{Record, RecordFault, encode, record_path};
+use journal::record_path;
+use merge_record::{Record, RecordFault, encode};
 use std::alloc::{AllocError, Global};
 
 /// Does what the record says.

@@ -1,8 +1,8 @@
 ghost use Rattle.std.specs.Prelude.{◌≡◌, ◌⊎◌, IfErr, IfOk, IsErrOf, IsTrue, OnOk};
 ghost use Rattle.file_tree.specs.Disk.{CountsFault, IsImage, IsUntouched};
 ghost use Rattle.file_tree.specs.Moments.{Since};
-ghost use Rattle.merge_record.specs.Open.{open_groups};
-ghost use Rattle.merge_record.specs.Recovered.{IsRecovered};
+ghost use Rattle.journal.specs.Open.{open_groups};
+ghost use Rattle.journal.specs.Recovered.{IsRecovered};
 ghost use Rattle.recovery.specs.Found.{HasTooManyGates};
 ghost use Rattle.recovery.specs.Promise.{IsRefusal, RecoversAlike, IsFaultOf};
 

@@ -6,8 +6,8 @@ use Rattle.file_tree.specs.Disk.{Map, new_story}
 use Rattle.file_tree.specs.Paths.{is_below}
 use Rattle.journal.specs.Group.{Group, applied, with_groups}
 use Rattle.merge_core.proofs.Paths.{file_below}
-use Rattle.merge_record.specs.Names.{Gate, jobs}
-use Rattle.merge_record.specs.Recovered.{IsRecovered}
+use Rattle.journal.specs.Names.{Gate, jobs}
+use Rattle.journal.specs.Recovered.{IsRecovered}
 use Rattle.recovery.specs.Phases.{IsShut}
 use Rattle.recovery.proofs.Shut.{shut_leaves}
 

@@ -1,7 +1,7 @@
 -- The disks that runs begin with, and what a crash leaves of a disk that a run leaves as it is.
 use Rattle.std.specs.Prelude.{◌⊎◌, ℕ, List}
 use Rattle.file_tree.specs.Disk.{Disk, IsImage, IsUntouched, Map}
-use Rattle.merge_record.specs.Recovered.{IsRecovered}
+use Rattle.journal.specs.Recovered.{IsRecovered}
 use Rattle.recovery.specs.Promise.{RecoversAlike}
 use Rattle.commit_law.specs.Commits.{IsSoundTree}
 use Rattle.database_law.specs.Packages.{Installed}

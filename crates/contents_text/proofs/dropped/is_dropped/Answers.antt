@@ -1,5 +1,5 @@
 use Rattle.std.proofs.Common.{◌≡◌, ◌∙◌, ◌||◌, Bool, true, false, ap, sym}
-use Rattle.merge_record.specs.Judging.{meets_jobs}
+use Rattle.journal.specs.Judging.{meets_jobs}
 use Rattle.vdb_text.specs.Files.{database_path}
 use Rattle.contents_text.specs.Contents.{meets}
 use Rattle.contents_text.proofs.dropped.is_dropped.Goals as goal

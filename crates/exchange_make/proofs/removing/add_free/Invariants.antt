@@ -1,5 +1,5 @@
 use Rattle.std.proofs.Common.{◌≡◌, ◌++◌, List, length, take, ℕ}
-use Rattle.merge_record.specs.Judging.{HasSame}
+use Rattle.journal.specs.Judging.{HasSame}
 use Rattle.exchange_make.specs.Removing.{AddsFree}
 use Rattle.exchange_make.proofs.removing.add_free.Given as goal
 

@@ -1,6 +1,6 @@
 use Rattle.std.proofs.Common.{◌++◌, map, take}
 use Rattle.image_fit.specs.Images.{path_of}
-use Rattle.merge_record.specs.Judging.{HasSame}
+use Rattle.journal.specs.Judging.{HasSame}
 use Rattle.exchange_make.proofs.removing.take_all.Given as goal
 
 abbrev pub invariant-loop-entry : goal.invariant-loop-entry

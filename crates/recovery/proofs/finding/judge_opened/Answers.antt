@@ -1,7 +1,7 @@
 use Rattle.std.proofs.Common.{◌∙◌, arith, []}
 use Rattle.std.proofs.lemmas.Result.{err_from_is_err_and}
-use Rattle.merge_record.specs.Judging.{judged_all}
-use Rattle.merge_record.proofs.Verdicts.{all_end, all_err, all_on}
+use Rattle.journal.specs.Judging.{judged_all}
+use Rattle.journal.proofs.Verdicts.{all_end, all_err, all_on}
 use Rattle.recovery.proofs.Applied.{applicable_more}
 use Rattle.recovery.proofs.finding.judge_opened.Goals as goal
 

@@ -1,7 +1,7 @@
 use Rattle.std.proofs.Common.{◌≡◌, ◌≤◌, [], drop}
 use Rattle.std.specs.Prelude.{IsTrue}
-use Rattle.merge_record.specs.Judging.{judged_all}
-use Rattle.merge_record.proofs.Verdicts.{with_front}
+use Rattle.journal.specs.Judging.{judged_all}
+use Rattle.journal.proofs.Verdicts.{with_front}
 use Rattle.recovery.specs.Found.{AreApplicable}
 use Rattle.recovery.proofs.finding.judge_opened.Given as goal
 

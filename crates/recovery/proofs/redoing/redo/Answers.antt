@@ -1,8 +1,8 @@
 use Rattle.std.proofs.Common.{◌≡◌, ◌∙◌, ℕ, List, Ok, ap, map, subst, sym}
 use Rattle.file_tree.specs.Disk.{Story}
 use Rattle.merge_record.specs.Content.{Content}
-use Rattle.merge_record.specs.Judging.{judged_open}
-use Rattle.merge_record.specs.Names.{record_path}
+use Rattle.journal.specs.Judging.{judged_open}
+use Rattle.journal.specs.Names.{record_path}
 use Rattle.merge_core.specs.Recovery.{Asked}
 use Rattle.recovery.specs.Calls.{emptied}
 use Rattle.recovery.specs.Found.{AreApplicable, Found}

@@ -1,6 +1,0 @@
-use Rattle.merge_record.specs.Names.{Token}
-use Rattle.merge_record.proofs.Named.{part_is_path}
-use Rattle.merge_record.proofs.names.token_path.Goals as goal
-
-pub named-requires : goal.named-requires
-named-requires c = part_is_path c.args.group Token
