@@ -12,7 +12,7 @@ use Rattle.journal.proofs.Forms.{groups_has}
 use Rattle.merge_core.specs.Event.{Admits, Event, answered, begun}
 use Rattle.merge_core.specs.Order.{IsFirm, IsInOrder, IsListed}
 use Rattle.merge_core.specs.Phase.{is_settled, was_opened}
-use Rattle.merge_core.specs.Roll.{Machine, Roll, Stands, committed, group_at, idle, others, phase_at}
+use Rattle.merge_core.specs.Roll.{Machine, Roll, RecoversCommitted, committed, group_at, idle, others, phase_at}
 use Rattle.merge_core.specs.Runs.{AllWait, IsFollowing, IsRunFrom, Waits}
 use Rattle.merge_core.specs.Trail.{Entry, EventKeeps, Happens, IsAtRest, machine_after}
 use Rattle.merge_core.proofs.Runs.{opened_begun, run_then}
@@ -96,7 +96,7 @@ module _ (plan : List plans.Group) where
       ap (λ (y : Group). y ∷ groups_of (map change (map number xs))) (same x (inl refl)) ∙ ap (λ (ys : List Group). x ∷ ys) (does_these change xs (λ y hy. same y (inr hy)))
 
 -- what is committed is a run, where a crash left a map that stands
-stood_run : (opening : Map) (after : ℕ → List ℕ) (r : Roll) (c : Map) → Stands opening r c → IsListed r → IsFollowing after r → IsRunFrom after [] (committed r c)
+stood_run : (opening : Map) (after : ℕ → List ℕ) (r : Roll) (c : Map) → RecoversCommitted opening r c → IsListed r → IsFollowing after r → IsRunFrom after [] (committed r c)
 stood_run opening after r c stands listed follows =
     run_then after [] r.order (groups (group_at r) (others r c)) follows.run (λ y hy h has.
     let begins = opened_begun (phase_at r (number y)) (stands.opened y (has-append_right r.order (groups (group_at r) (others r c)) y hy)).0 in
@@ -106,7 +106,7 @@ stood_run opening after r c stands listed follows =
 -- where a map stands, it recovers to a sound tree
 pub stands_soundly : ((c : Map) → IsRising (open_groups c)) → CommitsLeaveSoundTrees
     → (flags : List (List ℕ)) (plan : List plans.Group) (change : ℕ → Change) (opening : Map) (ps : List Installed) (r : Roll) (c : Map) → IsPlanned flags plan change opening ps → IsListed r → Merges r plan change
-    → AreStepsCommitted opening r change ps → Stands opening r c → RecoversSoundly flags opening r plan change c
+    → AreStepsCommitted opening r change ps → RecoversCommitted opening r c → RecoversSoundly flags opening r plan change c
 stands_soundly rise commits flags plan change opening ps r c planned listed merges steps stands =
     let within : (x : Group) → Has (committed r c) x → number x < length plan = λ x h. merges.there (number x) (stands.opened x h).0 in
     let run : List ℕ = map number (committed r c) in
@@ -154,14 +154,14 @@ module _ (laws : Laws) (flags : List (List ℕ)) (plan : List plans.Group) (chan
       let stays = stays_then (begun m e.0).roll next.roll last (answer_stays m e.0 e.1 happens.2) (run_stays next happens.0 new es happens.4) in
       let during = laws.follows opening after m old.now e.0 false order follows happens.2 waits.0 in (
         happens.0,
-        since_weaker (Stands opening (begun m e.0).roll) (RecoversSoundly flags opening (begun m e.0).roll plan change)
+        since_weaker (RecoversCommitted opening (begun m e.0).roll) (RecoversSoundly flags opening (begun m e.0).roll plan change)
             (λ c stands. stands_soundly laws.rise laws.commits flags plan change opening ps (begun m e.0).roll c planned (begun_listed m e.0 happens.2 order.listed)
             (merges_before plan change (begun m e.0).roll last during stays merges) steps.0 stands)
             old happens.0 kept.1,
         walk next happens.0 new es kept.0 (laws.follows opening after m old.now e.0 e.1 order follows happens.2 waits.0) happens.4 waits.1 merges steps.1,
       )
 
-pub crashes_recover_soundly : Laws → ((opening : Map) (r : Roll) (d : Disk) → IsFirm opening r d → IsListed r → Leaves (Stands opening r) d) → CrashesRecoverSoundly
+pub crashes_recover_soundly : Laws → ((opening : Map) (r : Roll) (d : Disk) → IsFirm opening r d → IsListed r → Leaves (RecoversCommitted opening r) d) → CrashesRecoverSoundly
 crashes_recover_soundly laws stand flags plan change opening ps r d c planned firm listed merges steps image =
     stands_soundly laws.rise laws.commits flags plan change opening ps r c planned listed merges steps (stand opening r d firm listed c image)
 

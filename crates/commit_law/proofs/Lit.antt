@@ -13,10 +13,6 @@ use Rattle.pms_names.proofs.Sets.{one_set}
 use Rattle.pkg_state.specs.Package.{Package}
 use Rattle.commit_law.specs.Lit.{lit}
 
--- with no flags more a package is as it is
-pub lit_none : (p : Package) → lit [] p ≡ p
-lit_none p = refl
-
 -- ---- one flag more
 
 or_again : (a b : Bool) → (a || b) ≡ (a || (a || b))

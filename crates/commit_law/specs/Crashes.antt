@@ -8,7 +8,7 @@ use Rattle.journal.specs.Group.{applied}
 use Rattle.merge_core.specs.Order.{IsFirm, IsListed}
 use Rattle.merge_core.specs.Phase.{is_settled, was_opened}
 use Rattle.merge_core.specs.Event.{answered, begun}
-use Rattle.merge_core.specs.Roll.{Machine, Roll, Stands, committed, group_at, idle, phase_at}
+use Rattle.merge_core.specs.Roll.{Machine, Roll, RecoversCommitted, committed, group_at, idle, phase_at}
 use Rattle.merge_core.specs.Runs.{AllWait, IsFollowing}
 use Rattle.merge_core.specs.Trail.{Entry, Happens, IsAtRest, machine_after}
 use Rattle.database_law.specs.Database.{IsDatabase, IsKept}
@@ -47,7 +47,7 @@ committed_numbers r c = map (λ g. g.content.group) (committed r c)
 -- tree, are steps one after another
 abbrev pub AreStepsCommitted : Map → Roll → (ℕ → Change) → List Installed → Type 0
 AreStepsCommitted opening r change ps =
-    (c : Map) → Stands opening r c →
+    (c : Map) → RecoversCommitted opening r c →
     (qs : List Installed) × AreSteps (map change (committed_numbers r c)) opening ps qs
 
 -- the map recovers to a sound tree: the opening after a run of the plan, with each settled group in

@@ -16,7 +16,7 @@ use Rattle.recovery.specs.Promise.{IsFaultOf}
 use Rattle.recovery.specs.declared.fault.RecoverFault.{RecoverFault}
 use Rattle.recovery.specs.declared.fault.RecoverFault.TheVariants as recovery
 use Rattle.group_run.specs.Applied.{LeavesWith, ReadsWith, RecoversWith}
-use Rattle.run_law.specs.Ends.{IsKept}
+use Rattle.run_law.specs.Ends.{IsImageOrAlike}
 use Rattle.plan_law.specs.Plans.{Group}
 use Rattle.plan_find.specs.declared.asked.Asked.{Asked}
 use Rattle.plan_make.specs.declared.job.Job.{Job}
@@ -102,8 +102,8 @@ usage_recovery r f is = recovery_not_of_words r (subst IsOfWords (sym is) tt)
 -- ---- a run that finds no plan
 
 -- a crash of an unchanged tree leaves one of its own images
-kept_same : (old new : Story) → new ≡ old → Since (IsKept old.now) old new
-kept_same old new same = since_same (IsKept old.now) old old new (since_start (IsKept old.now) old (λ c is. inl is)) same
+kept_same : (old new : Story) → new ≡ old → Since (IsImageOrAlike old.now) old new
+kept_same old new same = since_same (IsImageOrAlike old.now) old old new (since_start (IsImageOrAlike old.now) old (λ c is. inl is)) same
 
 pub at_rest : (opening : Map) (s : Story) → IsRecovered opening s.now.holds × IsUntouched s.now → IsAtRest s.now.holds s.now
 at_rest opening s h = record { untouched = h.1; reads = λ q. refl; empty = h.0.cleared }
@@ -111,7 +111,7 @@ at_rest opening s h = record { untouched = h.1; reads = λ q. refl; empty = h.0.
 pub ends_at_words : (words : List (List ℕ)) (old : Story) (s : Status) → EndsAtWords words s → EndsEarly words old old s
 ends_at_words words old s ends = record { answer = asks_words words old.now.holds s ends; moments = kept_same old old refl; tree = λ of. absurd (words_not_of_tree words s ends of) }
 
-pub ends_at_recovery : (words : List (List ℕ)) (old new : Story) (f : RecoverFault) → AskForMerge words → IsFaultOf f old.now.holds → Since (IsKept old.now) old new → EndsEarly words old new (status_of_recovery f)
+pub ends_at_recovery : (words : List (List ℕ)) (old new : Story) (f : RecoverFault) → AskForMerge words → IsFaultOf f old.now.holds → Since (IsImageOrAlike old.now) old new → EndsEarly words old new (status_of_recovery f)
 ends_at_recovery words old new f command is since = record { answer = recovery_asks words old.now.holds f command is; moments = since; tree = λ of. absurd (recovery_not_of_tree f of) }
 
 pub recovered_same : (old mid new : Story) → new ≡ mid → HasRecovered old mid → HasRecovered old new
@@ -154,10 +154,10 @@ rest_reads m empty q = at (is_below jobs q) refl
 
 module _ (words : List (List ℕ)) (Image : Images) (old new : Story) (s : Status) where
   -- a run that merged nothing
-  outcome_kept : Asks words old.now.holds Image [] s → Since (IsKept old.now) old new → (IsOfTree s → HasRecovered old new) → Outcome words Image old new [] s
+  outcome_kept : Asks words old.now.holds Image [] s → Since (IsImageOrAlike old.now) old new → (IsOfTree s → HasRecovered old new) → Outcome words Image old new [] s
   outcome_kept asks since tree = record {
     answer = asks;
-    moments = since_weaker (IsKept old.now) (IsReached (IsChoice words) Image [] old.now) (λ c h. inl (refl, h)) old new since;
+    moments = since_weaker (IsImageOrAlike old.now) (IsReached (IsChoice words) Image [] old.now) (λ c h. inl (refl, h)) old new since;
     crash = λ c is. inl (refl, since.now c is);
     left = λ healthy. inl (refl, since.now);
     tree = λ of.
@@ -270,7 +270,7 @@ module _ (words : List (List ℕ)) (Image : Images) (old mid new : Story) (ps : 
   pub outcome_merged : Outcome words Image old new history s
   outcome_merged = record {
     answer = answered;
-    moments = since_then (Reached []) old mid new (since_weaker (IsKept old.now) (Reached []) (λ c h. inl (refl, h)) old mid has.moments)
+    moments = since_then (Reached []) old mid new (since_weaker (IsImageOrAlike old.now) (Reached []) (λ c h. inl (refl, h)) old mid has.moments)
         (since_weaker (RecoversWith (AreMade merged.made) m []) (Reached []) (λ c h. reached [] c h) mid new merged.moments);
     crash = λ c k. reached history c (merged.crash c k);
     left = λ healthy. inr (m, has.recovered, (course merged.made, same_run merged.made (λ Run. LeavesWith Run m history new.now) (merged.left healthy)));

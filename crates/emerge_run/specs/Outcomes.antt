@@ -7,7 +7,7 @@ use Rattle.database_law.specs.Packages.{Installed}
 use Rattle.merge_core.specs.Trail.{IsAtRest}
 use Rattle.journal.specs.Recovered.{IsRecovered}
 use Rattle.group_run.specs.Applied.{LeavesWith, ReadsWith, RecoversWith}
-use Rattle.run_law.specs.Ends.{IsKept}
+use Rattle.run_law.specs.Ends.{IsImageOrAlike}
 use Rattle.plan_law.specs.Plans.{Group}
 use Rattle.plan_choose.specs.declared.chosen.Chosen.{Chosen}
 use Rattle.plan_find.specs.Choices.{IsFound}
@@ -87,7 +87,7 @@ pub record Outcome (words : List (List ℕ)) (Image : Images) (old new : Story) 
 
 -- a run has recovered its tree, which is at rest
 pub record HasRecovered (old new : Story) : Type 0 where
-  pub moments : Since (IsKept old.now) old new
+  pub moments : Since (IsImageOrAlike old.now) old new
   pub recovered : IsRecovered old.now.holds new.now.holds
   pub rest : IsAtRest new.now.holds new.now
 
@@ -96,7 +96,7 @@ pub record HasRecovered (old new : Story) : Type 0 where
 -- run that tells how it went leaves what recovery made of the tree.
 pub record EndsEarly (words : List (List ℕ)) (old new : Story) (s : Status) : Type 0 where
   pub answer : AsksEarly words old.now.holds s
-  pub moments : Since (IsKept old.now) old new
+  pub moments : Since (IsImageOrAlike old.now) old new
   pub tree : IsOfTree s → HasRecovered old new
 
 -- this text is that of what is chosen

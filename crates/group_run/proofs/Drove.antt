@@ -8,13 +8,14 @@ use Rattle.file_tree.proofs.Moments.{since_weaker}
 use Rattle.owner_book.specs.Book.{Book, owner_in}
 use Rattle.owner_book.specs.declared.wish.Wish.{Wish}
 use Rattle.merge_core.specs.Keeping.{Keeping, machine_of}
-use Rattle.merge_core.specs.Roll.{Machine, Stands, committed, idle, resting}
+use Rattle.merge_core.specs.Roll.{Machine, RecoversCommitted, committed, idle, resting}
 use Rattle.merge_core.specs.Trail.{Entry, machine_after}
 use Rattle.merge_site.specs.Booking.{wishes_at}
 use Rattle.merge_site.specs.Site.{Account, IsHeld, IsOpened, StoodDuring}
 use Rattle.merge_site.specs.declared.group.SiteGroup.{SiteGroup}
 use Rattle.group_run.specs.Applied.{RecoversWith, number}
-use Rattle.group_run.specs.Through.{HasEnded, IsSameSite, IsThrough}
+use Rattle.group_run.specs.Through.{HasEnded, IsThrough}
+use Rattle.merge_site.specs.Site.{IsSameSite}
 use Rattle.group_run.specs.Turns.{AreFirst}
 use Rattle.group_run.specs.Went.{DroveWith}
 use Rattle.group_run.specs.Working.{AreInTurn}
@@ -47,7 +48,7 @@ through_none tells opening a b groups opened leads = record {
 }
 
 pub drove : {T S A : Type 0} (tells : Bool) (turns : List Turn) (b : Account T S) (start new : Story) (history : List ℕ) (end : Result A Stop) → IsTrue tells → HasEnded tells start.now.holds turns b end → history ≡ map number b.keeping.order
-    → IsHeld b.keeping b.events start new → Leaves (Stands start.now.holds (machine_of b.keeping).roll) new.now → Since (StoodDuring start.now.holds idle b.events) start new
+    → IsHeld b.keeping b.events start new → Leaves (RecoversCommitted start.now.holds (machine_of b.keeping).roll) new.now → Since (StoodDuring start.now.holds idle b.events) start new
     → DroveWith (AreFirst start.now.holds b.opened_book b.groups turns) start new history end
 drove tells turns b start new history end tl ended is held stands moments =
     let opening = start.now.holds in

@@ -12,7 +12,7 @@ use Rattle.journal.specs.Group.{Group, applied, groups}
 use Rattle.journal.proofs.Forms.{has_groups}
 use Rattle.merge_core.specs.Event.{Abandon, Acknowledge, Begin, Claim, CloseGate, Event, OpenGate, PlacePath, PutRecord, PutStage, PutToken, RemovePath, SyncClosed, SyncGate, SyncPlaced, SyncSealed, answered, begun}
 use Rattle.merge_core.specs.Phase.{Phase, Idle, Building, Recorded, Marked, Sealed, Claimed, GatePut, Open, Placed, GateTaken, Done, Told, Abandoned, Redo, Redone, Odd, Emptied, is_settled, may_end, was_opened}
-use Rattle.merge_core.specs.Roll.{Machine, Roll, Standing, Stands, committed, group_at, others, phase_at}
+use Rattle.merge_core.specs.Roll.{Machine, Roll, Standing, RecoversCommitted, committed, group_at, others, phase_at}
 use Rattle.merge_core.specs.Trail.{Entry, machine_after}
 use Rattle.merge_core.proofs.Standings.{set_here}
 use Rattle.merge_site.specs.Site.{StoodDuring}
@@ -69,11 +69,11 @@ open_unsettled r c n has = unset (is_settled (phase_at r n)) (has-filter_back (�
   unset true e = absurd (cc e)
   unset false e = refl
 
-open_opened : (opening : Map) (r : Roll) (c : Map) (n : ℕ) → Stands opening r c → Has (others r c) n → was_opened (phase_at r n) ≡ true
+open_opened : (opening : Map) (r : Roll) (c : Map) (n : ℕ) → RecoversCommitted opening r c → Has (others r c) n → was_opened (phase_at r n) ≡ true
 open_opened opening r c n stands has =
     (stands.opened (group_at r n) (has-append_right r.order (groups (group_at r) (others r c)) (group_at r n) (has_groups (group_at r) (others r c) n has))).0
 
-others_one : (opening : Map) (g : ℕ) (r : Roll) (c : Map) → Rests g r → Stands opening r c → (others r c ≡ []) ⊎ (others r c ≡ g ∷ [])
+others_one : (opening : Map) (g : ℕ) (r : Roll) (c : Map) → Rests g r → RecoversCommitted opening r c → (others r c ≡ []) ⊎ (others r c ≡ g ∷ [])
 others_one opening g r c rests stands =
     kept_one (λ h. not (is_settled (phase_at r h))) g (open_groups c) (open_groups_rise c) (λ n has. elim (cases_eq n g) [
       | inl same ↦ same
@@ -81,7 +81,7 @@ others_one opening g r c rests stands =
     ])
 
 -- a crash commits the order from before, or the group behind it
-pub committed_next : (opening : Map) (xs : List Group) (g : ℕ) (r : Roll) (c : Map) → Rests g r → Grew xs g r → Stands opening r c → IsNext xs g r (committed r c)
+pub committed_next : (opening : Map) (xs : List Group) (g : ℕ) (r : Roll) (c : Map) → Rests g r → Grew xs g r → RecoversCommitted opening r c → IsNext xs g r (committed r c)
 committed_next opening xs g r c rests grew stands = elim (others_one opening g r c rests stands) [
   | inl none ↦
       (let is : committed r c ≡ r.order = ap (λ (l : List ℕ). r.order ++ groups (group_at r) l) none ∙ append-nil r.order in
@@ -99,7 +99,7 @@ committed_next opening xs g r c rests grew stands = elim (others_one opening g r
 ]
 
 -- where no gate is open but of settled groups, a crash commits the order
-pub committed_rests : (opening : Map) (r : Roll) (c : Map) → ((g : ℕ) → Rests g r) → Stands opening r c → committed r c ≡ r.order
+pub committed_rests : (opening : Map) (r : Roll) (c : Map) → ((g : ℕ) → Rests g r) → RecoversCommitted opening r c → committed r c ≡ r.order
 committed_rests opening r c rests stands = elim (others_one opening 0 r c (rests 0) stands) [
   | inl none ↦ (ap (λ (l : List ℕ). r.order ++ groups (group_at r) l) none ∙ append-nil r.order)
   | inr one ↦
@@ -223,7 +223,7 @@ next_stays xs g r end ys stays (inr behind) =
     let k = stays g behind.0 in
     inr (k.0, behind.1 ∙ ap (λ (x : Group). xs ++ x ∷ []) (sym k.1))
 
-stands_next : (opening : Map) (xs : List Group) (g : ℕ) (r end : Roll) (c : Map) → Stays r end → Rests g r → Grew xs g r → Stands opening r c → RecoversNext opening xs g end c
+stands_next : (opening : Map) (xs : List Group) (g : ℕ) (r end : Roll) (c : Map) → Stays r end → Rests g r → Grew xs g r → RecoversCommitted opening r c → RecoversNext opening xs g end c
 stands_next opening xs g r end c stays rests grew stands = (committed r c, next_stays xs g r end (committed r c) stays (committed_next opening xs g r c rests grew stands), stands.recovers)
 
 -- a crash while a group goes its way

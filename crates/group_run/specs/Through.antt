@@ -7,7 +7,7 @@ use Rattle.file_tree.specs.Disk.{Map}
 use Rattle.owner_book.specs.Book.{Book, HasOwnersOf}
 use Rattle.merge_core.specs.Keeping.{machine_of}
 use Rattle.merge_core.specs.Phase.{Told}
-use Rattle.merge_core.specs.Roll.{Stands, idle, resting}
+use Rattle.merge_core.specs.Roll.{RecoversCommitted, idle, resting}
 use Rattle.merge_site.specs.Booking.{wishes_at}
 use Rattle.merge_site.specs.Site.{Account, StoodDuring}
 use Rattle.group_run.specs.Applied.{RecoversWith, number}
@@ -25,13 +25,6 @@ HasRoom n list = vec_len list + n ≤ vec_capacity list
 abbrev pub settled_all : List Turn → Book → Book
 settled_all [] b = b
 settled_all (t ∷ ts) b = settled_all ts (settled (changes_of t) b)
-
--- a site with the groups, the tree and the book of another one
-pub record IsSameSite {T S : Type 0} (old new : Account T S) : Type 0 where
-  pub count : length new.keeping.standings ≡ length old.keeping.standings
-  pub groups : new.groups ≡ old.groups
-  pub opened_book : new.opened_book ≡ old.opened_book
-  pub opened : new.opened ≡ old.opened
 
 -- each crash image since the opening recovers to it with the groups of some first turns applied
 abbrev pub HasStood : {T S : Type 0} → Map → List Turn → Account T S → Type 0
@@ -57,7 +50,7 @@ pub record IsThrough {T S : Type 0} (tells : Bool) (opening : Map) (turns : List
 pub record HasEnded {A T S : Type 0} (tells : Bool) (opening : Map) (turns : List Turn)
     (a : Account T S) (end : Result A Stop) : Type 0 where
   pub stood : IsTrue tells → HasStood opening turns a
-  pub crash : IsTrue tells → (c : Map) → Stands opening (machine_of a.keeping).roll c →
+  pub crash : IsTrue tells → (c : Map) → RecoversCommitted opening (machine_of a.keeping).roll c →
       RecoversWith (AreFirst opening a.opened_book a.groups turns) opening
       (map number a.keeping.order) c
   pub order : IsTrue tells → AreFirst opening a.opened_book a.groups turns a.keeping.order

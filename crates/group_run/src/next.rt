@@ -3,7 +3,8 @@ ghost use Rattle.std.specs.Prelude.{IfErr, IsErrOf, IsTrue, OnOk};
 ghost use Rattle.file_tree.specs.Disk.{CountsFault};
 ghost use Rattle.group_run.specs.Lines.{AreLines, Wrote, line_in};
 ghost use Rattle.group_run.specs.Runs.{EndsAt, IsNew, IsUnderWay};
-ghost use Rattle.group_run.specs.Through.{HasRoom, IsSameSite};
+ghost use Rattle.group_run.specs.Through.{HasRoom};
+ghost use Rattle.merge_site.specs.Site.{IsSameSite};
 ghost use Rattle.group_run.specs.declared.turn.Turn.{Turn};
 
 use crate::running::merge_and_tell;

@@ -1,16 +1,17 @@
 -- A verdict in words: a group that is judged good is in form, and one that is in form is judged good.
-use Rattle.std.proofs.Common.{◌≡◌, ◌⊎◌, ◌+◌, ◌&&◌, ◌||◌, ℕ, zero, suc, Bool, true, false, not, cond, eqb, List, [], ◌∷◌, length, Option, Some, None, Result, Ok, Err, refl, sym, ap, subst, ◌∙◌, inl, inr, arith, eq-eqb}
+use Rattle.std.proofs.Common.{◌≡◌, ◌⊎◌, ◌+◌, ◌<◌, ◌^◌, ◌++◌, ◌&&◌, ◌||◌, ℕ, zero, suc, Bool, true, false, not, cond, eqb, List, [], ◌∷◌, length, Option, Some, None, Result, Ok, Err, refl, sym, ap, subst, ◌∙◌, inl, inr, arith, eq-eqb}
 use Rattle.std.specs.Prelude.{bytes_eq, slice_get}
 use Rattle.std.proofs.lemmas.Bool.{and_from, and_parts, eqb-true, or_cases, or_left, or_right}
 use Rattle.std.proofs.lemmas.Slice.Eq.{bytes_eq-Decides}
 use Rattle.basics.specs.Members.{AreDistinct, Has}
+use Rattle.basics.proofs.Membership.{has-append_cases}
 use Rattle.md5.specs.Md5.{md5}
 use Rattle.file_tree.specs.Disk.{Map}
 use Rattle.file_tree.specs.Thing.{Thing}
 use Rattle.file_tree.specs.declared.objects.Kind.{Kind}
 use Rattle.file_tree.specs.declared.objects.Kind.TheVariants.{Plain, Exec, Link}
 use Rattle.merge_record.specs.Content.{Content}
-use Rattle.journal.specs.Judging.{◌>>=◌, IsInForm, IsStaged, are_free, footprint, is_free, is_in, is_staged, judged, meets_jobs, paths_judged, record_in, record_read, stages_judged}
+use Rattle.journal.specs.Judging.{◌>>=◌, AreApplicable, IsGroupInForm, IsStaged, are_free, footprint, is_free, is_in, is_staged, judged, meets_jobs, paths_judged, record_in, record_read, stages_judged}
 use Rattle.journal.specs.Names.{record_path, stage_path}
 use Rattle.merge_record.specs.Spelling.{byte_of}
 use Rattle.journal.specs.declared.fault.JudgeFault.{JudgeFault}
@@ -159,7 +160,7 @@ read_ok g (Err e) r h = absurd cc
 unit_ok : (r : Result (Unit {0}) JudgeFault) (x : Unit {0}) → r ≡ Ok x → r ≡ fine
 unit_ok r x h = h
 
-pub judged_words : (c : Map) (taken : List (List ℕ)) (g : ℕ) (r : Content) → judged c taken g ≡ Ok r → IsInForm c taken g r
+pub judged_words : (c : Map) (taken : List (List ℕ)) (g : ℕ) (r : Content) → judged c taken g ≡ Ok r → IsGroupInForm c taken g r
 unfolding judged paths_judged
 judged_words c taken g r h =
     let a = bind_ok (record_read g (record_in (c (record_path g)))) (λ x. paths_judged taken g x >>= λ free. stages_judged c g 0 x.placements >>= λ staged. Ok x) r h in
@@ -169,7 +170,7 @@ judged_words c taken g r h =
     let p = chosen_ok (eqb a.0.group g && are_free taken (footprint a.0)) (Ok tt) (faults.BadRecord g) b.0 b.1 in
     let q = and_parts (eqb a.0.group g) (are_free taken (footprint a.0)) p.0 in
     let free = are_free-words taken (footprint a.0) q.1 in
-    subst (λ (x : Content). IsInForm c taken g x) same (record {
+    subst (λ (x : Content). IsGroupInForm c taken g x) same (record {
       reads = read_ok g (record_in (c (record_path g))) a.0 a.1;
       number = eqb-true _ _ q.0;
       distinct = free.distinct;
@@ -185,7 +186,7 @@ free_if_passed taken g r h =
     let p = chosen_ok (eqb r.group g && are_free taken (footprint r)) fine (faults.BadRecord g) tt h in
     (and_parts (eqb r.group g) (are_free taken (footprint r)) p.0).1
 
-pub judged_if : (c : Map) (taken : List (List ℕ)) (g : ℕ) (r : Content) → IsInForm c taken g r → judged c taken g ≡ Ok r
+pub judged_if : (c : Map) (taken : List (List ℕ)) (g : ℕ) (r : Content) → IsGroupInForm c taken g r → judged c taken g ≡ Ok r
 unfolding record_read
 judged_if c taken g r h =
     let read : record_read g (record_in (c (record_path g))) ≡ Ok r = ap (record_read g) h.reads in
@@ -205,3 +206,19 @@ judged_alike c d taken g same stages = rw same (go (record_read g (record_in (d 
     go : (read : Result Content JudgeFault) → (read >>= λ x. paths_judged taken g x >>= λ free. stages_judged c g 0 x.placements >>= λ staged. Ok x) ≡ (read >>= λ x. paths_judged taken g x >>= λ free. stages_judged d g 0 x.placements >>= λ staged. Ok x)
     go (Ok x) = rw (stages_alike c d g 0 x.placements stages) refl
     go (Err e) = refl
+
+-- ---- records as they are judged, one after another
+
+free_alone : (taken paths : List (List ℕ)) → are_free taken paths ≡ true → are_free [] paths ≡ true
+free_alone taken paths free =
+    let k = are_free-words taken paths free in
+    are_free-if [] paths (record { distinct = k.distinct; outside = k.outside; apart = λ q has none. none })
+
+pub applicable_more : (rs : List Content) (r : Content) (taken : List (List ℕ)) → AreApplicable rs → are_free taken (footprint r) ≡ true → length r.placements < 2 ^ 32 → AreApplicable (rs ++ r ∷ [])
+applicable_more rs r taken all free few x has = elim (has-append_cases rs (r ∷ []) x has) [
+  | inl had ↦ all x had
+  | inr last ↦ elim last [
+    | inl e ↦ subst (λ (y : Content). (are_free [] (footprint y) ≡ true) × (length y.placements < 2 ^ 32)) e (free_alone taken (footprint r) free, few)
+    | inr none ↦ absurd none
+  ]
+]

@@ -1,5 +1,5 @@
 -- When the open groups of an image are in form, and the first that isn't.
-use Rattle.std.specs.Prelude.{◌≡◌, ◌==◌, ◌&&◌, ◌||◌, ◌++◌, ℕ, suc, Bool, true, false, not, length, map, List, [], ◌∷◌, Option, Some, None, Result, Ok, Err, bytes_eq, slice_get, if◌then◌else◌, ⊤}
+use Rattle.std.specs.Prelude.{◌≡◌, ◌==◌, ◌<◌, ◌^◌, ◌&&◌, ◌||◌, ◌++◌, ℕ, suc, Bool, true, false, not, length, map, List, [], ◌∷◌, Option, Some, None, Result, Ok, Err, bytes_eq, slice_get, if◌then◌else◌, ⊤}
 use Rattle.std.specs.List.{list_any}
 use Rattle.basics.specs.Members.{AreDistinct, Has}
 use Rattle.file_tree.specs.Disk.{Map}
@@ -100,6 +100,11 @@ judged_all c taken (g ∷ gs) = do
 unfoldable pub judged_open : Map → Result (List Content) JudgeFault
 judged_open c = judged_all c [] (open_groups c)
 
+-- the paths of each record are apart and outside the journal, and its stages have numbers
+abbrev pub AreApplicable : List Content → Type 0
+AreApplicable rs = (r : Content) → Has rs r →
+    (are_free [] (footprint r) ≡ true) × (length r.placements < 2 ^ 32)
+
 -- what a call answered, seen by view, is the verdict, unless the device failed or memory ran out
 abbrev pub Misses : {Y : Type 0} → JudgeFault → Result Y JudgeFault → Type 0
 Misses faults.Failed verdict = ⊤
@@ -126,7 +131,7 @@ pub record IsStaged (x : Option Thing) (p : Placement) : Type 0 where
 
 -- a group whose gate is open is in form, with this record, where these paths are taken by lower
 -- groups
-pub record IsInForm (c : Map) (taken : List (List ℕ)) (g : ℕ) (r : Content) : Type 0 where
+pub record IsGroupInForm (c : Map) (taken : List (List ℕ)) (g : ℕ) (r : Content) : Type 0 where
   pub reads : record_in (c (record_path g)) ≡ Ok r
   pub number : r.group ≡ g
   pub distinct : AreDistinct (footprint r)

@@ -2,7 +2,7 @@ ghost use Rattle.std.specs.Prelude.{◌≡◌, ◌<◌, ◌^◌, ◌∷◌, ◌+
 ghost use Rattle.std.specs.Prelude.{IfOk, IsErrOf, IsTrue, OnOk};
 ghost use Rattle.std.specs.Bool.{OnTrue};
 ghost use Rattle.file_tree.specs.Disk.{CountsFault};
-ghost use Rattle.journal.specs.Judging.{Agrees, HasSame, are_free, footprint, is_free, is_in};
+ghost use Rattle.journal.specs.Judging.{Agrees, AreApplicable, HasSame, are_free, footprint, is_free, is_in};
 ghost use Rattle.journal.specs.Judging.{is_staged, judged, judged_all, meets_jobs, path_of};
 ghost use Rattle.journal.specs.Judging.{paths_judged, record_in, record_read, stages_judged};
 ghost use Rattle.journal.specs.Names.{jobs, record_path};
@@ -203,6 +203,7 @@ pub fn judge_all<T: Tree>(
 ) -> Result<Vec<Record>, JudgeFault>
     ensures answer { IsTrue T.tells → Agrees (λ v. v.items) result
         (judged_all (T.story tree.old).now.holds [] groups.now) }
+    ensures applicable { IfOk result (λ v. AreApplicable v.items) }
     ensures same { IsTrue T.tells → T.story tree.new ≡ T.story tree.old }
     ensures faults { CountsFault (IsErrOf result JudgeFault.Failed) (T.faults tree.old)
         (T.faults tree.new) }

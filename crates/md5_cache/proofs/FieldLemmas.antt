@@ -11,7 +11,7 @@ use Rattle.std.proofs.lemmas.Slice.Eq.{bytes_eq-Decides}
 use Rattle.std.proofs.lemmas.List.{drop_all, take_all, take_more, take-append-drop}
 use Rattle.std.proofs.Math.Seq.{drop-cons}
 use Rattle.md5_cache.specs.FieldFaults.{HasNoOther, IsFirstBad, IsOther}
-use Rattle.md5_cache.specs.Fields.{AreFields, IsGood, IsInForm, field_of, first_absent, value_under}
+use Rattle.md5_cache.specs.Fields.{AreFields, IsGood, IsFieldInForm, field_of, first_absent, value_under}
 use Rattle.md5_cache.specs.declared.field.Field.{Field as Kind}
 use Rattle.md5_cache.specs.declared.pair.Pair.{Pair}
 
@@ -77,13 +77,13 @@ all_there pairs f =
     three (is_some (value_under pairs (codes "EAPI"))) (is_some (value_under pairs (codes "SLOT"))) (is_some (value_under pairs (codes "_md5_"))) (codes "_md5_") (codes "SLOT") (codes "EAPI")
     (ap is_some f.edition) f.slot f.digest
 
-pub good_from : (item : Pair) (field : Kind) (key value : List ℕ) → field ≡ field_of key → key ≡ item.key → value ≡ item.value → IsInForm field value → IsGood item
+pub good_from : (item : Pair) (field : Kind) (key value : List ℕ) → field ≡ field_of key → key ≡ item.key → value ≡ item.value → IsFieldInForm field value → IsGood item
 good_from item field key value kind keys values form =
-    subst (λ (v : List ℕ). IsInForm (field_of item.key) v) values (subst (λ (f : Kind). IsInForm f value) (kind ∙ ap field_of keys) form)
+    subst (λ (v : List ℕ). IsFieldInForm (field_of item.key) v) values (subst (λ (f : Kind). IsFieldInForm f value) (kind ∙ ap field_of keys) form)
 
-pub good_to : (item : Pair) (field : Kind) (key value : List ℕ) → field ≡ field_of key → key ≡ item.key → value ≡ item.value → IsGood item → IsInForm field value
+pub good_to : (item : Pair) (field : Kind) (key value : List ℕ) → field ≡ field_of key → key ≡ item.key → value ≡ item.value → IsGood item → IsFieldInForm field value
 good_to item field key value kind keys values good =
-    subst (λ (f : Kind). IsInForm f value) (sym (kind ∙ ap field_of keys)) (subst (λ (v : List ℕ). IsInForm (field_of item.key) v) (sym values) good)
+    subst (λ (f : Kind). IsFieldInForm f value) (sym (kind ∙ ap field_of keys)) (subst (λ (v : List ℕ). IsFieldInForm (field_of item.key) v) (sym values) good)
 
 pub no_bad : (pairs : List Pair) (key : List ℕ) → AllByRecursion IsGood pairs → IsFirstBad pairs key → ⊥
 no_bad pairs key each bad = bad.wrong (good_at bad.front bad.bad bad.rest (subst (AllByRecursion IsGood) bad.place each))

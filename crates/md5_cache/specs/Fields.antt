@@ -35,17 +35,17 @@ field_of key =
     else Other
 
 -- the field may have the value
-abbrev pub IsInForm : Field → List ℕ → Type 0
-IsInForm Slot value = (slot : List ℕ) × (subslot : List ℕ) × IsSlotValue value slot subslot
-IsInForm Digest value = (digest : List ℕ) × WritesDigest value digest
-IsInForm Iuse value = EachWord IsItem value
-IsInForm Required value = IsExpression value
-IsInForm Needs value = AreDependencies value
-IsInForm Other value = ⊤
+abbrev pub IsFieldInForm : Field → List ℕ → Type 0
+IsFieldInForm Slot value = (slot : List ℕ) × (subslot : List ℕ) × IsSlotValue value slot subslot
+IsFieldInForm Digest value = (digest : List ℕ) × WritesDigest value digest
+IsFieldInForm Iuse value = EachWord IsItem value
+IsFieldInForm Required value = IsExpression value
+IsFieldInForm Needs value = AreDependencies value
+IsFieldInForm Other value = ⊤
 
 -- the key of the pair may have its value
 abbrev pub IsGood : Pair → Type 0
-IsGood p = IsInForm (field_of p.key) p.value
+IsGood p = IsFieldInForm (field_of p.key) p.value
 
 -- the first of the keys that must be there and isn't
 abbrev pub first_absent : List Pair → Option (List ℕ)

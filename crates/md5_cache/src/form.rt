@@ -3,7 +3,7 @@ ghost use Rattle.dep_tree.specs.Texts.{AreDependencies};
 ghost use Rattle.required_use.specs.Texts.{IsExpression};
 ghost use Rattle.use_flags.specs.Items.{IsItem};
 ghost use Rattle.use_flags.specs.Words.{EachWord};
-ghost use Rattle.md5_cache.specs.Fields.{IsInForm};
+ghost use Rattle.md5_cache.specs.Fields.{IsFieldInForm};
 ghost use Rattle.md5_cache.specs.declared.field.Field.TheVariants as fields;
 
 use crate::field::Field;
@@ -16,7 +16,7 @@ use use_flags::{Iuse, UseFault};
 
 /// Whether the field may have the value.
 pub(crate) fn is_in_form(alloc: Global, field: Field, value: &str) -> Result<bool, AllocError>
-    ensures { IfOk result (λ b. IsTrue b ↔ IsInForm field value.now) }
+    ensures { IfOk result (λ b. IsTrue b ↔ IsFieldInForm field value.now) }
 {
     match field {
         Field::Slot => is_slot(alloc, value),
@@ -29,7 +29,7 @@ pub(crate) fn is_in_form(alloc: Global, field: Field, value: &str) -> Result<boo
 }
 
 fn is_slot(alloc: Global, value: &str) -> Result<bool, AllocError>
-    ensures { IfOk result (λ b. IsTrue b ↔ IsInForm fields.Slot value.now) }
+    ensures { IfOk result (λ b. IsTrue b ↔ IsFieldInForm fields.Slot value.now) }
 {
     match SlotValue::read(alloc, value.as_bytes()) {
         Ok(found) => Ok(found.is_some()),
@@ -38,7 +38,7 @@ fn is_slot(alloc: Global, value: &str) -> Result<bool, AllocError>
 }
 
 fn is_digest(value: &[u8]) -> bool
-    ensures { IsTrue result ↔ IsInForm fields.Digest value.now }
+    ensures { IsTrue result ↔ IsFieldInForm fields.Digest value.now }
 {
     digest_from(value).is_some()
 }

@@ -1,7 +1,7 @@
 ghost use Rattle.std.specs.Prelude.{◌≡◌, ◌<◌, ◌≤◌, ◌^◌, false, length, Some, IfErr, IfOk, IsTrue};
 ghost use Rattle.std.specs.Prelude.{IsOk, OnErr, OnOk};
 ghost use Rattle.journal.specs.Judging.{IsStaged};
-ghost use Rattle.merge_record.specs.Spelling.{Fits, PassesLimit};
+ghost use Rattle.merge_record.specs.Spelling.{IsSpellable, PassesLimit};
 ghost use Rattle.merge_core.specs.Core.{standing_in};
 ghost use Rattle.merge_core.specs.Event.{Admits, Claim, PutRecord, PutStage, answered, in_phase};
 ghost use Rattle.merge_core.specs.Event.{put_content};
@@ -105,7 +105,7 @@ impl Core {
         ensures ok { OnOk result (self.new ≡
             with_answer self.old group (with_record ok self.old.syncs group removals.items
             (standing_in self.old.standings group)) ok) }
-        ensures fits { OnOk result (Fits (put_content (machine_of self.old) group removals.items)) }
+        ensures fits { OnOk result (IsSpellable (put_content (machine_of self.old) group removals.items)) }
         ensures refused { IfErr result (IsRefusedAt self.old group Phase.Building
             (PassesLimit (put_content (machine_of self.old) group removals.items))) }
         ensures kept { OnErr result (self.new ≡ self.old) }

@@ -1,6 +1,6 @@
 ghost use Rattle.std.specs.Prelude.{◌≡◌, ◌⊎◌, length, IfErr, IfOk, IsErrOf};
 ghost use Rattle.file_tree.specs.Thing.{plain};
-ghost use Rattle.merge_record.specs.Spelling.{Fits, PassesLimit, spelling};
+ghost use Rattle.merge_record.specs.Spelling.{IsSpellable, PassesLimit, spelling};
 ghost use Rattle.merge_core.specs.Core.{standing_in};
 ghost use Rattle.merge_core.specs.Event.{Admits, PutRecord, answered, put_content};
 ghost use Rattle.merge_core.specs.Keeping.{machine_of};
@@ -27,7 +27,7 @@ impl Core {
         ensures object { IfOk result (λ r. r.1 ≡
             plain (spelling (put_content (machine_of self.old) group removals.items))) }
         ensures fits { IfOk result (λ _.
-            Fits (put_content (machine_of self.old) group removals.items)) }
+            IsSpellable (put_content (machine_of self.old) group removals.items)) }
         ensures limit { IsErrOf result Refusal.Limit →
             PassesLimit (put_content (machine_of self.old) group removals.items) }
         ensures only { IfErr result (λ e. (e ≡ Refusal.Limit) ⊎ (e ≡ Refusal.Memory)) }
@@ -60,7 +60,7 @@ impl Core {
     /// Takes the record of a group, whose call was answered. It takes no memory.
     pub fn take_record(&mut self, group: u32, removals: Vec<Path>, body: &Object, ok: bool)
         requires at { IsAt self.old group Phase.Building }
-        requires fits { Fits (put_content (machine_of self.old) group removals.items) }
+        requires fits { IsSpellable (put_content (machine_of self.old) group removals.items) }
         requires body { body.now ≡
             plain (spelling (put_content (machine_of self.old) group removals.items)) }
         ensures admitted { Admits (machine_of self.old) (PutRecord group removals.items) }

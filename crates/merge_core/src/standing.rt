@@ -61,7 +61,7 @@ impl Standing {
 impl Standing {
     ghost use Rattle.std.specs.Prelude.{◌≡◌, ◌⊎◌, ◌<◌, ◌^◌, false, length, IfErr, IfOk, IsErrOf};
     ghost use Rattle.std.specs.Prelude.{IsTrue, OnErr, OnOk};
-    ghost use Rattle.merge_record.specs.Spelling.{Fits, PassesLimit, spelling};
+    ghost use Rattle.merge_record.specs.Spelling.{IsSpellable, PassesLimit, spelling};
     ghost use Rattle.merge_core.specs.Payloads.{IsFull, with_claim, with_record, with_stage};
     ghost use Rattle.merge_core.specs.Roll.{resting};
     ghost use Rattle.merge_core.specs.Phase.{Recorded};
@@ -191,7 +191,7 @@ impl Standing {
     ) -> Result<(Vec<Path>, Vec<u8>), RecordFault>
         ensures kept { self.new ≡ self.old }
         ensures ok { IfOk result (λ r. (r.0.items ≡ removals.items) ×
-            Fits (record
+            IsSpellable (record
             { group = group; removals = removals.items; placements = self.old.placements }) ×
             (r.1.items ≡ spelling
             (record { group = group; removals = removals.items; placements = self.old.placements }))) }
@@ -229,7 +229,7 @@ impl Standing {
         syncs: u64,
     ) -> Result<(), Refusal>
         ensures ok { OnOk result (self.new ≡ with_record ok syncs group removals.items self.old) }
-        ensures fits { OnOk result (Fits
+        ensures fits { OnOk result (IsSpellable
             (record { group = group; removals = removals.items; placements = self.old.placements })) }
         ensures limit { IsErrOf result Refusal.Limit →
             PassesLimit (record

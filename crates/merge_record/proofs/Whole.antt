@@ -10,7 +10,7 @@ use Rattle.file_tree.specs.Paths.{is_path, most_bytes}
 use Rattle.file_tree.specs.declared.objects.Kind.{Kind}
 use Rattle.file_tree.specs.declared.objects.Kind.TheVariants.{Plain, Exec, Link}
 use Rattle.merge_record.specs.Content.{Content}
-use Rattle.merge_record.specs.Spelling.{IsPathText, IsPlacement, Fits, byte_of, counted, lead, number_text, path_text, placement_text, spelling}
+use Rattle.merge_record.specs.Spelling.{IsPathText, IsPlacement, IsSpellable, byte_of, counted, lead, number_text, path_text, placement_text, spelling}
 use Rattle.merge_record.specs.Reading.{◌>>=◌, Gives, byte_at, bytes_at, count_at, counted_at, fields_at, kind_at, lead_at, many_at, number_at, path_at, placement_at, record_of, size_at}
 use Rattle.merge_record.specs.declared.fault.RecordFault.{RecordFault}
 use Rattle.merge_record.specs.declared.fault.RecordFault.TheVariants as faults
@@ -249,7 +249,7 @@ unless_ok : {A : Type 0} (b : Bool) (e : RecordFault) (r : Result A RecordFault)
 unless_ok true e r x h = absurd cc
 unless_ok false e r x h = (refl, h)
 
-pub record_takes : (bytes : List ℕ) (r : Content) → IsBytes bytes → record_of bytes ≡ Ok r → Fits r × (bytes ≡ spelling r)
+pub record_takes : (bytes : List ℕ) (r : Content) → IsBytes bytes → record_of bytes ≡ Ok r → IsSpellable r × (bytes ≡ spelling r)
 unfolding record_of
 record_takes bytes r fits e =
     let u = unless_ok (ltb MOST_RECORD_BYTES (length bytes)) faults.Limit (fields_at (length bytes) bytes >>= λ all. cond (eqb (length all.1) 0) (Ok all.0) (Err faults.Trailing)) r e in
@@ -260,17 +260,17 @@ record_takes bytes r fits e =
     let whole : bytes ≡ spelling a.0.0 = t.0.parts ∙ ap (λ (rest : List ℕ). spelling a.0.0 ++ rest) nothing ∙ append-nil (spelling a.0.0) in
     let small : length bytes ≤ MOST_RECORD_BYTES = ltb-false _ _ u.0 in
     let size : length (spelling a.0.0) ≤ MOST_RECORD_BYTES = subst (λ (b : List ℕ). length b ≤ MOST_RECORD_BYTES) whole small in
-    let good : Fits a.0.0 = record { group = t.1.group; removals = t.1.removals; placements = t.1.placements; paths = t.1.paths; bytes = size } in
-    subst (λ (y : Content). Fits y × (bytes ≡ spelling y)) p.1 (good, whole)
+    let good : IsSpellable a.0.0 = record { group = t.1.group; removals = t.1.removals; placements = t.1.placements; paths = t.1.paths; bytes = size } in
+    subst (λ (y : Content). IsSpellable y × (bytes ≡ spelling y)) p.1 (good, whole)
 
-pub record_again : (r : Content) → Fits r → record_of (spelling r) ≡ Ok r
+pub record_again : (r : Content) → IsSpellable r → record_of (spelling r) ≡ Ok r
 unfolding record_of
 record_again r fits =
     let within : ltb MOST_RECORD_BYTES (length (spelling r)) ≡ false = le-ltb _ _ fits.bytes in
     let fields = fields_again (length (spelling r)) r (record { group = fits.group; removals = fits.removals; placements = fits.placements; paths = fits.paths }) in
     rw within (bind_is (fields_at (length (spelling r)) (spelling r)) (r, []) (λ all. cond (eqb (length all.1) 0) (Ok all.0) (Err faults.Trailing)) fields)
 
-pub is_found : (bytes : List ℕ) (r : Result Content RecordFault) → IsBytes bytes → Gives (λ x. x) r (record_of bytes) → IfOk r (λ x. Fits x × (bytes ≡ spelling x))
+pub is_found : (bytes : List ℕ) (r : Result Content RecordFault) → IsBytes bytes → Gives (λ x. x) r (record_of bytes) → IfOk r (λ x. IsSpellable x × (bytes ≡ spelling x))
 is_found bytes (Ok x) fits given = record_takes bytes x fits given
 is_found bytes (Err e) fits given = tt
 
@@ -280,5 +280,5 @@ read_as r = Ok r
 same_content : (r s : Content) → read_as r ≡ read_as s → r ≡ s
 same_content r s e = cc
 
-pub spelling-injective : (r s : Content) → Fits r → Fits s → spelling r ≡ spelling s → r ≡ s
+pub spelling-injective : (r s : Content) → IsSpellable r → IsSpellable s → spelling r ≡ spelling s → r ≡ s
 spelling-injective r s fr fs e = same_content r s (sym (record_again r fr) ∙ ap record_of e ∙ record_again s fs)

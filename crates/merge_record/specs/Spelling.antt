@@ -50,7 +50,7 @@ pub record IsPlacement (p : Placement) : Type 0 where
   pub digest : length p.md5 ≡ 16
 
 -- what has a spelling
-pub record Fits (r : Content) : Type 0 where
+pub record IsSpellable (r : Content) : Type 0 where
   pub group : r.group < 2 ^ 32
   pub removals : AllByRecursion IsPathText r.removals
   pub placements : AllByRecursion IsPlacement r.placements

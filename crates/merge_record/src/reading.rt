@@ -2,7 +2,7 @@ ghost use Rattle.std.specs.Prelude.{◌≡◌, ◌&&◌, false, true, IfOk, Matc
 ghost use Rattle.std.specs.Str.{is_utf8};
 ghost use Rattle.file_tree.specs.Paths.{is_path};
 ghost use Rattle.merge_record.specs.Content.{Content};
-ghost use Rattle.merge_record.specs.Spelling.{lead, Fits, spelling};
+ghost use Rattle.merge_record.specs.Spelling.{lead, IsSpellable, spelling};
 ghost use Rattle.merge_record.specs.Reading.{Gives, byte_at, bytes_at, count_at, counted_at};
 ghost use Rattle.merge_record.specs.Reading.{fields_at, kind_at, lead_at, many_at, number_at};
 ghost use Rattle.merge_record.specs.Reading.{path_at, placement_at, record_of, size_at};
@@ -268,9 +268,9 @@ fn whole(alloc: Global, bytes: &[u8]) -> Result<Record, RecordFault>
 /// The record that the bytes spell, all of the bytes.
 pub fn decode(alloc: Global, bytes: &[u8]) -> Result<Record, RecordFault>
     // What is read is spelled so.
-    ensures found { IfOk result (λ r. Fits r × (bytes.now ≡ spelling r)) }
+    ensures found { IfOk result (λ r. IsSpellable r × (bytes.now ≡ spelling r)) }
     // What is spelled so is read, unless memory runs out.
-    ensures only { (r : Content) → Fits r → bytes.now ≡ spelling r → Gives (λ x. x) result (Ok r) }
+    ensures only { (r : Content) → IsSpellable r → bytes.now ≡ spelling r → Gives (λ x. x) result (Ok r) }
     // Which fault it is.
     ensures fault { Gives (λ r. r) result (record_of bytes.now) }
 {

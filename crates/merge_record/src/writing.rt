@@ -1,7 +1,7 @@
 ghost use Rattle.std.specs.Prelude.{◌≡◌, ◌⊎◌, ◌<◌, ◌^◌, ◌++◌, ◌≤◌, false, length, All, Any, IfErr};
 ghost use Rattle.std.specs.Prelude.{IfOk, IsErrOf, IsTrue, OnOk};
 ghost use Rattle.std.specs.List.{AllByRecursion, flat_map};
-ghost use Rattle.merge_record.specs.Spelling.{Fits, IsPathText, PassesLimit, byte_of, counted};
+ghost use Rattle.merge_record.specs.Spelling.{IsSpellable, IsPathText, PassesLimit, byte_of, counted};
 ghost use Rattle.merge_record.specs.Spelling.{lead, number_text, path_text, placement_text};
 ghost use Rattle.merge_record.specs.Spelling.{spelling};
 
@@ -129,7 +129,7 @@ fn has_long(placements: &[Placement]) -> bool
 
 /// The one spelling of the record. It is spelled before its size is known.
 pub fn encode(alloc: Global, value: &Record) -> Result<Vec<u8>, RecordFault>
-    ensures ok { IfOk result (λ v. (v.items ≡ spelling value.now) × Fits value.now) }
+    ensures ok { IfOk result (λ v. (v.items ≡ spelling value.now) × IsSpellable value.now) }
     ensures limit { IsErrOf result RecordFault.Limit → PassesLimit value.now }
     ensures only { IfErr result (λ e. (e ≡ RecordFault.Limit) ⊎ (e ≡ RecordFault.Memory)) }
 {

@@ -6,7 +6,7 @@ use Rattle.file_tree.specs.Thing.{Thing}
 use Rattle.merge_core.specs.Event.{Admits, Answers, Asks, Call, Event, MayFollow, Nothing, Sync, answered, call}
 use Rattle.merge_core.specs.Keeping.{Keeping, machine_of}
 use Rattle.merge_core.specs.Order.{IsInOrder}
-use Rattle.merge_core.specs.Roll.{Machine, Standing, Stands, idle}
+use Rattle.merge_core.specs.Roll.{Machine, Standing, RecoversCommitted, idle}
 use Rattle.merge_core.specs.Event.{begun}
 use Rattle.file_tree.specs.Moments.{Since}
 use Rattle.merge_core.specs.Site.{Performs}
@@ -18,7 +18,7 @@ use Rattle.merge_core.proofs.Trails.{each_event_keeps, machine_on, trail_on}
 use Rattle.merge_site.specs.declared.group.SiteGroup.{SiteGroup}
 use Rattle.merge_core.specs.Core.{standing_in}
 use Rattle.merge_site.proofs.Placed.{IsPlacedAs, placed_same}
-use Rattle.merge_site.specs.Site.{AreFresh, AreInStep, HavePaths, IsHeld, IsKept, IsPossible, Payload, is_stage}
+use Rattle.merge_site.specs.Site.{AreFresh, AreInStep, HavePaths, IsHeld, IsSiteInOrder, IsPossible, Payload, is_stage}
 
 -- a step that is taken is one that the machine admits
 pub taken_admits : (k : Keeping) (g : ℕ) (s : Step) → g < 2 ^ 32 → IsTaken k g s → Admits (machine_of k) (event_of g s)
@@ -43,7 +43,7 @@ held_on k k' es start old new e ok leads held may admits performs goes =
     let step = performs start.now.holds held.order may admits in
     record {
       order = subst (λ (x : Machine). IsInOrder start.now.holds x new.now) (sym goes) step.0;
-      trail = trail_on start.now.holds idle start old new es e ok held.trail (subst (λ (m : Machine). Since (Stands start.now.holds (begun m e).roll) old new) (sym leads) step.1);
+      trail = trail_on start.now.holds idle start old new es e ok held.trail (subst (λ (m : Machine). Since (RecoversCommitted start.now.holds (begun m e).roll) old new) (sym leads) step.1);
     }
 
 -- what a device could have done
@@ -68,10 +68,10 @@ possible_on k k' e ok possible may admits goes =
 
 -- so does all that a site promises, where its groups stay in step
 pub kept_by : (tells : Bool) (k k' : Keeping) (es es' : List Entry) (xs : List SiteGroup) (ps ps' : List Payload) (start old new : Story) (mark : Thing) (e : Event) (ok : Bool)
-    → IsKept tells k es xs ps start old mark → MayFollow (machine_of k) e → Admits (machine_of k) e → (IsTrue tells → Performs (machine_of k) e ok old new)
-    → machine_of k' ≡ answered (machine_of k) e ok → es' ≡ es ++ (e, ok) ∷ [] → AreInStep k' xs ps' → IsKept tells k' es' xs ps' start new mark
+    → IsSiteInOrder tells k es xs ps start old mark → MayFollow (machine_of k) e → Admits (machine_of k) e → (IsTrue tells → Performs (machine_of k) e ok old new)
+    → machine_of k' ≡ answered (machine_of k) e ok → es' ≡ es ++ (e, ok) ∷ [] → AreInStep k' xs ps' → IsSiteInOrder tells k' es' xs ps' start new mark
 kept_by tells k k' es es' xs ps ps' start old new mark e ok kept may admits performs goes log step =
-    subst (λ (l : List Entry). IsKept tells k' l xs ps' start new mark) (sym log) (record {
+    subst (λ (l : List Entry). IsSiteInOrder tells k' l xs ps' start new mark) (sym log) (record {
       leads = machine_on idle es e ok ∙ (ap (λ (m : Machine). answered m e ok) kept.leads ∙ sym goes);
       step = step;
       is_token = kept.is_token;
@@ -95,9 +95,9 @@ paths_on k k' ps e ok none admits goes fresh paths i p at =
 
 -- an event that stages nothing
 pub kept_on : (tells : Bool) (k k' : Keeping) (es es' : List Entry) (xs : List SiteGroup) (ps : List Payload) (start old new : Story) (mark : Thing) (e : Event) (ok : Bool)
-    → is_stage e ≡ false → IsKept tells k es xs ps start old mark → MayFollow (machine_of k) e → Admits (machine_of k) e
+    → is_stage e ≡ false → IsSiteInOrder tells k es xs ps start old mark → MayFollow (machine_of k) e → Admits (machine_of k) e
     → (IsTrue tells → Performs (machine_of k) e ok old new) → machine_of k' ≡ answered (machine_of k) e ok → length k'.standings ≡ length k.standings → es' ≡ es ++ (e, ok) ∷ []
-    → IsKept tells k' es' xs ps start new mark
+    → IsSiteInOrder tells k' es' xs ps start new mark
 kept_on tells k k' es es' xs ps start old new mark e ok none kept may admits performs goes groups log =
     kept_by tells k k' es es' xs ps ps start old new mark e ok kept may admits performs goes log (record {
       numbered = kept.step.numbered;
@@ -123,8 +123,8 @@ no_stage g steps.Abandon = refl
 
 -- a step of a group
 pub kept_step : (tells : Bool) (k k' : Keeping) (es es' : List Entry) (xs : List SiteGroup) (ps : List Payload) (start old new : Story) (mark : Thing) (g : ℕ) (s : Step) (ok : Bool)
-    → g < 2 ^ 32 → IsKept tells k es xs ps start old mark → IsTaken k g s → (IsTrue tells → Performs (machine_of k) (event_of g s) ok old new)
+    → g < 2 ^ 32 → IsSiteInOrder tells k es xs ps start old mark → IsTaken k g s → (IsTrue tells → Performs (machine_of k) (event_of g s) ok old new)
     → machine_of k' ≡ answered (machine_of k) (event_of g s) ok → length k'.standings ≡ length k.standings → es' ≡ es ++ (event_of g s, ok) ∷ []
-    → IsKept tells k' es' xs ps start new mark
+    → IsSiteInOrder tells k' es' xs ps start new mark
 kept_step tells k k' es es' xs ps start old new mark g s ok small kept taken performs goes groups log =
     kept_on tells k k' es es' xs ps start old new mark (event_of g s) ok (no_stage g s) kept taken.comes.1 (taken_admits k g s small taken) performs goes groups log

@@ -11,7 +11,7 @@ use Rattle.merge_core.specs.Trail.{IsAtRest}
 use Rattle.merge_core.specs.Core.{standing_in}
 use Rattle.merge_core.proofs.Trails.{rest_in_order}
 use Rattle.merge_site.specs.declared.group.SiteGroup.{SiteGroup}
-use Rattle.merge_site.specs.Site.{AreNumbered, IsHeld, IsKept, IsPossible, Payload, new_payload, new_payloads}
+use Rattle.merge_site.specs.Site.{AreNumbered, IsHeld, IsSiteInOrder, IsPossible, Payload, new_payload, new_payloads}
 
 at_append : {A : Type 0} (xs : List A) (y : A) (i : ℕ) (x : A) → slice_get (xs ++ y ∷ []) i ≡ Some x → (slice_get xs i ≡ Some x) ⊎ ((i ≡ length xs) × (y ≡ x))
 at_append [] y zero x e = inr (refl, cc e)
@@ -54,7 +54,7 @@ held_first k start now machine same rest = record {
 }
 
 pub opened_kept : (tells : Bool) (k : Keeping) (n : ℕ) (xs : List SiteGroup) (ps : List Payload) (start now : Story) (mark : Thing) → k ≡ at_rest n → machine_of k ≡ idle → ps ≡ new_payloads n → length xs ≡ n → mark ≡ token
-    → start ≡ now → (IsTrue tells → IsAtRest now.now.holds now.now) → IsKept tells k [] xs ps start now mark
+    → start ≡ now → (IsTrue tells → IsAtRest now.now.holds now.now) → IsSiteInOrder tells k [] xs ps start now mark
 opened_kept tells k n xs ps start now mark rest machine new count is same quiet =
     let all : length k.standings ≡ n = ap (λ (x : Keeping). length x.standings) rest ∙ rest_count n in
     let each : (i : ℕ) → standing_in k.standings i ≡ resting = λ i. ap (λ (m : Machine). m.roll.standing i) machine in

@@ -11,7 +11,7 @@ use Rattle.merge_core.specs.Event.{Event, PutStage, answered, begun}
 use Rattle.merge_core.specs.Keeping.{Keeping, at_rest, machine_of}
 use Rattle.merge_core.specs.Order.{IsInOrder}
 use Rattle.merge_core.specs.Phase.{Idle, is_live}
-use Rattle.merge_core.specs.Roll.{Machine, Roll, Stands, group_at, idle, phase_at}
+use Rattle.merge_core.specs.Roll.{Machine, Roll, RecoversCommitted, group_at, idle, phase_at}
 use Rattle.merge_core.specs.Trail.{Entry, Trail, machine_after}
 use Rattle.merge_site.specs.declared.group.SiteGroup.{SiteGroup}
 
@@ -41,6 +41,13 @@ pub record Account (T S : Type 0) : Type 0 where
   pub tree : T
   pub sink : S
 
+-- a site with the groups, the tree and the book of another one
+pub record IsSameSite {T S : Type 0} (old new : Account T S) : Type 0 where
+  pub count : length new.keeping.standings ≡ length old.keeping.standings
+  pub groups : new.groups ≡ old.groups
+  pub opened_book : new.opened_book ≡ old.opened_book
+  pub opened : new.opened ≡ old.opened
+
 -- the events led from the start to here, in order, and each crash image of each moment since then
 -- stands
 pub record IsHeld (keeping : Keeping) (events : List Entry) (start now : Story) : Type 0 where
@@ -50,9 +57,9 @@ pub record IsHeld (keeping : Keeping) (events : List Entry) (start now : Story) 
 -- a crash left this map while one of the events was under way, or behind them: it recovers to the
 -- opening with the groups applied that were committed then, with all that were settled
 abbrev pub StoodDuring : Map → Machine → List Entry → Map → Type 0
-StoodDuring opening m [] c = Stands opening m.roll c
+StoodDuring opening m [] c = RecoversCommitted opening m.roll c
 StoodDuring opening m (e ∷ es) c =
-    Stands opening (begun m e.0).roll c ⊎ StoodDuring opening (answered m e.0 e.1) es c
+    RecoversCommitted opening (begun m e.0).roll c ⊎ StoodDuring opening (answered m e.0 e.1) es c
 
 -- some disk is in order with the machine: what a site over a tree that tells nothing keeps
 pub record IsPossible (keeping : Keeping) : Type 0 where
@@ -90,7 +97,7 @@ pub record AreInStep
   pub groups_all : length groups ≡ length k.standings
 
 -- what a site promises between two calls
-pub record IsKept (tells : Bool) (keeping : Keeping) (events : List Entry) (groups : List SiteGroup)
+pub record IsSiteInOrder (tells : Bool) (keeping : Keeping) (events : List Entry) (groups : List SiteGroup)
     (payloads : List Payload) (start now : Story) (mark : Thing) : Type 0 where
   pub leads : machine_after idle events ≡ machine_of keeping
   pub step : AreInStep keeping groups payloads

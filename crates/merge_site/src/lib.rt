@@ -31,6 +31,7 @@ mod group;
 mod history;
 mod job;
 mod judging;
+mod logged;
 mod moves;
 mod open;
 mod reads;

@@ -2,7 +2,7 @@ ghost use Rattle.std.specs.Prelude.{◌≡◌, ◌<◌, IsTrue, length};
 ghost use Rattle.file_tree.specs.Moments.{Leaves, Since};
 ghost use Rattle.merge_core.specs.Keeping.{machine_of};
 ghost use Rattle.merge_core.specs.Phases.{phase_of};
-ghost use Rattle.merge_core.specs.Roll.{Stands, idle, phase_at};
+ghost use Rattle.merge_core.specs.Roll.{RecoversCommitted, idle, phase_at};
 ghost use Rattle.merge_core.specs.Trail.{machine_after};
 ghost use Rattle.merge_site.specs.Booking.{IsBooked};
 ghost use Rattle.merge_site.specs.Site.{AreApart, IsHeld, StoodDuring, placements_left};
@@ -45,7 +45,7 @@ impl<T: Tree, S: Sink> Site<T, S> {
         ensures leads { machine_after idle self.now.events ≡ machine_of self.now.keeping }
         ensures held { IsTrue T.tells → IsHeld self.now.keeping self.now.events
             (T.story self.now.opened) (T.story self.now.tree) }
-        ensures stands { IsTrue T.tells → Leaves (Stands (T.story self.now.opened).now.holds
+        ensures stands { IsTrue T.tells → Leaves (RecoversCommitted (T.story self.now.opened).now.holds
             (machine_of self.now.keeping).roll) (T.story self.now.tree).now }
         ensures moments { IsTrue T.tells → Since
             (StoodDuring (T.story self.now.opened).now.holds idle self.now.events)

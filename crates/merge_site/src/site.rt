@@ -4,7 +4,7 @@ ghost use Rattle.file_tree.specs.Disk.{CountsFault};
 ghost use Rattle.file_tree.specs.Thing.{plain};
 ghost use Rattle.journal.specs.Judging.{IsStaged};
 ghost use Rattle.journal.specs.Names.{stage_path};
-ghost use Rattle.merge_record.specs.Spelling.{Fits, spelling};
+ghost use Rattle.merge_record.specs.Spelling.{IsSpellable, spelling};
 ghost use Rattle.merge_core.specs.Core.{standing_in};
 ghost use Rattle.merge_core.specs.Event.{Admits, Claim, PutRecord, PutStage, answered, put_content};
 ghost use Rattle.merge_core.specs.Keeping.{machine_of};
@@ -45,7 +45,7 @@ pub struct Site<T: Tree, S: Sink> {
 
 impl<T: Tree, S: Sink> Model for Site<T, S> {
     ghost use Rattle.merge_site.specs.Booking.{IsBooked, lists_of};
-    ghost use Rattle.merge_site.specs.Site.{Account, IsKept};
+    ghost use Rattle.merge_site.specs.Site.{Account, IsSiteInOrder};
 
     ghost Value = { Account T S };
 
@@ -61,7 +61,7 @@ impl<T: Tree, S: Sink> Model for Site<T, S> {
       sink = s.sink;
     } };
 
-    ghost invariant = { λ s. IsKept T.tells s.core s.log.items s.groups.items
+    ghost invariant = { λ s. IsSiteInOrder T.tells s.core s.log.items s.groups.items
         s.jobs.items (T.story s.opened.value) (T.story s.tree) s.mark ×
         IsBooked s.core s.log.items (lists_of s.wishes.items) s.opened_book.value s.book };
 }
@@ -115,7 +115,7 @@ pub(crate) fn enter_record(
     ok: bool,
 )
     requires at { IsAt core.old group Phase.Building }
-    requires fits { Fits (put_content (machine_of core.old) group removals.items) }
+    requires fits { IsSpellable (put_content (machine_of core.old) group removals.items) }
     requires body { body.now ≡
         plain (spelling (put_content (machine_of core.old) group removals.items)) }
     ensures admitted { Admits (machine_of core.old) (PutRecord group removals.items) }

@@ -8,13 +8,13 @@ use Rattle.dep_atom.specs.Values.{AtomValue, atom_value}
 use Rattle.plan_law.specs.Plans.{Group}
 use Rattle.plan_law.specs.Lives.{Life}
 use Rattle.plan_check.specs.Keeping.{is_elsewhere}
-use Rattle.plan_check.specs.Kept.{AreClear, IsFirstKept, IsKept}
+use Rattle.plan_check.specs.Kept.{AreClear, IsFirstKept, IsKeptOut}
 use Rattle.plan_check.specs.Verdicts.{refuse}
 use Rattle.plan_check.specs.declared.blocked.Keeping.{Keeping}
 use Rattle.plan_check.proofs.Trying.{each_none}
 
 module _ (plan : List Group) (xs : List Life) (k : Keeping) where
-  matched : (atoms : List AtomValue) → AreClear plan xs k atoms → (y : Life) → Has xs y → list_any (λ a. value_matches a y.package_is.facts k.asker.now) atoms ≡ true → ¬ IsKept plan k y
+  matched : (atoms : List AtomValue) → AreClear plan xs k atoms → (y : Life) → Has xs y → list_any (λ a. value_matches a y.package_is.facts k.asker.now) atoms ≡ true → ¬ IsKeptOut plan k y
   matched [] clear y h e = absurd (cc e)
   matched (a ∷ atoms) clear y h e = elim (or_cases (value_matches a y.package_is.facts k.asker.now) (list_any (λ a. value_matches a y.package_is.facts k.asker.now) atoms) e) [
     | inl here ↦ clear.0 y h here
@@ -22,5 +22,5 @@ module _ (plan : List Group) (xs : List Life) (k : Keeping) where
   ]
 
   pub none_kept : AreClear plan xs k (map (λ atom. atom_value atom.now) k.blocks.items) → IsFirstKept plan xs k None
-  none_kept clear = each_none xs (λ (y : Life). refuse (IsKept plan k y) y.package_is) (λ y h kept. matched (map (λ atom. atom_value atom.now) k.blocks.items) clear y h
+  none_kept clear = each_none xs (λ (y : Life). refuse (IsKeptOut plan k y) y.package_is) (λ y h kept. matched (map (λ atom. atom_value atom.now) k.blocks.items) clear y h
       (and_parts (list_any (λ a. value_matches a y.package_is.facts k.asker.now) (map (λ atom. atom_value atom.now) k.blocks.items)) (is_elsewhere k.line y.package_is) kept.1).0 kept)

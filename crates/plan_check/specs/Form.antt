@@ -11,6 +11,6 @@ most_groups = 4096
 abbrev pub AreBelow : List ℕ → ℕ → Type 0
 AreBelow after g = (h : ℕ) → Has after h → h < g
 
-pub record IsInForm (plan : List Group) : Type 0 where
+pub record IsPlanInForm (plan : List Group) : Type 0 where
   pub few : length plan ≤ most_groups
   pub earlier : WaitsForEarlier plan

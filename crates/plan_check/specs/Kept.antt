@@ -12,20 +12,20 @@ use Rattle.plan_check.specs.Verdicts.{each, refuse}
 use Rattle.plan_check.specs.declared.blocked.Keeping.{Keeping}
 
 -- one of the blocks keeps the package out of the stretch
-abbrev pub IsKept : List Group → Keeping → Life → Type 0
-IsKept plan k y =
+abbrev pub IsKeptOut : List Group → Keeping → Life → Type 0
+IsKeptOut plan k y =
     IsMet plan (stretch_value k.stretch) (map (λ atom. atom_value atom.now) k.blocks.items)
     k.asker.now k.line y
 
 -- the first package that is kept out, or none
 abbrev pub IsFirstKept : List Group → List Life → Keeping → Option Package → Type 0
-IsFirstKept plan xs k found = each xs (λ y. refuse (IsKept plan k y) y.package_is) found
+IsFirstKept plan xs k found = each xs (λ y. refuse (IsKeptOut plan k y) y.package_is) found
 
 -- nothing that the block matches is kept out
 abbrev pub IsNameClear : List Group → List Life → Keeping → AtomValue → Type 0
 IsNameClear plan xs k a =
     (y : Life) → Has xs y → value_matches a y.package_is.facts k.asker.now ≡ true →
-    ¬ IsKept plan k y
+    ¬ IsKeptOut plan k y
 
 -- nothing that one of these blocks matches is kept out
 abbrev pub AreClear : List Group → List Life → Keeping → List AtomValue → Type 0

@@ -47,8 +47,9 @@ fn rank(one: &Pkg, other: &Pkg) -> Ordering
     version.then(one.facts.slot.text().cmp(other.facts.slot.text()))
 }
 
-/// The one of both that is first; where neither is, the one that was found before.
-fn greater<'a>(best: Option<&'a Pkg>, other: &'a Pkg) -> &'a Pkg
+/// Of two packages of one name the one of the greater version, or else on the smaller slot; where
+/// these are equal, the one that was found before.
+pub fn greater<'a>(best: Option<&'a Pkg>, other: &'a Pkg) -> &'a Pkg
     ensures { result.now ≡ greater (option_map (λ p. p.now) best.entry) other.now }
 {
     match best {

@@ -3,7 +3,7 @@ ghost use Rattle.std.specs.Option.{option_map};
 ghost use Rattle.basics.specs.Members.{Has};
 ghost use Rattle.dep_atom.specs.Values.{atom_value};
 ghost use Rattle.plan_check.specs.Index.{IsIndex, all_lives, plan_of, start_of};
-ghost use Rattle.plan_check.specs.Kept.{AreClear, IsFirstKept, IsKept, IsNameClear};
+ghost use Rattle.plan_check.specs.Kept.{AreClear, IsFirstKept, IsKeptOut, IsNameClear};
 ghost use Rattle.plan_check.specs.Keeping.{is_elsewhere};
 ghost use Rattle.plan_check.specs.Lives.{life_of};
 ghost use Rattle.plan_check.specs.PackageRules.{unbarred_of, unbarred_rule, unblocked_rule};
@@ -52,7 +52,7 @@ fn keeps_out(
         (stretch_value keeping.now.stretch) }
     requires y { Has (all_lives index.now) (life_of y.now) }
     ensures { IfOk result (λ out. IsTrue out ↔
-        IsKept (plan_of index.now) keeping.now (life_of y.now)) }
+        IsKeptOut (plan_of index.now) keeping.now (life_of y.now)) }
 {
     let other = y.pkg;
     if !some_matches(&keeping.blocks, keeping.asker, other) {

@@ -73,6 +73,7 @@ mod vacancy;
 mod versions;
 
 pub use asked::Asked;
+pub use binding::greater;
 pub use checking::check;
 pub use life::{Life, Moment};
 pub use lives::lives_of;

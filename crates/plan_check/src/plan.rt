@@ -1,6 +1,6 @@
 ghost use Rattle.std.specs.Prelude.{◌≡◌, ◌↔◌, IsTrue, MatchOption};
 ghost use Rattle.plan_law.specs.Plans.{WaitsForEarlier};
-ghost use Rattle.plan_check.specs.Form.{AreBelow, IsInForm};
+ghost use Rattle.plan_check.specs.Form.{AreBelow, IsPlanInForm};
 
 use dep_atom::PackageId;
 use pkg_state::Pkg;
@@ -63,7 +63,7 @@ impl Model for Plan {
     ghost use Rattle.std.specs.Coded.{codes};
     ghost use Rattle.pkg_state.specs.Codes.{trees_code};
     ghost use Rattle.plan_law.specs.Plans.{Group as GroupValue};
-    ghost use Rattle.plan_check.specs.Form.{IsInForm};
+    ghost use Rattle.plan_check.specs.Form.{IsPlanInForm};
 
     ghost Value = { List GroupValue };
 
@@ -71,13 +71,13 @@ impl Model for Plan {
 
     ghost view = { λ p. p.groups.items };
 
-    ghost invariant = { λ p. IsInForm p.groups.items };
+    ghost invariant = { λ p. IsPlanInForm p.groups.items };
 }
 
 impl Plan {
     /// A plan, where each group waits for earlier ones alone and there are at most 4,096.
     pub fn new(groups: Vec<Group>) -> Option<Plan>
-        ensures { MatchOption result (¬ IsInForm groups.items) (λ plan. plan ≡ groups.items) }
+        ensures { MatchOption result (¬ IsPlanInForm groups.items) (λ plan. plan ≡ groups.items) }
     {
         if !is_in_form(&groups) {
             return None;
@@ -88,14 +88,14 @@ impl Plan {
     /// Its groups. It says too that they are in form.
     pub fn groups(&self) -> &[Group]
         ensures groups { result.now ≡ self.now }
-        ensures form { IsInForm self.now }
+        ensures form { IsPlanInForm self.now }
     {
         &self.groups
     }
 }
 
 fn is_in_form(groups: &[Group]) -> bool
-    ensures { IsTrue result ↔ IsInForm groups.now }
+    ensures { IsTrue result ↔ IsPlanInForm groups.now }
 {
     groups.len() <= MOST_GROUPS && waits_for_earlier(groups)
 }

@@ -1,7 +1,7 @@
 ghost use Rattle.std.specs.Prelude.{◌≡◌, ◌↔◌, ◌<◌, ◌*◌, ◌||◌, IfOk, IsTrue, List, [], get_or};
 ghost use Rattle.std.specs.Prelude.{length, map, nat_eq, ℕ};
 ghost use Rattle.plan_law.specs.Plans.{Reaches};
-ghost use Rattle.plan_check.specs.Form.{IsInForm};
+ghost use Rattle.plan_check.specs.Form.{IsPlanInForm};
 ghost use Rattle.plan_check.specs.IsReach.{IsReach};
 ghost use Rattle.plan_check.specs.Reaching.{AreReaching, has_bit, some_row};
 
@@ -18,7 +18,7 @@ pub struct Reach<'a> {
 impl<'a> Reach<'a> {
     /// Finds which groups reach which: each row is joined of those of the groups that it waits for.
     pub fn new(alloc: Global, groups: &'a [Group]) -> Result<Reach<'a>, AllocError>
-        requires { IsInForm groups.now }
+        requires { IsPlanInForm groups.now }
         ensures groups { IfOk result (λ reach. reach.groups.now ≡ groups.now) }
         ensures exact { IfOk result IsReach }
     {
@@ -90,7 +90,7 @@ fn row_of(
 }
 
 fn rows_of(alloc: Global, groups: &[Group]) -> Result<Vec<Vec<u64>>, AllocError>
-    requires { IsInForm groups.now }
+    requires { IsPlanInForm groups.now }
     ensures { IfOk result (λ rows. AreReaching groups.now (map (λ row. row.items) rows.items)) }
 {
     let width = groups.len() / 64 + 1;

@@ -1,5 +1,5 @@
 ghost use Rattle.std.specs.Prelude.{◌<◌, length};
-ghost use Rattle.plan_check.specs.Form.{IsInForm};
+ghost use Rattle.plan_check.specs.Form.{IsPlanInForm};
 ghost use Rattle.plan_check.specs.Refusals.{Says};
 ghost use Rattle.plan_check.specs.Rules.{apart_rule, single_rule};
 
@@ -26,7 +26,7 @@ fn judge_group(alloc: Global, g: usize, group: &Group) -> Result<(), PlanRefused
 
 /// Whether each group brings at most one package to a line.
 pub(crate) fn judge_single(alloc: Global, groups: &[Group]) -> Result<(), PlanRefused>
-    requires { IsInForm groups.now }
+    requires { IsPlanInForm groups.now }
     ensures { Says (single_rule groups.now) result }
 {
     for (g, group) in groups.iter().enumerate() {

@@ -15,7 +15,7 @@ use Rattle.group_run.specs.Applied.{ReadsWith, RecoversWith, number}
 use Rattle.group_run.specs.Turns.{AreFirst}
 use Rattle.group_run.proofs.Granted.{none_there}
 use Rattle.package_law.proofs.Runs.{none_told}
-use Rattle.run_law.specs.Ends.{BeginsWith, IsKept}
+use Rattle.run_law.specs.Ends.{BeginsWith, IsImageOrAlike}
 use Rattle.run_law.proofs.Runs.{applied_empty, applied_none, rest_recovers}
 use Rattle.plan_run.specs.Runs.{upto}
 use Rattle.plan_sound.specs.Ends.{AreAmong, AreMadeOver, Choice, ChoosesPlans, Course, EndsSoundly, FirstTurnsLeaveSoundTrees, HasGroups, HoldsAfterSome, Images, IsReached, IsRunOf, StaysSound}
@@ -30,7 +30,7 @@ module _ (law : FirstTurnsLeaveSoundTrees) (flags : List (List ℕ)) (Chooses : 
   one_map n is = λ i q. recovered_once d.holds n m is begins.recovers q i
 
   -- a crash of the disk as it was
-  kept : (c : Map) → IsKept d c → RecoversSoundly flags c ps
+  kept : (c : Map) → IsImageOrAlike d c → RecoversSoundly flags c ps
   kept c (inl image) = record {
     tree = m;
     recovers = subst (λ (x : Map). IsRecovered x m) (λ i q. sym (image q (begins.settled q)) i) begins.recovers;

@@ -18,7 +18,7 @@ use Rattle.commit_law.specs.Lit.{packages_of}
 use Rattle.group_run.specs.Applied.{AreOf, LeavesWith, ReadsWith, RecoversWith}
 use Rattle.group_run.specs.Turns.{AreFirst}
 use Rattle.group_run.specs.declared.turn.Turn.{Turn}
-use Rattle.run_law.specs.Ends.{BeginsWith, IsKept}
+use Rattle.run_law.specs.Ends.{BeginsWith, IsImageOrAlike}
 use Rattle.run_law.specs.Openings.{AreOwners}
 use Rattle.exchange_make.specs.Laws.{CanBeRecorded}
 use Rattle.plan_make.specs.Held.{HoldOwned, Holdings}
@@ -83,14 +83,14 @@ HoldsOfRun Chooses Image d P = (m : Map) × IsRecovered d.holds m
 -- with these numbers among them; or no group is among them, and the disk is as it was to a recovery
 abbrev pub IsReached : Choice → Images → List ℕ → Disk → Map → Type 0
 IsReached Chooses Image among d c =
-    ((among ≡ []) × IsKept d c)
+    ((among ≡ []) × IsImageOrAlike d c)
     ⊎ HoldsOfRun Chooses Image d (λ m Run. RecoversWith Run m among c)
 
 -- a crash leaves what recovers to what the old disk recovers to, with just the groups of the
 -- history
 abbrev pub LeavesGroups : Choice → Images → List ℕ → Disk → Disk → Type 0
 LeavesGroups Chooses Image history old new =
-    ((history ≡ []) × Leaves (IsKept old) new)
+    ((history ≡ []) × Leaves (IsImageOrAlike old) new)
     ⊎ HoldsOfRun Chooses Image old (λ m Run. LeavesWith Run m history new)
 
 -- the disk reads as what the old one recovers to, with just the groups of the history, and a crash

@@ -5,7 +5,7 @@ use Rattle.std.specs.List.{AllByRecursion, flat_map}
 use Rattle.std.specs.Cmp.Derive.{both_true}
 use Rattle.std.proofs.lemmas.Bool.{and_parts, eqb-true}
 use Rattle.std.proofs.lemmas.Grind.{flat_map-append}
-use Rattle.plan_text.specs.Drafts.{Fits, FitsGroup, GrowsBy, all_groups, begun, lines_so_far}
+use Rattle.plan_text.specs.Drafts.{FitsPlace, FitsGroup, GrowsBy, all_groups, begun, lines_so_far}
 use Rattle.plan_text.specs.Lines.{IsLine, LineValue, Said, line_of, line_text}
 use Rattle.plan_text.specs.Plans.{GroupValue, group_value}
 use Rattle.plan_text.specs.Progress.{Grows, IsReadTo, body, body_of, is_inner}
@@ -62,7 +62,7 @@ begins texts none e = record {
 
 -- what a line adds
 
-pub plan_grows : (s : StandingValue) (gs : List GroupValue) (current : Option GroupValue) → Fits s.place current → s.groups ≡ begun gs current → follows s (line_of kinds.Plan tt) ≡ true → Grows s (line_of kinds.Plan tt) gs current gs current
+pub plan_grows : (s : StandingValue) (gs : List GroupValue) (current : Option GroupValue) → FitsPlace s.place current → s.groups ≡ begun gs current → follows s (line_of kinds.Plan tt) ≡ true → Grows s (line_of kinds.Plan tt) gs current gs current
 plan_grows s gs None fits count f = record { lines = sym (append-nil (lines_so_far gs None)); fits = tt; count = count }
 plan_grows s gs (Some g) fits count f = absurd (go s.place f fits)
   where

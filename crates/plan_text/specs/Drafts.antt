@@ -53,9 +53,9 @@ FitsNone places.After = ⊥
 FitsNone places.Removals = ⊥
 FitsNone places.Additions = ⊥
 
-abbrev pub Fits : Place → Option GroupValue → Type 0
-Fits place None = FitsNone place
-Fits place (Some g) = FitsGroup place g
+abbrev pub FitsPlace : Place → Option GroupValue → Type 0
+FitsPlace place None = FitsNone place
+FitsPlace place (Some g) = FitsGroup place g
 
 -- the group has one line more
 abbrev pub GrowsBy : GroupValue → GroupValue → LineValue → Type 0

@@ -1,7 +1,7 @@
 -- How far the lines of a text have been read.
 use Rattle.std.specs.Prelude.{◌≡◌, ℕ, Bool, false, true, List, [], ◌∷◌, ◌++◌, Option, length, map}
 use Rattle.std.specs.List.{AllByRecursion, flat_map}
-use Rattle.plan_text.specs.Drafts.{Fits, begun, lines_so_far}
+use Rattle.plan_text.specs.Drafts.{FitsPlace, begun, lines_so_far}
 use Rattle.plan_text.specs.Lines.{IsLine, LineValue, Said, line_of, line_text}
 use Rattle.plan_text.specs.Plans.{GroupValue}
 use Rattle.plan_text.specs.Standing.{StandingValue, ends, follows, next, runs, start}
@@ -32,7 +32,7 @@ pub record Holds (ls : List LineValue) (s : StandingValue) (gs : List GroupValue
     (current : Option GroupValue) : Type 0 where
   pub stands : ends start ls ≡ s
   pub lines : flat_map body ls ≡ lines_so_far gs current
-  pub fits : Fits s.place current
+  pub fits : FitsPlace s.place current
   pub count : s.groups ≡ begun gs current
 
 -- of all texts these are left behind the first n, and the groups hold what the others say
@@ -64,7 +64,7 @@ pub record AreStopped (texts : List (List ℕ)) (here : List ℕ) (rest : List (
 pub record Grows (s : StandingValue) (l : LineValue) (gs : List GroupValue)
     (current : Option GroupValue) (new : List GroupValue) (now : Option GroupValue) : Type 0 where
   pub lines : lines_so_far new now ≡ lines_so_far gs current ++ body l
-  pub fits : Fits (next s l).place now
+  pub fits : FitsPlace (next s l).place now
   pub count : (next s l).groups ≡ begun new now
 
 -- lines of the kind stand inside a group

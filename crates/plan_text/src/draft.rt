@@ -1,5 +1,5 @@
 ghost use Rattle.std.specs.Prelude.{◌≡◌, ◌<◌, IfOk, [], length, true};
-ghost use Rattle.plan_text.specs.Drafts.{Fits, FitsGroup, GrowsBy, current_group, draft_count};
+ghost use Rattle.plan_text.specs.Drafts.{FitsPlace, FitsGroup, GrowsBy, current_group, draft_count};
 ghost use Rattle.plan_text.specs.Drafts.{whole_groups};
 ghost use Rattle.plan_text.specs.Lines.{IsLine, line_of};
 ghost use Rattle.plan_text.specs.Plans.{addition_value, group_value};
@@ -31,7 +31,7 @@ pub(crate) fn with_line(
     draft: Draft,
     line: Line,
 ) -> Result<Draft, AllocError>
-    requires fits { Fits standing.now.place (current_group draft) }
+    requires fits { FitsPlace standing.now.place (current_group draft) }
     requires count { standing.now.groups ≡ draft_count draft }
     requires form { IsLine (line_value line) }
     requires follows { follows (standing_value standing.now) (line_value line) ≡ true }
@@ -76,7 +76,7 @@ fn with_group(
 }
 
 fn with_inner(standing: &Standing<'_>, draft: Draft, line: Line) -> Result<Draft, AllocError>
-    requires fits { Fits standing.now.place (current_group draft) }
+    requires fits { FitsPlace standing.now.place (current_group draft) }
     requires count { standing.now.groups ≡ draft_count draft }
     requires form { IsLine (line_value line) }
     requires inner { is_inner (line_value line).kind ≡ true }

@@ -12,7 +12,7 @@ use Rattle.journal.specs.Judging.{are_free, footprint, judged, judged_all, judge
 use Rattle.journal.specs.Names.{jobs}
 use Rattle.journal.specs.Open.{open_groups}
 use Rattle.journal.specs.declared.fault.JudgeFault.{JudgeFault}
-use Rattle.journal.proofs.Form.{are_free-if, are_free-words, bind_ok, judged_words}
+use Rattle.journal.proofs.Form.{bind_ok, judged_words}
 use Rattle.merge_core.specs.Recovery.{Asked, Recovers, found_content, redo, with_placed, with_redone, with_removed}
 use Rattle.merge_core.proofs.Redo.{form_found, judged_opens}
 use Rattle.merge_core.proofs.Redone.{redone_reads}
@@ -20,7 +20,6 @@ use Rattle.merge_core.specs.Roll.{stood}
 use Rattle.journal.specs.Names.{stage_path}
 use Rattle.std.proofs.Common.{drop}
 use Rattle.merge_core.proofs.Walk.{redo_walks}
-use Rattle.recovery.specs.Found.{AreApplicable}
 use Rattle.recovery.proofs.Places.{free_outside}
 use Rattle.merge_core.proofs.Places.{placement_at}
 
@@ -116,19 +115,3 @@ record_staged c taken (k ∷ ns) rs h r has i lt =
           (subst (λ (n : ℕ). IsSome (c (stage_path n i))) (sym form.number) (subst IsSome (sym (form.stages i at.0 at.1).there) refl))
       | inr later ↦ record_staged c (taken ++ footprint a.0) ns b.0 b.1 r later i lt
     ]
-
--- ---- records as they are judged
-
-free_alone : (taken paths : List (List ℕ)) → are_free taken paths ≡ true → are_free [] paths ≡ true
-free_alone taken paths free =
-    let k = are_free-words taken paths free in
-    are_free-if [] paths (record { distinct = k.distinct; outside = k.outside; apart = λ q has none. none })
-
-pub applicable_more : (rs : List Content) (r : Content) (taken : List (List ℕ)) → AreApplicable rs → are_free taken (footprint r) ≡ true → length r.placements < 2 ^ 32 → AreApplicable (rs ++ r ∷ [])
-applicable_more rs r taken all free few x has = elim (has-append_cases rs (r ∷ []) x has) [
-  | inl had ↦ all x had
-  | inr last ↦ elim last [
-    | inl e ↦ subst (λ (y : Content). (are_free [] (footprint y) ≡ true) × (length y.placements < 2 ^ 32)) e (free_alone taken (footprint r) free, few)
-    | inr none ↦ absurd none
-  ]
-]

@@ -1,9 +1,9 @@
 -- The gates of a map, and what recovery finds in a journal that it accepts.
-use Rattle.std.specs.Prelude.{◌≡◌, ◌↔◌, ◌<◌, ◌≤◌, ◌^◌, ℕ, true, false, length, List, [], Ok, IsSome}
+use Rattle.std.specs.Prelude.{◌≡◌, ◌↔◌, ◌<◌, ◌≤◌, ◌^◌, ℕ, false, length, List, [], Ok, IsSome}
 use Rattle.basics.specs.Members.{Has}
 use Rattle.file_tree.specs.Disk.{Map}
 use Rattle.merge_record.specs.Content.{Content}
-use Rattle.journal.specs.Judging.{are_free, footprint, judged_open}
+use Rattle.journal.specs.Judging.{judged_open}
 use Rattle.journal.specs.Names.{gate_path}
 use Rattle.journal.specs.Open.{IsRising, is_open, open_groups}
 use Rattle.recovery.specs.declared.limits.TheConstants.{MOST_GATES}
@@ -26,11 +26,6 @@ pub record IsOdd (m : Map) (g : ℕ) : Type 0 where
 -- the groups whose gate holds an object, but isn't open
 abbrev pub AreOdd : Map → List ℕ → Type 0
 AreOdd m gs = (g : ℕ) → Has gs g ↔ IsOdd m g
-
--- the paths of each record are apart and outside the journal, and its stages have numbers
-abbrev pub AreApplicable : List Content → Type 0
-AreApplicable rs = (r : Content) → Has rs r →
-    (are_free [] (footprint r) ≡ true) × (length r.placements < 2 ^ 32)
 
 -- the open groups, the record of each, the groups whose gate holds an object, and those of them
 -- that aren't open

@@ -2,16 +2,16 @@ ghost use Rattle.std.specs.Prelude.{◌≡◌, ◌<◌, ◌^◌, ◌↔◌, [], 
 ghost use Rattle.std.specs.Prelude.{IsTrue};
 ghost use Rattle.basics.specs.Members.{AreDistinct, Has};
 ghost use Rattle.file_tree.specs.Disk.{CountsFault};
-ghost use Rattle.journal.specs.Judging.{Agrees, judged_all};
+ghost use Rattle.journal.specs.Judging.{AreApplicable};
 ghost use Rattle.journal.specs.Names.{gate_path};
 ghost use Rattle.journal.specs.Open.{IsRising, is_open};
-ghost use Rattle.recovery.specs.Found.{AreApplicable, AreGates, IsFound};
+ghost use Rattle.recovery.specs.Found.{AreGates, IsFound};
 ghost use Rattle.recovery.specs.Promise.{IsFaultOf};
 
 use crate::fault::RecoverFault;
 use crate::limits::MOST_GATES;
 use file_tree::{Path, Tree, TreeFault};
-use journal::{JudgeFault, TakenPaths, gate_path, group_of_gate, is_open_gate, jobs_folder, judge};
+use journal::{gate_path, group_of_gate, is_open_gate, jobs_folder, judge_all};
 use merge_record::Record;
 use std::alloc::{AllocError, Global};
 use std::marker::Model;
@@ -122,27 +122,6 @@ fn parted<T: Tree>(
     Ok((opened, odd))
 }
 
-/// The record of each open group, judged in this order against the paths of those before it.
-fn judge_opened<T: Tree>(
-    alloc: Global,
-    tree: &mut T,
-    groups: &[u32],
-) -> Result<Vec<Record>, JudgeFault>
-    ensures answer { IsTrue T.tells → Agrees (λ v. v.items) result
-        (judged_all (T.story tree.old).now.holds [] groups.now) }
-    ensures applicable { IfOk result (λ v. AreApplicable v.items) }
-    ensures same { IsTrue T.tells → T.story tree.new ≡ T.story tree.old }
-    ensures faults { CountsFault (IsErrOf result JudgeFault.Failed) (T.faults tree.old)
-        (T.faults tree.new) }
-{
-    let mut taken = TakenPaths::new(alloc);
-    let mut records = Vec::new(alloc);
-    for group in groups {
-        records.push(judge(alloc, tree, *group, &mut taken)?)?;
-    }
-    Ok(records)
-}
-
 /// Judges the journal, and finds what there is to do.
 pub(crate) fn read_journal<T: Tree>(alloc: Global, tree: &mut T) -> Result<Journal, RecoverFault>
     ensures found { IsTrue T.tells → IfOk result (IsFound (T.story tree.old).now.holds) }
@@ -158,7 +137,7 @@ pub(crate) fn read_journal<T: Tree>(alloc: Global, tree: &mut T) -> Result<Journ
         return Err(RecoverFault::Limit);
     }
     let (opened, odd) = parted(alloc, tree, &gates)?;
-    let records = judge_opened(alloc, tree, &opened)?;
+    let records = judge_all(alloc, tree, &opened)?;
     Ok(Journal {
         opened,
         records,

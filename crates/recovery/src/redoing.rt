@@ -6,7 +6,8 @@ ghost use Rattle.journal.specs.Names.{record_path, stage_path};
 ghost use Rattle.merge_core.specs.Recovery.{Asked, Recovers, redo, with_placed, with_removed};
 ghost use Rattle.merge_core.specs.Roll.{stood};
 ghost use Rattle.recovery.specs.Calls.{empty_record, emptied};
-ghost use Rattle.recovery.specs.Found.{AreApplicable, IsFound};
+ghost use Rattle.journal.specs.Judging.{AreApplicable};
+ghost use Rattle.recovery.specs.Found.{IsFound};
 ghost use Rattle.recovery.specs.Phases.{IsRedone};
 
 use crate::changes::{place_all, remove_all};

@@ -7,8 +7,8 @@ use Rattle.commit_law.specs.Commits.{IsSoundTree}
 use Rattle.database_law.specs.Packages.{Installed}
 
 -- a crash image is one of the disk, or it and the disk recover to the same map
-abbrev pub IsKept : Disk → Map → Type 0
-IsKept d c = IsImage d c ⊎ RecoversAlike d.holds c
+abbrev pub IsImageOrAlike : Disk → Map → Type 0
+IsImageOrAlike d c = IsImage d c ⊎ RecoversAlike d.holds c
 
 -- runs begin with this disk: a crash leaves what it reads as, and it recovers to this map, which is
 -- a sound tree with these packages

@@ -4,17 +4,16 @@ ghost use Rattle.std.specs.Option.{option_map};
 ghost use Rattle.dep_atom.specs.Match.{value_matches};
 ghost use Rattle.dep_atom.specs.Values.{atom_value};
 ghost use Rattle.pkg_state.specs.Index.{AreNamed};
-ghost use Rattle.plan_check.specs.Binding.{greater, rank};
 ghost use Rattle.plan_text.specs.Words.{IsBind};
 ghost use Rattle.single_plan.specs.Binds.{bind_of, bind_to, binds_of, greatest, slot_zero};
 ghost use Rattle.single_plan.specs.Binds.{written_slot};
 
 use dep_atom::{Atom, Bind, SlotPart};
 use pkg_state::{ByText, Pkg};
+use plan_check::greater;
 use plan_link::asking_leaves;
 use pms_names::{Flags, SlotName};
 use std::alloc::{AllocError, Global};
-use std::cmp::Ordering;
 
 /// The packages that stand beside what comes, which are found by their names.
 #[derive(Drop)]
@@ -40,28 +39,6 @@ impl<'a> Beside<'a> {
     {
         let named = by_name(alloc, packages)?;
         Ok(Beside { packages, named })
-    }
-}
-
-fn rank(one: &Pkg, other: &Pkg) -> Ordering
-    ensures { result ≡ rank one.now other.now }
-{
-    let version = other.facts.id.version.compare(&one.facts.id.version);
-    version.then(one.facts.slot.text().cmp(other.facts.slot.text()))
-}
-
-/// The one of both that is first; where neither is, the one that was found before.
-fn greater<'a>(best: Option<&'a Pkg>, other: &'a Pkg) -> &'a Pkg
-    ensures { result.now ≡ greater (option_map (λ p. p.now) best.entry) other.now }
-{
-    match best {
-        Some(pkg) => {
-            if rank(pkg, other).is_gt() {
-                return other;
-            }
-            pkg
-        }
-        None => other,
     }
 }
 

@@ -1,7 +1,8 @@
 use Rattle.std.proofs.Common.{◌≡◌, ◌+◌, ◌≤◌, ℕ, length, take}
 use Rattle.std.specs.Prelude.{IsTrue}
 use Rattle.group_run.specs.Lines.{AreLines, Wrote, line_in}
-use Rattle.group_run.specs.Through.{HasRoom, IsSameSite, IsThrough}
+use Rattle.group_run.specs.Through.{HasRoom, IsThrough}
+use Rattle.merge_site.specs.Site.{IsSameSite}
 use Rattle.group_run.specs.Turns.{numbers}
 use Rattle.group_run.proofs.running.merge_all.Given as goal
 

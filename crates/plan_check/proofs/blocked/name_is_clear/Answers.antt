@@ -5,7 +5,7 @@ use Rattle.basics.specs.Members.{Has}
 use Rattle.dep_atom.specs.Values.{atom_value}
 use Rattle.pkg_state.proofs.Named.{same_package}
 use Rattle.plan_check.specs.Index.{all_lives, name_key, plan_of}
-use Rattle.plan_check.specs.Kept.{IsKept}
+use Rattle.plan_check.specs.Kept.{IsKeptOut}
 use Rattle.plan_check.specs.Lives.{life_of, lives_of}
 use Rattle.plan_check.specs.declared.life.Life.{Life}
 use Rattle.plan_check.proofs.Keyed.{in_items, item_at, none_more}
@@ -19,7 +19,7 @@ keeps_out-requires-clause-y c =
 
 pub loop-y-preserved : goal.loop-y-preserved
 loop-y-preserved c =
-    none_more (IsKept (plan_of c.args.index.now) c.args.keeping.now) c.get-y-items.result.now c.loop-y.y-index c.y-item.result (omega arith) c.y-item.is c.loop-y.invariant
+    none_more (IsKeptOut (plan_of c.args.index.now) c.args.keeping.now) c.get-y-items.result.now c.loop-y.y-index c.y-item.result (omega arith) c.y-item.is c.loop-y.invariant
     (λ k. let t = c.in_ok-keeps_out.ensures.1 k in let f = c.if-branch.false in cc (t, f))
 
 pub returns : goal.returns

@@ -2,7 +2,8 @@ use Rattle.std.proofs.Common.{◌≡◌, ◌+◌, ◌≤◌, ℕ, length}
 use Rattle.std.specs.Prelude.{IsTrue}
 use Rattle.build_pool.specs.Pool.{SameIds, faults_of}
 use Rattle.group_run.specs.Lines.{AreLines, Wrote, line_in}
-use Rattle.group_run.specs.Through.{HasRoom, IsSameSite}
+use Rattle.group_run.specs.Through.{HasRoom}
+use Rattle.merge_site.specs.Site.{IsSameSite}
 use Rattle.image_build.specs.Images.{IsBuilt, TellAlike}
 use Rattle.plan_make.specs.Held.{holdings_of}
 use Rattle.plan_run.specs.Courses.{IsUpTo}

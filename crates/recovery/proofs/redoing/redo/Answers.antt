@@ -5,7 +5,8 @@ use Rattle.journal.specs.Judging.{judged_open}
 use Rattle.journal.specs.Names.{record_path}
 use Rattle.merge_core.specs.Recovery.{Asked}
 use Rattle.recovery.specs.Calls.{emptied}
-use Rattle.recovery.specs.Found.{AreApplicable, Found}
+use Rattle.journal.specs.Judging.{AreApplicable}
+use Rattle.recovery.specs.Found.{Found}
 use Rattle.recovery.proofs.Stretches.{odd_emptied, redo_synced, redone_if_synced}
 use Rattle.recovery.proofs.redoing.redo.Goals as goal
 

@@ -7,7 +7,7 @@ use Rattle.merge_core.specs.Payloads.{IsAt}
 use Rattle.merge_core.specs.Site.{Performs}
 use Rattle.merge_core.specs.declared.phase.Phase.TheVariants as phases
 use Rattle.merge_site.specs.Booking.{IsBooked, lists_of}
-use Rattle.merge_site.specs.Site.{IsKept}
+use Rattle.merge_site.specs.Site.{IsSiteInOrder}
 use Rattle.merge_site.proofs.Booked.{booked_on}
 use Rattle.merge_site.proofs.Kept.{kept_on}
 use Rattle.merge_site.proofs.site.Site.put_record.Goals as goal
@@ -21,7 +21,7 @@ invariant_of-self-in-Ok-answer g c =
     let removals = c.in-Ok.spelled.0.items in
     let e = PutRecord c.args.group removals in
     let same = sym c.spell_record.ensures.kept in
-    let kept = subst (λ (x : Keeping). IsKept g.T.Tree.tells x c.self.inside.log.items c.self.inside.groups.items c.self.inside.jobs.items start old c.self.inside.mark) same c.self.invariant.0 in
+    let kept = subst (λ (x : Keeping). IsSiteInOrder g.T.Tree.tells x c.self.inside.log.items c.self.inside.groups.items c.self.inside.jobs.items start old c.self.inside.mark) same c.self.invariant.0 in
     let at = subst (λ (x : Keeping). IsAt x c.args.group phases.Building) same (subst (λ a. IsAt a.keeping c.args.group phases.Building) (sym c.self.view_is) c.requires.at) in
     let spelled = subst (λ (x : Keeping). c.in-Ok.spelled.1 ≡ plain (spelling (put_content (machine_of x) c.args.group removals))) same
     (subst (λ (l : List (List ℕ)). c.in-Ok.spelled.1 ≡ plain (spelling (put_content (machine_of c.self.inside.core) c.args.group l))) (sym c.in-Ok.ensures.removals) c.in-Ok.ensures.object) in
@@ -43,7 +43,7 @@ invariant_of-self-2 g c =
     let removals = c.in-Ok.spelled.0.items in
     let e = PutRecord c.args.group removals in
     let same = sym c.spell_record.ensures.kept in
-    let kept = subst (λ (x : Keeping). IsKept g.T.Tree.tells x c.self.inside.log.items c.self.inside.groups.items c.self.inside.jobs.items start old c.self.inside.mark) same c.self.invariant.0 in
+    let kept = subst (λ (x : Keeping). IsSiteInOrder g.T.Tree.tells x c.self.inside.log.items c.self.inside.groups.items c.self.inside.jobs.items start old c.self.inside.mark) same c.self.invariant.0 in
     let at = subst (λ (x : Keeping). IsAt x c.args.group phases.Building) same (subst (λ a. IsAt a.keeping c.args.group phases.Building) (sym c.self.view_is) c.requires.at) in
     let spelled = subst (λ (x : Keeping). c.in-Ok.spelled.1 ≡ plain (spelling (put_content (machine_of x) c.args.group removals))) same
     (subst (λ (l : List (List ℕ)). c.in-Ok.spelled.1 ≡ plain (spelling (put_content (machine_of c.self.inside.core) c.args.group l))) (sym c.in-Ok.ensures.removals) c.in-Ok.ensures.object) in
