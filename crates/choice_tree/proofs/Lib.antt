@@ -6,6 +6,7 @@ pub mod Under
 pub mod Marked
 pub mod Pick
 pub mod Placed
+pub mod Turned
 pub mod Found
 pub mod Gathered
 pub mod Among

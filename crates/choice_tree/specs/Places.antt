@@ -1,5 +1,5 @@
 -- What is known of each line under a choice.
-use Rattle.std.specs.Prelude.{ℕ, zero, suc, Bool, false, List, [], ◌∷◌, Option, None, Some, map, unwrap_or}
+use Rattle.std.specs.Prelude.{ℕ, zero, suc, Bool, false, List, [], ◌∷◌, Option, None, Some, get_or, map, slice_set, unwrap_or}
 use Rattle.std.specs.List.{flat_map}
 use Rattle.pkg_state.specs.Package.{Package}
 use Rattle.choice_law.specs.Universe.{Offer, Universe, Value, as_list, lines, no_offer, offer_at, package_of, standing}
@@ -41,3 +41,7 @@ places u c = map (place_at u c) (numbers (lines u) 0)
 -- the packages that stand on them
 abbrev pub packages_in : List Place → List Package
 packages_in ss = flat_map (λ s. as_list (package_in s)) ss
+
+-- the line has this decision in place of the one that it had
+abbrev pub with_decided : List Place → ℕ → Option Value → List Place
+with_decided ss l d = slice_set ss l (record { decided = d; offer = (get_or ss l no_place).offer })

@@ -9,14 +9,14 @@ ghost use Rattle.choice_tree.specs.Seen.{places_of};
 ghost use Rattle.choice_tree.specs.Tree.{tree_options};
 ghost use Rattle.choice_tree.specs.Views.{decisions_of, universe_of, value_of};
 
+use crate::around::Around;
 use crate::choice::Choice;
 use crate::choosing::{beside, decisions};
 use crate::obligation::Obligation;
 use crate::place::Place;
-use crate::places::all_places;
-use crate::taking_up::first_of_all;
 use crate::universe::Universe;
 use crate::value::{Decision, Value};
+use crate::walk::Walk;
 use std::alloc::{AllocError, Global};
 
 fn push_choices(
@@ -81,22 +81,22 @@ fn push_second(
     }
 }
 
-// The options, where all lines are at hand.
-fn options_of(
+/// The options, where all lines are at hand.
+pub(crate) fn options_of(
     alloc: Global,
     universe: &Universe,
     choice: &Choice,
-    seen: &[Place<'_>],
+    around: &Around<'_, '_>,
     obligation: &Obligation<'_>,
 ) -> Result<Vec<Choice>, AllocError>
-    requires { places_of seen.now ≡ places (universe_of universe.now) choice.now }
+    requires { places_of around.now.places.now ≡ places (universe_of universe.now) choice.now }
     ensures { IfOk result (λ v. v.items ≡ options universe.now.update
         (universe_of universe.now) choice.now (obligation_of obligation.now)) }
 {
     let mut out = Vec::new(alloc);
-    let first = decisions(alloc, universe.update, seen, obligation)?;
+    let first = decisions(alloc, universe.update, around, obligation)?;
     push_choices(alloc, choice, &first, &mut out)?;
-    push_second(alloc, universe, choice, seen, obligation, &mut out)?;
+    push_second(alloc, universe, choice, around.places, obligation, &mut out)?;
     Ok(out)
 }
 
@@ -113,9 +113,8 @@ pub fn options(
     ensures { IfOk result (λ v. v.items ≡ options universe.now.update
         (universe_of universe.now) choice.now (obligation_of obligation.now)) }
 {
-    let places = all_places(alloc, universe, choice)?;
-    let found = options_of(alloc, universe, choice, &places, obligation)?;
-    Ok(found)
+    let mut walk = Walk::new(alloc, universe)?;
+    walk.options(alloc, choice, obligation)
 }
 
 /// The options of a choice for what is first open of it, if anything is: those of [`options`] for
@@ -128,12 +127,6 @@ pub fn next_options(
     ensures { IfOk result (λ found. option_map (λ v. v.items) found ≡
         tree_options universe.now.update (universe_of universe.now) choice.now) }
 {
-    let places = all_places(alloc, universe, choice)?;
-    match first_of_all(alloc, &universe.wanted, &places)? {
-        Some(obligation) => {
-            let found = options_of(alloc, universe, choice, &places, &obligation)?;
-            Ok(Some(found))
-        }
-        None => Ok(None),
-    }
+    let mut walk = Walk::new(alloc, universe)?;
+    walk.next_options(alloc, choice)
 }

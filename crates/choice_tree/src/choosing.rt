@@ -2,22 +2,20 @@ ghost use Rattle.std.specs.Prelude.{◌≡◌, ◌<◌, ◌++◌, ◌∷◌, IfO
 ghost use Rattle.std.specs.Prelude.{length, not, true};
 ghost use Rattle.std.specs.List.{flat_map};
 ghost use Rattle.dep_atom.specs.Ids.{id_text};
-ghost use Rattle.dep_atom.specs.Match.{value_matches};
 ghost use Rattle.dep_atom.specs.Values.{atom_value};
 ghost use Rattle.choice_law.specs.Universe.{conflicts};
 ghost use Rattle.dep_tree.specs.Grammar.{is_block};
 ghost use Rattle.choice_tree.specs.Candidates.{free_line};
 ghost use Rattle.choice_tree.specs.Open.{obligation_of};
 ghost use Rattle.choice_tree.specs.Options.{beside, decisions, in_order, needs, others, ousting};
-ghost use Rattle.choice_tree.specs.Options.{leaving, serving};
+ghost use Rattle.choice_tree.specs.Options.{leaving, served, serving};
 ghost use Rattle.choice_tree.specs.Places.{no_place, package_in};
 ghost use Rattle.choice_tree.specs.Seen.{place_of, places_of};
-ghost use Rattle.choice_tree.specs.Shown.{candidates_of};
 ghost use Rattle.choice_tree.specs.Views.{decisions_of};
 
-use crate::candidate::Candidate;
+use crate::around::Around;
 use crate::filtering::{harmless, matching, ousting};
-use crate::gathering::{all_free, push_free, push_line};
+use crate::gathering::{free_of, push_free, push_line};
 use crate::obligation::Obligation;
 use crate::place::Place;
 use crate::ranking::push_in_order;
@@ -63,57 +61,59 @@ fn push_leaving(line: usize, place: &Place<'_>, out: &mut Vec<Decision>) -> Resu
     Ok(())
 }
 
+/// Puts what the atom matches, of all lines that aren't decided, behind the decisions.
 fn push_served(
     alloc: Global,
     update: bool,
-    free: &[Candidate<'_>],
+    around: &Around<'_, '_>,
     atom: &Atom,
     asker: &Flags,
     out: &mut Vec<Decision>,
 ) -> Result<(), AllocError>
     ensures { OnOk result (decisions_of out.new.items ≡ decisions_of out.old.items ++
-        in_order update (filter (λ x. value_matches (atom_value atom.now) x.is.facts asker.now)
-        (candidates_of free.now))) }
+        served update (places_of around.now.places.now) asker.now (atom_value atom.now)) }
 {
-    let found = matching(alloc, free, atom, asker)?;
-    push_in_order(alloc, update, &found, out)
+    let lines = around.lines_named(atom.name.package.text());
+    let free = free_of(alloc, around.places, lines)?;
+    let found = matching(alloc, &free, atom, asker)?;
+    push_in_order(alloc, update, &found, out)?;
+    Ok(())
 }
 
 fn push_leaf(
     alloc: Global,
     update: bool,
-    free: &[Candidate<'_>],
+    around: &Around<'_, '_>,
     atom: &Atom,
     asker: &Flags,
     out: &mut Vec<Decision>,
 ) -> Result<(), AllocError>
     ensures { OnOk result (decisions_of out.new.items ≡ decisions_of out.old.items ++
-        flat_map (λ a. in_order update
-        (filter (λ x. value_matches a x.is.facts asker.now) (candidates_of free.now)))
+        flat_map (λ a. served update (places_of around.now.places.now) asker.now a)
         (filter (λ a. not (is_block a)) (atom_value atom.now ∷ []))) }
 {
     if is_block(atom) {
         return Ok(());
     }
-    push_served(alloc, update, free, atom, asker, out)
+    push_served(alloc, update, around, atom, asker, out)
 }
 
 fn push_needs(
     alloc: Global,
     update: bool,
-    free: &[Candidate<'_>],
+    around: &Around<'_, '_>,
     owner: &Pkg,
     class: Class,
     out: &mut Vec<Decision>,
 ) -> Result<(), AllocError>
     ensures { OnOk result (decisions_of out.new.items ≡ decisions_of out.old.items ++
-        flat_map (λ a. in_order update (filter
-        (λ x. value_matches a x.is.facts owner.now.facts.enabled) (candidates_of free.now)))
+        flat_map
+        (λ a. served update (places_of around.now.places.now) owner.now.facts.enabled a)
         (needs class owner.now)) }
 {
     let leaves = owner.tree(class).leaves(alloc, &owner.facts.enabled)?;
     for &atom in &leaves {
-        push_leaf(alloc, update, free, atom, &owner.facts.enabled, out)?;
+        push_leaf(alloc, update, around, atom, &owner.facts.enabled, out)?;
     }
     Ok(())
 }
@@ -121,24 +121,21 @@ fn push_needs(
 fn push_serving(
     alloc: Global,
     update: bool,
-    places: &[Place<'_>],
+    around: &Around<'_, '_>,
     line: usize,
     class: Class,
     out: &mut Vec<Decision>,
 ) -> Result<(), AllocError>
     ensures { OnOk result (decisions_of out.new.items ≡ decisions_of out.old.items ++
-        serving update (places_of places.now) class
-        (package_in (get_or (places_of places.now) line no_place))) }
+        serving update (places_of around.now.places.now) class
+        (package_in (get_or (places_of around.now.places.now) line no_place))) }
 {
-    if line >= places.len() {
+    if line >= around.places.len() {
         return Ok(());
     }
-    match &places[line].standing {
+    match &around.places[line].standing {
         None => Ok(()),
-        Some(standing) => {
-            let free = all_free(alloc, places)?;
-            push_needs(alloc, update, &free, standing.owner, class, out)
-        }
+        Some(standing) => push_needs(alloc, update, around, standing.owner, class, out),
     }
 }
 
@@ -233,23 +230,23 @@ pub(crate) fn beside(
 pub(crate) fn decisions(
     alloc: Global,
     update: bool,
-    places: &[Place<'_>],
+    around: &Around<'_, '_>,
     obligation: &Obligation<'_>,
 ) -> Result<Vec<Decision>, AllocError>
     ensures { IfOk result (λ v. decisions_of v.items ≡
-        decisions update (places_of places.now) (obligation_of obligation.now)) }
+        decisions update (places_of around.now.places.now) (obligation_of obligation.now)) }
 {
     let mut out = Vec::new(alloc);
+    let places = around.places;
     match *obligation {
         Obligation::Wanted(atom) => {
-            let free = all_free(alloc, places)?;
-            push_served(alloc, update, &free, atom, &Flags::new(alloc), &mut out)?;
+            push_served(alloc, update, around, atom, &Flags::new(alloc), &mut out)?;
         }
         Obligation::Required(line) | Obligation::Conflict(line, _) => {
             push_others(alloc, update, places, line, &mut out)?;
         }
         Obligation::Tree(line, class) => {
-            push_serving(alloc, update, places, line, class, &mut out)?;
+            push_serving(alloc, update, around, line, class, &mut out)?;
             push_others(alloc, update, places, line, &mut out)?;
             return once(alloc, &out);
         }

@@ -1,5 +1,6 @@
-ghost use Rattle.std.specs.Prelude.{◌≡◌, ◌<◌, ◌++◌, IfOk, OnOk, length};
-ghost use Rattle.choice_tree.specs.Candidates.{all_free, free_line, kept, of_line, varied};
+ghost use Rattle.std.specs.Prelude.{◌≡◌, ◌++◌, IfOk, OnOk, true};
+ghost use Rattle.std.specs.List.{flat_map};
+ghost use Rattle.choice_tree.specs.Candidates.{free_line, kept, of_line, varied};
 ghost use Rattle.choice_tree.specs.Seen.{places_of};
 ghost use Rattle.choice_tree.specs.Shown.{candidates_of};
 ghost use Rattle.choice_tree.specs.Views.{offer_of};
@@ -57,16 +58,18 @@ pub(crate) fn push_line<'a>(
     push_varied(line, offer, out)
 }
 
-/// The candidates of all lines that aren't decided.
-pub(crate) fn all_free<'a>(
+/// The candidates of those of the lines that aren't decided.
+pub(crate) fn free_of<'a>(
     alloc: Global,
     places: &[Place<'a>],
+    lines: &[usize],
 ) -> Result<Vec<Candidate<'a>>, AllocError>
-    ensures { IfOk result (λ v. candidates_of v.items ≡ all_free (places_of places.now)) }
+    ensures { IfOk result (λ v. candidates_of v.items ≡
+        flat_map (λ l. free_line true (places_of places.now) l) lines.now) }
 {
     let mut out = Vec::new(alloc);
-    for line in 0..places.len() {
-        push_free(true, places, line, &mut out)?;
+    for line in lines {
+        push_free(true, places, *line, &mut out)?;
     }
     Ok(out)
 }
@@ -78,10 +81,12 @@ pub(crate) fn push_free<'a>(
     line: usize,
     out: &mut Vec<Candidate<'a>>,
 ) -> Result<(), AllocError>
-    requires { line < length places.now }
     ensures { OnOk result (candidates_of out.new.items ≡
         candidates_of out.old.items ++ free_line keeps (places_of places.now) line) }
 {
+    if line >= places.len() {
+        return Ok(());
+    }
     let place = &places[line];
     match place.decided {
         None => push_line(keeps, line, place.offer, out),

@@ -16,9 +16,10 @@
 //! **Only tested**: whole trees of small universes, written out by hand, and that with ample memory
 //! each call answers.
 //!
-//! It looks at all lines and all decisions anew for each choice. What meets a need, and what may
-//! conflict, is found by its name or its text; only where a conflict may be is each two of the lines
-//! looked at.
+//! A [`Walk`] keeps what it knows of the lines from one choice to the next, and makes anew only
+//! those of which something else is decided. What meets a need, what serves it, and what may
+//! conflict is found by its name or its text among the lines that may have such a package; only
+//! where a conflict may be is each two of the lines looked at.
 //!
 //! ```
 //! let choice = Choice::new(alloc);
@@ -37,6 +38,8 @@ mod choice;
 mod choosing;
 mod filtering;
 mod gathering;
+mod key;
+mod keyed;
 mod laws;
 mod marks;
 mod obligation;
@@ -48,8 +51,10 @@ mod reasons;
 mod repeats;
 mod standing;
 mod taking_up;
+mod turning;
 mod universe;
 mod value;
+mod walk;
 
 pub use branching::{next_options, options};
 pub use choice::Choice;
@@ -59,3 +64,4 @@ pub use reasons::next_reason;
 pub use taking_up::first_open;
 pub use universe::{Offer, Universe};
 pub use value::{Decision, Value};
+pub use walk::Walk;

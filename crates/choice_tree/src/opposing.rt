@@ -20,7 +20,7 @@ fn hits(atoms: &[&Atom], one: &Pkg, other: &Pkg) -> bool
     false
 }
 
-fn is_same(one: &str, other: &str) -> bool
+pub(crate) fn is_same(one: &str, other: &str) -> bool
     ensures { result ≡ bytes_eq one.now other.now }
 {
     one == other

@@ -1,8 +1,9 @@
-ghost use Rattle.std.specs.Prelude.{◌≡◌, IfOk};
+ghost use Rattle.std.specs.Prelude.{◌≡◌, IfOk, get_or};
 ghost use Rattle.std.specs.List.{list_any};
+ghost use Rattle.dep_atom.specs.Match.{value_matches};
 ghost use Rattle.dep_atom.specs.Values.{atom_value};
 ghost use Rattle.choice_tree.specs.Open.{decides, opposes};
-ghost use Rattle.choice_tree.specs.Places.{places};
+ghost use Rattle.choice_tree.specs.Places.{is_one, no_place, package_in, places};
 ghost use Rattle.choice_tree.specs.Seen.{place_of, places_of};
 ghost use Rattle.choice_tree.specs.Views.{universe_of};
 ghost use Rattle.dep_atom.specs.Ids.{id_text};
@@ -56,6 +57,36 @@ pub(crate) fn any_decides(places: &[Place<'_>], atom: &Atom, nobody: &Flags) -> 
 {
     for place in places {
         if decides(place, atom, nobody) {
+            return true;
+        }
+    }
+    false
+}
+
+fn matches_at(places: &[Place<'_>], line: usize, atom: &Atom, asker: &Flags) -> bool
+    ensures { result ≡ is_one (λ p. value_matches (atom_value atom.now) p.facts asker.now)
+        (package_in (get_or (places_of places.now) line no_place)) }
+{
+    if line >= places.len() {
+        return false;
+    }
+    match &places[line].standing {
+        Some(standing) => {
+            let owner = standing.owner;
+            atom.matches(&owner.facts, asker)
+        }
+        None => false,
+    }
+}
+
+/// Whether on one of the lines a package stands that the atom matches.
+pub(crate) fn any_matches(places: &[Place<'_>], lines: &[usize], atom: &Atom, asker: &Flags) -> bool
+    ensures { result ≡ list_any
+        (λ l. is_one (λ p. value_matches (atom_value atom.now) p.facts asker.now)
+        (package_in (get_or (places_of places.now) l no_place))) lines.now }
+{
+    for line in lines {
+        if matches_at(places, *line, atom, asker) {
             return true;
         }
     }

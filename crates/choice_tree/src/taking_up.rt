@@ -16,9 +16,10 @@ use crate::calm::is_calm;
 use crate::choice::Choice;
 use crate::obligation::Obligation;
 use crate::place::Place;
-use crate::places::{all_places, any_decides, any_opposes, opposes};
+use crate::places::{any_decides, any_opposes, opposes};
 use crate::universe::Universe;
 use crate::value::Value;
+use crate::walk::Walk;
 use dep_atom::Atom;
 use pkg_state::Class;
 use pms_names::Flags;
@@ -159,18 +160,6 @@ fn first_of_packages<'a>(around: &Around<'_, '_>) -> Option<Obligation<'a>>
     None
 }
 
-fn first_of_places<'a>(
-    alloc: Global,
-    places: &[Place<'_>],
-) -> Result<Option<Obligation<'a>>, AllocError>
-    ensures { IfOk result (λ found. option_map obligation_of found ≡
-        find (is_open_of (places_of places.now))
-        (flat_map (obligations_of (length places.now)) (numbers (length places.now) 0))) }
-{
-    let around = Around::new(alloc, places)?;
-    Ok(first_of_packages(&around))
-}
-
 fn is_forsaken(alloc: Global, places: &[Place<'_>], line: usize) -> Result<bool, AllocError>
     requires { line < length places.now }
     ensures { IfOk result (λ it. it ≡ is_open_of (places_of places.now) (absence line)) }
@@ -202,19 +191,19 @@ fn first_forsaken(alloc: Global, places: &[Place<'_>]) -> Result<Option<usize>, 
 pub(crate) fn first_of_all<'a>(
     alloc: Global,
     atoms: &'a [Atom],
-    places: &[Place<'_>],
+    around: &Around<'_, '_>,
 ) -> Result<Option<Obligation<'a>>, AllocError>
     ensures { IfOk result (λ found. option_map obligation_of found ≡
-        find (is_open_of (places_of places.now))
-        (obligations (map atom_value atoms.now) (length places.now))) }
+        find (is_open_of (places_of around.now.places.now))
+        (obligations (map atom_value atoms.now) (length around.now.places.now))) }
 {
-    if let Some(atom) = first_wanted(alloc, atoms, places) {
+    if let Some(atom) = first_wanted(alloc, atoms, around.places) {
         return Ok(Some(Obligation::Wanted(atom)));
     }
-    if let Some(found) = first_of_places(alloc, places)? {
+    if let Some(found) = first_of_packages(around) {
         return Ok(Some(found));
     }
-    match first_forsaken(alloc, places)? {
+    match first_forsaken(alloc, around.places)? {
         Some(line) => Ok(Some(Obligation::Absence(line))),
         None => Ok(None),
     }
@@ -230,7 +219,6 @@ pub fn first_open<'a>(
     ensures { IfOk result (λ found. option_map obligation_of found ≡
         first_open (universe_of universe.now) choice.now) }
 {
-    let places = all_places(alloc, universe, choice)?;
-    let found = first_of_all(alloc, &universe.wanted, &places)?;
-    Ok(found)
+    let mut walk = Walk::new(alloc, universe)?;
+    walk.first_open(alloc, choice)
 }

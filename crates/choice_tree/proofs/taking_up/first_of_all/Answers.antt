@@ -1,5 +1,4 @@
-use Rattle.std.proofs.Common.{ap, ◌∙◌, None, Some, length, map, refl, sym}
-use Rattle.std.specs.Option.{option_map}
+use Rattle.std.proofs.Common.{◌∙◌, None, Some, length, map, refl, sym}
 use Rattle.std.specs.List.{find, flat_map}
 use Rattle.dep_atom.specs.Values.{atom_value}
 use Rattle.choice_law.specs.Tree.{absence}
@@ -11,30 +10,30 @@ use Rattle.choice_tree.proofs.taking_up.first_of_all.Goals as goal
 
 pub returns-in-Some : goal.returns-in-Some
 returns-in-Some c =
-    let ps = c.args.places.now in
+    let ps = c.args.around.now.places.now in
     let test = is_open_of (places_of ps) in
     sym (all_found test (map atom_value c.args.atoms.now) (length ps) (Some (atom_value c.in-Some.atom.now))
     (find test (flat_map (obligations_of (length ps)) (numbers (length ps) 0))) (find (λ l. test (absence l)) (numbers (length ps) 0))
     c.in-Some.ensures refl refl)
 
-pub returns-in-Some-2 : goal.returns-in-Some-2
-returns-in-Some-2 c =
-    let ps = c.args.places.now in
+pub returns-in-Some-first_of_packages : goal.returns-in-Some-first_of_packages
+returns-in-Some-first_of_packages c =
+    let ps = c.args.around.now.places.now in
     let test = is_open_of (places_of ps) in
     sym (all_found test (map atom_value c.args.atoms.now) (length ps) None
-    (Some (obligation_of c.in-Some-2.found)) (find (λ l. test (absence l)) (numbers (length ps) 0))
-    c.in_default.ensures (ap (option_map obligation_of) (sym c.in-Some-2.is) ∙ c.in_ok-found.ensures) refl)
+    (Some (obligation_of c.in-Some-first_of_packages.found)) (find (λ l. test (absence l)) (numbers (length ps) 0))
+    c.in_default.ensures c.in-Some-first_of_packages.ensures refl)
 
-pub returns-in-Some-3 : goal.returns-in-Some-3
-returns-in-Some-3 c =
-    let ps = c.args.places.now in
+pub returns-in-Some-2 : goal.returns-in-Some-2
+returns-in-Some-2 c =
+    let ps = c.args.around.now.places.now in
     let test = is_open_of (places_of ps) in
-    sym (all_found test (map atom_value c.args.atoms.now) (length ps) None None (Some c.in-Some-3.line)
-    c.in_default.ensures (ap (option_map obligation_of) (sym c.in_default-2.is) ∙ c.in_ok-found.ensures) (sym c.in-Some-3.is ∙ c.in_ok-line.ensures))
+    sym (all_found test (map atom_value c.args.atoms.now) (length ps) None None (Some c.in-Some-2.line)
+    c.in_default.ensures c.in_default-first_of_packages.ensures (sym c.in-Some-2.is ∙ c.in_ok-line.ensures))
 
 pub returns-in-None : goal.returns-in-None
 returns-in-None c =
-    let ps = c.args.places.now in
+    let ps = c.args.around.now.places.now in
     let test = is_open_of (places_of ps) in
     sym (all_found test (map atom_value c.args.atoms.now) (length ps) None None None
-    c.in_default.ensures (ap (option_map obligation_of) (sym c.in_default-2.is) ∙ c.in_ok-found.ensures) (sym c.in-None.is ∙ c.in_ok-line.ensures))
+    c.in_default.ensures c.in_default-first_of_packages.ensures (sym c.in-None.is ∙ c.in_ok-line.ensures))

@@ -1,0 +1,12 @@
+use Rattle.std.proofs.Common.{◌∙◌, ap}
+use Rattle.choice_tree.specs.Keys.{offers_in}
+use Rattle.choice_tree.specs.Views.{universe_of}
+use Rattle.choice_tree.proofs.Turned.{offers_placed}
+use Rattle.choice_tree.proofs.walk.Walk.new.Goals as goal
+
+pub invariant_of-result : goal.invariant_of-result
+invariant_of-result c = record {
+  offered = ap offers_in c.in_ok-places.ensures ∙ offers_placed (universe_of c.args.universe.now) _;
+  are_named = c.in_ok-named.ensures;
+  are_told = c.in_ok-told.ensures;
+}

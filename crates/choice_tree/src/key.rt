@@ -1,0 +1,8 @@
+/// By what a line is found: the names of its packages, their whole texts, or the names of their
+/// leaves.
+#[derive(Clone, Copy, Debug)]
+pub(crate) enum Key {
+    Own,
+    Whole,
+    Leaf,
+}
