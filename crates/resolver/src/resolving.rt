@@ -11,30 +11,36 @@ use crate::fault::ResolveFault;
 use crate::form::universe_is_plain;
 use crate::tree::Choices;
 use choice_law::{good_leaves_are_solutions, solutions_have_leaves};
-use choice_tree::{Choice, Universe, first_open_is_a_pick};
+use choice_tree::{Choice, Universe, Walk, first_open_is_a_pick};
 use std::alloc::{AllocError, Global};
 use tree_search::{Outcome, first_good, jumps_lose_nothing};
+
+// What the jumps leave out is of no account.
+fn no_jump_loses(choices: &Choices<'_>)
+    ensures { LosesNothing (tree_shape choices.now.walk.universe.now.update
+        (universe_of choices.now.walk.universe.now)) decided
+        (IsSolution (universe_of choices.now.walk.universe.now)) [] }
+{
+    universe_is_plain(choices.walk.universe);
+    jumps_lose_nothing(choices);
+}
 
 fn search(
     alloc: Global,
     universe: &Universe,
     backtrack: usize,
 ) -> Result<Outcome<Choice>, AllocError>
-    ensures { IfOk result (IsOutcome
+    ensures outcome { IfOk result (IsOutcome
         (visit (tree_shape universe.now.update (universe_of universe.now)) []) backtrack) }
+    ensures lossless { IfOk result (λ _. LosesNothing
+        (tree_shape universe.now.update (universe_of universe.now)) decided
+        (IsSolution (universe_of universe.now)) []) }
 {
-    let mut choices = Choices { universe };
+    let walk = Walk::new(alloc, universe)?;
+    let mut choices = Choices { walk };
+    no_jump_loses(&choices);
     let outcome = first_good(alloc, &mut choices, Choice::new(alloc), backtrack)?;
     Ok(outcome)
-}
-
-// What the jumps leave out is of no account.
-fn no_jump_loses(universe: &Universe)
-    ensures { LosesNothing (tree_shape universe.now.update (universe_of universe.now)) decided
-        (IsSolution (universe_of universe.now)) [] }
-{
-    universe_is_plain(universe);
-    jumps_lose_nothing(&Choices { universe });
 }
 
 /// The first choice of the tree of which nothing is open. It gives up where so many were tried in
@@ -49,7 +55,6 @@ pub fn resolve(alloc: Global, universe: &Universe, backtrack: usize) -> Result<C
     solutions_have_leaves();
     first_open_is_a_pick();
     universe_is_plain(universe);
-    no_jump_loses(universe);
     match search(alloc, universe, backtrack)? {
         Outcome::Found(choice) => Ok(choice),
         Outcome::NoneGood => Err(ResolveFault::NoSolution),

@@ -12,8 +12,8 @@ pub returns-in-Found-clause-chosen : goal.returns-in-Found-clause-chosen
 returns-in-Found-clause-chosen c =
     let update = c.args.universe.now.update in
     let u = universe_of c.args.universe.now in
-    let r = subst (λ (o : Outcome Choice). IsOutcome (visit (tree_shape update u) []) c.args.backtrack o) c.in-Found.is c.in_ok-choice.ensures in
-    let first = sym c.no_jump_loses.ensures.same_end ∙ r.0 in
+    let r = subst (λ (o : Outcome Choice). IsOutcome (visit (tree_shape update u) []) c.args.backtrack o) c.in-Found.is c.in_ok-choice.ensures.outcome in
+    let first = sym c.in_ok-choice.ensures.lossless.same_end ∙ r.0 in
     record {
       first = first;
       early = r.1;
@@ -24,8 +24,8 @@ pub returns-in-NoneGood-clause-cause : goal.returns-in-NoneGood-clause-cause
 returns-in-NoneGood-clause-cause c =
     let update = c.args.universe.now.update in
     let u = universe_of c.args.universe.now in
-    let r = subst (λ (o : Outcome Choice). IsOutcome (visit (tree_shape update u) []) c.args.backtrack o) c.in-NoneGood.is c.in_ok-choice.ensures in
-    let none = sym c.no_jump_loses.ensures.same_end ∙ r.0 in
+    let r = subst (λ (o : Outcome Choice). IsOutcome (visit (tree_shape update u) []) c.args.backtrack o) c.in-NoneGood.is c.in_ok-choice.ensures.outcome in
+    let none = sym c.in_ok-choice.ensures.lossless.same_end ∙ r.0 in
     record {
       no_leaf = none;
       few = r.1;
@@ -36,5 +36,5 @@ pub returns-in-Limit-clause-cause : goal.returns-in-Limit-clause-cause
 returns-in-Limit-clause-cause c =
     let update = c.args.universe.now.update in
     let u = universe_of c.args.universe.now in
-    let r = subst (λ (o : Outcome Choice). IsOutcome (visit (tree_shape update u) []) c.args.backtrack o) c.in-Limit.is c.in_ok-choice.ensures in
-    too_many update u c.args.backtrack c.in-Limit.refuted.items c.no_jump_loses.ensures r.0 r.1
+    let r = subst (λ (o : Outcome Choice). IsOutcome (visit (tree_shape update u) []) c.args.backtrack o) c.in-Limit.is c.in_ok-choice.ensures.outcome in
+    too_many update u c.args.backtrack c.in-Limit.refuted.items c.in_ok-choice.ensures.lossless r.0 r.1
