@@ -139,6 +139,23 @@ def flag_change_solves():
     return check_plans(rows)
 
 
+def a_deep_conflict_is_found():
+    """Forty names are wanted, in ten versions each; those of the last bar the greatest of the first.
+    All versions of the last are tried in vain, and then the first name is the next to give way."""
+    names = [f"p{at:02}" for at in range(40)]
+    versions = [[f"{name}-{version}" for version in range(10, 0, -1)] for name in names]
+    versions[-1] = [f"{it};RDEPEND !=c/p00-10" for it in versions[-1]]
+    lines = [" ".join(f"c/{name}" for name in names), *map(",".join, versions)]
+    first = "".join(f" {at}=v0" for at in range(39))
+    vain = "".join(f"|{first} 39=v{at}" for at in range(10))
+    found = f" 0=v1{''.join(f' {at}=v0' for at in range(1, 40))}"
+    rows = [
+        (case("resolve", "keep", "10", *lines), f"limit{vain}"),
+        (case("resolve", "keep", "11", *lines), found),
+    ]
+    return check_plans(rows)
+
+
 def two_that_need_each_other():
     row = case("resolve", "keep", "10", "c/a", "a-1;RDEPEND c/b", "b-1;RDEPEND c/a")
     return check_plans([(row, " 0=v0 1=v0")])
@@ -237,6 +254,7 @@ TESTS = [
     backtrack_limits,
     jump_over_an_unrelated_choice,
     flag_change_solves,
+    a_deep_conflict_is_found,
     two_that_need_each_other,
     answers_are_solutions,
 ]
