@@ -11,3 +11,7 @@ pub mod Found
 pub mod Gathered
 pub mod Among
 pub mod Smaller
+pub mod SameLeaves
+pub mod Unseen
+pub mod Shut
+pub mod Cleared

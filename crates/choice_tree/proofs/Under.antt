@@ -40,7 +40,7 @@ or_right false b e = e
 nat_eq_itself : (l : ℕ) → nat_eq l l ≡ true
 nat_eq_itself l = elim (eqb_tells l l) [ inl r ↦ r.0 | inr r ↦ absurd (r.1 refl) ]
 
-bytes_swap : (a b : List ℕ) (x : Bool) → bytes_eq a b ≡ x → bytes_eq b a ≡ x
+pub bytes_swap : (a b : List ℕ) (x : Bool) → bytes_eq a b ≡ x → bytes_eq b a ≡ x
 bytes_swap a b true e = (bytes_eq-Decides b a).1 (sym ((bytes_eq-Decides a b).0 e))
 bytes_swap a b false e = elim (cases_Bool (bytes_eq b a)) [
   | inl y ↦ absurd (let r : true ≡ false = sym ((bytes_eq-Decides a b).1 (sym ((bytes_eq-Decides b a).0 y))) ∙ e in cc r)
@@ -179,7 +179,7 @@ any_from g h (s ∷ ss) k each =
     ap (λ (b : Bool). b || list_any g ss) first
     ∙ ap (λ (b : Bool). h k || b) (any_from g h ss (suc k) (λ l. (let one_on : suc k + l ≡ k + suc l = omega arith in ap h one_on) ∙ each (suc l)))
 
-any_numbered : (g : Place → Bool) (ss : List Place) → list_any g ss ≡ list_any (λ l. g (get_or ss l no_place)) (numbers (length ss) 0)
+pub any_numbered : (g : Place → Bool) (ss : List Place) → list_any g ss ≡ list_any (λ l. g (get_or ss l no_place)) (numbers (length ss) 0)
 any_numbered g ss = any_from g (λ l. g (get_or ss l no_place)) ss 0 (λ l. let at_l : 0 + l ≡ l = omega arith in ap (λ (n : ℕ). g (get_or ss n no_place)) at_l)
 
 module _ (key : Key) (text : List ℕ) (ss : List Place) (lists : Lists) (are : AreKeyed key (offers_in ss) lists) where

@@ -9,5 +9,6 @@ pub mod Open
 pub mod Candidates
 pub mod Options
 pub mod Tree
+pub mod Settled
 pub mod Shown
 pub mod Keys

@@ -17,7 +17,9 @@
 //! each call answers.
 //!
 //! A [`Walk`] keeps what it knows of the lines from one choice to the next, and makes anew only
-//! those of which something else is decided. What meets a need, what serves it, and what may
+//! those of which something else is decided. A line of whose package nothing is open is marked, and
+//! is judged again only where a package that it names, or one of its text, has come or gone
+//! (`AreSettled` of `specs/Settled.antt`). What meets a need, what serves it, and what may
 //! conflict is found by its name or its text among the lines that may have such a package; only
 //! where a conflict may be is each two of the lines looked at.
 //!
@@ -49,6 +51,7 @@ mod places;
 mod ranking;
 mod reasons;
 mod repeats;
+mod settling;
 mod standing;
 mod taking_up;
 mod turning;

@@ -8,6 +8,7 @@ ghost use Rattle.choice_tree.specs.Open.{obligations};
 ghost use Rattle.choice_tree.specs.Open.{obligations_of, opposes};
 ghost use Rattle.choice_tree.specs.Places.{is_one, numbers, package_in};
 ghost use Rattle.choice_tree.specs.Seen.{place_of, places_of};
+ghost use Rattle.choice_tree.specs.Settled.{AreSettled};
 ghost use Rattle.choice_law.specs.Universe.{Value as TheValue, counts, is_new};
 ghost use Rattle.choice_tree.specs.Views.{universe_of};
 
@@ -146,14 +147,43 @@ fn first_of_line<'a>(around: &Around<'_, '_>, line: usize) -> Option<Obligation<
     }
 }
 
+/// What is first open of the package on a line. Where nothing is, the line is marked; one that is
+/// marked already isn't judged.
+fn first_unsettled<'a>(
+    around: &Around<'_, '_>,
+    settled: &mut Vec<bool>,
+    line: usize,
+) -> Option<Obligation<'a>>
+    requires line { line < length around.now.places.now }
+    requires settled { AreSettled around.now.places.now settled.old.items }
+    ensures settled { AreSettled around.now.places.now settled.new.items }
+    ensures found { option_map obligation_of result ≡
+        find (is_open_of (places_of around.now.places.now))
+        (obligations_of (length around.now.places.now) line) }
+{
+    if settled[line] {
+        return None;
+    }
+    match first_of_line(around, line) {
+        Some(found) => Some(found),
+        None => {
+            settled[line] = true;
+            None
+        }
+    }
+}
+
 /// What is first open of the packages, line by line.
-fn first_of_packages<'a>(around: &Around<'_, '_>) -> Option<Obligation<'a>>
-    ensures { option_map obligation_of result ≡ find (is_open_of (places_of around.now.places.now))
+fn first_of_packages<'a>(around: &Around<'_, '_>, settled: &mut Vec<bool>) -> Option<Obligation<'a>>
+    requires { AreSettled around.now.places.now settled.old.items }
+    ensures settled { AreSettled around.now.places.now settled.new.items }
+    ensures found { option_map obligation_of result ≡
+        find (is_open_of (places_of around.now.places.now))
         (flat_map (obligations_of (length around.now.places.now))
         (numbers (length around.now.places.now) 0)) }
 {
     for line in 0..around.places.len() {
-        if let Some(found) = first_of_line(around, line) {
+        if let Some(found) = first_unsettled(around, settled, line) {
             return Some(found);
         }
     }
@@ -192,15 +222,18 @@ pub(crate) fn first_of_all<'a>(
     alloc: Global,
     atoms: &'a [Atom],
     around: &Around<'_, '_>,
+    settled: &mut Vec<bool>,
 ) -> Result<Option<Obligation<'a>>, AllocError>
-    ensures { IfOk result (λ found. option_map obligation_of found ≡
+    requires { AreSettled around.now.places.now settled.old.items }
+    ensures settled { AreSettled around.now.places.now settled.new.items }
+    ensures found { IfOk result (λ found. option_map obligation_of found ≡
         find (is_open_of (places_of around.now.places.now))
         (obligations (map atom_value atoms.now) (length around.now.places.now))) }
 {
     if let Some(atom) = first_wanted(alloc, atoms, around.places) {
         return Ok(Some(Obligation::Wanted(atom)));
     }
-    if let Some(found) = first_of_packages(around) {
+    if let Some(found) = first_of_packages(around, settled) {
         return Ok(Some(found));
     }
     match first_forsaken(alloc, around.places)? {

@@ -7,9 +7,10 @@ ghost use Rattle.choice_tree.specs.Open.{first_open, obligation_of};
 ghost use Rattle.choice_tree.specs.Options.{options};
 ghost use Rattle.choice_tree.specs.Places.{places};
 ghost use Rattle.choice_tree.specs.Seen.{places_of};
+ghost use Rattle.choice_tree.specs.Settled.{AreSettled};
 ghost use Rattle.choice_tree.specs.Tree.{tree_options};
 ghost use Rattle.choice_tree.specs.Views.{universe_of};
-ghost use Rattle.choice_tree.specs.declared.key.Key.TheVariants.{Own, Whole};
+ghost use Rattle.choice_tree.specs.declared.key.Key.TheVariants.{Leaf, Own, Whole};
 
 use crate::around::Around;
 use crate::branching::options_of;
@@ -26,17 +27,22 @@ use crate::universe::Universe;
 use std::alloc::{AllocError, Global};
 
 /// A way through the choices of a universe. It keeps what it knows of the lines from one choice to
-/// the next, and looks anew only at those of which something else is decided.
+/// the next, and looks anew only at those of which something else is decided. A line of whose
+/// package nothing is open isn't judged again until something that concerns it has changed.
 #[derive(Drop)]
 pub struct Walk<'u> {
     pub universe: &'u Universe,
     places: Vec<Place<'u>>,
     named: Keyed,
     told: Keyed,
+    leaves: Keyed,
+    settled: Vec<bool>,
     ghost offered: { offers_in (places_of places.items) ≡
         (universe_of universe.now).offers } by { Prim.hlevel (codes, trees_code) },
     ghost are_named: { AreKeyed Own (universe_of universe.now).offers named.lists },
     ghost are_told: { AreKeyed Whole (universe_of universe.now).offers told.lists },
+    ghost are_leaves: { AreKeyed Leaf (universe_of universe.now).offers leaves.lists },
+    ghost are_settled: { AreSettled places.items settled.items },
 }
 
 impl<'u> Walk<'u> {
@@ -47,11 +53,15 @@ impl<'u> Walk<'u> {
         let places = all_places(alloc, universe, &Choice::new(alloc))?;
         let named = Keyed::new(alloc, universe, Key::Own)?;
         let told = Keyed::new(alloc, universe, Key::Whole)?;
+        let leaves = Keyed::new(alloc, universe, Key::Leaf)?;
+        let settled = vec![in alloc; false; places.len()]?;
         Ok(Walk {
             universe,
             places,
             named,
             told,
+            leaves,
+            settled,
         })
     }
 
@@ -62,7 +72,14 @@ impl<'u> Walk<'u> {
         ensures same { self.new.universe ≡ self.old.universe }
     {
         let marks = marks(alloc, choice.decisions(), self.places.len())?;
-        turn(alloc, &mut self.places, &marks)?;
+        turn(
+            alloc,
+            &mut self.places,
+            &mut self.settled,
+            &self.leaves,
+            &self.told,
+            &marks,
+        )?;
         Ok(())
     }
 
@@ -83,7 +100,9 @@ impl<'u> Walk<'u> {
         ensures same { self.new.universe ≡ self.old.universe }
     {
         self.turn(alloc, choice)?;
-        let found = first_of_all(alloc, &self.universe.wanted, &self.around())?;
+        let around = Around::new(&self.places, &self.named, &self.told);
+        let wanted = &self.universe.wanted;
+        let found = first_of_all(alloc, wanted, &around, &mut self.settled)?;
         Ok(found)
     }
 

@@ -8,32 +8,32 @@ use Rattle.choice_tree.specs.Seen.{places_of}
 use Rattle.choice_tree.proofs.Found.{all_found}
 use Rattle.choice_tree.proofs.taking_up.first_of_all.Goals as goal
 
-pub returns-in-Some : goal.returns-in-Some
-returns-in-Some c =
+pub returns-in-Some-clause-found : goal.returns-in-Some-clause-found
+returns-in-Some-clause-found c =
     let ps = c.args.around.now.places.now in
     let test = is_open_of (places_of ps) in
     sym (all_found test (map atom_value c.args.atoms.now) (length ps) (Some (atom_value c.in-Some.atom.now))
     (find test (flat_map (obligations_of (length ps)) (numbers (length ps) 0))) (find (λ l. test (absence l)) (numbers (length ps) 0))
     c.in-Some.ensures refl refl)
 
-pub returns-in-Some-first_of_packages : goal.returns-in-Some-first_of_packages
-returns-in-Some-first_of_packages c =
+pub returns-in-Some-first_of_packages-clause-found : goal.returns-in-Some-first_of_packages-clause-found
+returns-in-Some-first_of_packages-clause-found c =
     let ps = c.args.around.now.places.now in
     let test = is_open_of (places_of ps) in
     sym (all_found test (map atom_value c.args.atoms.now) (length ps) None
     (Some (obligation_of c.in-Some-first_of_packages.found)) (find (λ l. test (absence l)) (numbers (length ps) 0))
-    c.in_default.ensures c.in-Some-first_of_packages.ensures refl)
+    c.in_default.ensures c.in-Some-first_of_packages.ensures.found refl)
 
-pub returns-in-Some-2 : goal.returns-in-Some-2
-returns-in-Some-2 c =
+pub returns-in-Some-2-clause-found : goal.returns-in-Some-2-clause-found
+returns-in-Some-2-clause-found c =
     let ps = c.args.around.now.places.now in
     let test = is_open_of (places_of ps) in
     sym (all_found test (map atom_value c.args.atoms.now) (length ps) None None (Some c.in-Some-2.line)
-    c.in_default.ensures c.in_default-first_of_packages.ensures (sym c.in-Some-2.is ∙ c.in_ok-line.ensures))
+    c.in_default.ensures c.in_default-first_of_packages.ensures.found (sym c.in-Some-2.is ∙ c.in_ok-line.ensures))
 
-pub returns-in-None : goal.returns-in-None
-returns-in-None c =
+pub returns-in-None-clause-found : goal.returns-in-None-clause-found
+returns-in-None-clause-found c =
     let ps = c.args.around.now.places.now in
     let test = is_open_of (places_of ps) in
     sym (all_found test (map atom_value c.args.atoms.now) (length ps) None None None
-    c.in_default.ensures c.in_default-first_of_packages.ensures (sym c.in-None.is ∙ c.in_ok-line.ensures))
+    c.in_default.ensures c.in_default-first_of_packages.ensures.found (sym c.in-None.is ∙ c.in_ok-line.ensures))

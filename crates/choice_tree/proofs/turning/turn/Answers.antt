@@ -17,6 +17,7 @@ loop-line-preserved c =
     let same = c.requires in
     let test = c.loop-line-test.true in
     record {
+      settled = c.turn_line.ensures.settled;
       offers = ap offers_in done ∙ (same_offers before c.loop-line.line _ ∙ offers);
       decided = decided_more before (places_of c.turn_line.new.places.items) c.args.marks.now c.loop-line.line (omega (arith, long, all, same, test)) done c.loop-line.invariant.decided;
     }

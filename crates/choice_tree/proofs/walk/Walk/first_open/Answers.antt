@@ -12,9 +12,9 @@ use Rattle.choice_tree.proofs.walk.Walk.first_open.Goals as goal
 
 pub returns-clause-found : goal.returns-clause-found
 returns-clause-found c =
-    let ps = c.around.result.places.now in
+    let ps = c.new-around.result.places.now in
     let u = c.args.self.now.universe in
-    c.in_ok-found.ensures
+    c.in_ok-found.ensures.found
     ∙ (ap (λ (atoms : List Atom). find (is_open_of (places_of ps)) (obligations (map atom_value atoms) (length ps)))
-    (c.deref.ensures.value ∙ ap (λ (v : Bor Universe). v.now.wanted.items) c.turn.ensures.same)
-    ∙ same_first (universe_of u.now) c.args.choice.now ps (ap places_of c.around.ensures ∙ c.in_ok-turn.ensures.there))
+    (c.deref-2.ensures.value ∙ ap (λ (v : Bor Universe). v.now.wanted.items) c.turn.ensures.same)
+    ∙ same_first (universe_of u.now) c.args.choice.now ps (ap places_of (c.new-around.ensures ∙ c.deref.ensures.value) ∙ c.in_ok-turn.ensures.there))
