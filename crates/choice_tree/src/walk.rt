@@ -2,6 +2,7 @@ ghost use Rattle.std.specs.Prelude.{◌≡◌, IfOk, OnOk};
 ghost use Rattle.std.specs.Coded.{codes};
 ghost use Rattle.std.specs.Option.{option_map};
 ghost use Rattle.pkg_state.specs.Codes.{trees_code};
+ghost use Rattle.choice_law.specs.Tree.{Choice as Decisions};
 ghost use Rattle.choice_tree.specs.Keys.{AreKeyed, offers_in};
 ghost use Rattle.choice_tree.specs.Open.{first_open, obligation_of};
 ghost use Rattle.choice_tree.specs.Options.{options};
@@ -89,6 +90,35 @@ impl<'u> Walk<'u> {
         Around::new(&self.places, &self.named, &self.told)
     }
 
+    /// What is taken up next of the choice to which it went last.
+    fn first_here(&mut self, alloc: Global) -> Result<Option<Obligation<'u>>, AllocError>
+        ensures found { IfOk result (λ found. (c : Decisions) →
+            places_of self.old.places.items ≡ places (universe_of self.old.universe.now) c →
+            option_map obligation_of found ≡ first_open (universe_of self.old.universe.now) c) }
+        ensures kept { self.new.places.items ≡ self.old.places.items }
+        ensures same { self.new.universe ≡ self.old.universe }
+    {
+        let around = Around::new(&self.places, &self.named, &self.told);
+        let wanted = &self.universe.wanted;
+        let found = first_of_all(alloc, wanted, &around, &mut self.settled)?;
+        Ok(found)
+    }
+
+    /// The options of the choice to which it went last.
+    fn options_here(
+        &self,
+        alloc: Global,
+        choice: &Choice,
+        obligation: &Obligation<'_>,
+    ) -> Result<Vec<Choice>, AllocError>
+        requires { places_of self.now.places.items ≡
+            places (universe_of self.now.universe.now) choice.now }
+        ensures { IfOk result (λ v. v.items ≡ options self.now.universe.now.update
+            (universe_of self.now.universe.now) choice.now (obligation_of obligation.now)) }
+    {
+        options_of(alloc, self.universe, choice, &self.around(), obligation)
+    }
+
     /// What is taken up next of a choice, as [`first_open`](crate::first_open) tells it.
     pub fn first_open(
         &mut self,
@@ -100,9 +130,7 @@ impl<'u> Walk<'u> {
         ensures same { self.new.universe ≡ self.old.universe }
     {
         self.turn(alloc, choice)?;
-        let around = Around::new(&self.places, &self.named, &self.told);
-        let wanted = &self.universe.wanted;
-        let found = first_of_all(alloc, wanted, &around, &mut self.settled)?;
+        let found = self.first_here(alloc)?;
         Ok(found)
     }
 
@@ -118,7 +146,7 @@ impl<'u> Walk<'u> {
         ensures same { self.new.universe ≡ self.old.universe }
     {
         self.turn(alloc, choice)?;
-        let found = options_of(alloc, self.universe, choice, &self.around(), obligation)?;
+        let found = self.options_here(alloc, choice, obligation)?;
         Ok(found)
     }
 
@@ -133,9 +161,10 @@ impl<'u> Walk<'u> {
             (universe_of self.old.universe.now) choice.now) }
         ensures same { self.new.universe ≡ self.old.universe }
     {
-        match self.first_open(alloc, choice)? {
+        self.turn(alloc, choice)?;
+        match self.first_here(alloc)? {
             Some(obligation) => {
-                let found = self.options(alloc, choice, &obligation)?;
+                let found = self.options_here(alloc, choice, &obligation)?;
                 Ok(Some(found))
             }
             None => Ok(None),

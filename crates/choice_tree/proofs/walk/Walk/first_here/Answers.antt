@@ -1,4 +1,3 @@
-use denote.Ref.{Bor}
 use Rattle.std.proofs.Common.{◌∙◌, List, ap, length, map}
 use Rattle.std.specs.List.{find}
 use Rattle.dep_atom.specs.Values.{atom_value}
@@ -6,15 +5,14 @@ use Rattle.dep_atom.specs.declared.atom.Atom.{Atom}
 use Rattle.choice_tree.specs.Open.{is_open_of, obligations}
 use Rattle.choice_tree.specs.Seen.{places_of}
 use Rattle.choice_tree.specs.Views.{universe_of}
-use Rattle.choice_tree.specs.declared.universe.Universe.{Universe}
 use Rattle.choice_tree.proofs.Found.{same_first}
-use Rattle.choice_tree.proofs.walk.Walk.first_open.Goals as goal
+use Rattle.choice_tree.proofs.walk.Walk.first_here.Goals as goal
 
 pub returns-clause-found : goal.returns-clause-found
-returns-clause-found c =
+returns-clause-found c d there =
     let ps = c.new-around.result.places.now in
     let u = c.args.self.now.universe in
     c.in_ok-found.ensures.found
     ∙ (ap (λ (atoms : List Atom). find (is_open_of (places_of ps)) (obligations (map atom_value atoms) (length ps)))
-    (c.deref-2.ensures.value ∙ ap (λ (v : Bor Universe). v.now.wanted.items) c.turn.ensures.same)
-    ∙ same_first (universe_of u.now) c.args.choice.now ps (ap places_of (c.new-around.ensures ∙ c.deref.ensures.value) ∙ c.in_ok-turn.ensures.there))
+    c.deref-2.ensures.value
+    ∙ same_first (universe_of u.now) d ps (ap places_of (c.new-around.ensures ∙ c.deref.ensures.value) ∙ there))
