@@ -4,7 +4,7 @@ use Rattle.std.specs.Prelude.{Vec, bytes_eq, if◌then◌else◌, slice_get}
 use Rattle.std.specs.Global.{Global}
 use Rattle.std.specs.BTreeMap.{get_by_text}
 use Rattle.std.specs.List.{flat_map, list_any}
-use Rattle.std.specs.Option.{option_map_or}
+use Rattle.std.specs.Option.{option_and_then, option_map_or}
 use Rattle.std.proofs.Math.Seq.{get_or-append_seam}
 use Rattle.std.proofs.lemmas.Bool.{cases_Bool, or_left, or_parts}
 use Rattle.std.proofs.lemmas.Bool.Decides.{eqb_tells}
@@ -26,6 +26,7 @@ use Rattle.plan_law.proofs.Members.{passes_some}
 use Rattle.choice_law.specs.Universe.{Offer, Value, absent, keep, no_offer, package_of, variant}
 use Rattle.choice_tree.specs.Candidates.{Candidate, all_free, free_line, if_free, kept, of_line, varied}
 use Rattle.choice_tree.specs.Keys.{AreKeyed, HasCome, Lists, ends_with, has_key, keyed, last_if, lines_at, offers_in, offers_key, with_last}
+use Rattle.choice_tree.specs.Open.{decides}
 use Rattle.choice_tree.specs.Places.{Place, is_one, no_place, numbers, package_in, packages_in}
 use Rattle.choice_tree.specs.declared.key.Key.{Key}
 use Rattle.choice_tree.specs.declared.key.Key.TheVariants.{Own}
@@ -264,3 +265,20 @@ module _ (a : AtomValue) (asker : List (List ℕ)) where
       ap (λ (ks : List ℕ). filter serves (flat_map (λ l. free_line true ss l) ks)) (those ∙ ap (lines_at lists) is)
       ∙ gathered_keyed Own a.name.«package» ss lists are serves (λ l. free_line true ss l) (λ l off.
       none_free (get_or ss l no_place).decided l (get_or ss l no_place).offer (ap (offers_key Own a.name.«package») (offer_in ss l) ∙ off))
+
+-- what decides a wanted atom is found among the lines of its name
+pub decided_keyed : (ss : List Place) (lists : Lists) (a : AtomValue) (name ls : List ℕ) → AreKeyed Own (offers_in ss) lists → name ≡ a.name.«package» → ls ≡ lines_at lists name
+    → list_any (λ l. decides a (get_or ss l no_place)) ls ≡ list_any (decides a) ss
+decided_keyed ss lists a name ls are is those =
+    ap (list_any (λ (l : ℕ). decides a (get_or ss l no_place))) (those ∙ ap (lines_at lists) is)
+    ∙ (any_keyed Own a.name.«package» ss lists are (λ (l : ℕ). decides a (get_or ss l no_place)) (λ l e.
+    subst (λ (o : Offer). offers_key Own a.name.«package» o ≡ true) (offer_in ss l) (by_value (get_or ss l no_place).offer (get_or ss l no_place).decided e))
+    ∙ sym (any_numbered (decides a) ss))
+  where
+    named : (o : Option Package) → is_one (λ p. value_matches a p.facts []) o ≡ true → is_one (has_key Own a.name.«package») o ≡ true
+    named None e = absurd (cc e)
+    named (Some p) e = same_package a p.facts [] e
+
+    by_value : (o : Offer) (d : Option Value) → is_one (λ p. value_matches a p.facts []) (option_and_then (package_of o) d) ≡ true → offers_key Own a.name.«package» o ≡ true
+    by_value o None e = absurd (cc e)
+    by_value o (Some v) e = offered (has_key Own a.name.«package») o v (named (package_of o v) e)

@@ -50,13 +50,27 @@ fn decides(place: &Place<'_>, atom: &Atom, nobody: &Flags) -> bool
     }
 }
 
-/// Whether a decided line has a package that the atom matches.
-pub(crate) fn any_decides(places: &[Place<'_>], atom: &Atom, nobody: &Flags) -> bool
+fn decides_at(places: &[Place<'_>], line: usize, atom: &Atom, nobody: &Flags) -> bool
     requires { nobody.now ≡ [] }
-    ensures { result ≡ list_any (decides (atom_value atom.now)) (places_of places.now) }
+    ensures { result ≡
+        decides (atom_value atom.now) (get_or (places_of places.now) line no_place) }
 {
-    for place in places {
-        if decides(place, atom, nobody) {
+    line < places.len() && decides(&places[line], atom, nobody)
+}
+
+/// Whether one of the lines is decided, and has a package that the atom matches.
+pub(crate) fn any_decides(
+    places: &[Place<'_>],
+    lines: &[usize],
+    atom: &Atom,
+    nobody: &Flags,
+) -> bool
+    requires { nobody.now ≡ [] }
+    ensures { result ≡ list_any
+        (λ l. decides (atom_value atom.now) (get_or (places_of places.now) l no_place)) lines.now }
+{
+    for line in lines {
+        if decides_at(places, *line, atom, nobody) {
             return true;
         }
     }

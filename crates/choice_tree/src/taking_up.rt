@@ -1,9 +1,9 @@
-ghost use Rattle.std.specs.Prelude.{◌≡◌, ◌<◌, IfOk, length, map};
-ghost use Rattle.std.specs.List.{find, flat_map};
+ghost use Rattle.std.specs.Prelude.{◌≡◌, ◌<◌, IfOk, [], length, map};
+ghost use Rattle.std.specs.List.{find, flat_map, list_any};
 ghost use Rattle.std.specs.Option.{option_map};
 ghost use Rattle.dep_atom.specs.Values.{atom_value};
 ghost use Rattle.choice_law.specs.Tree.{absence, conflict, required, tree, wanted};
-ghost use Rattle.choice_tree.specs.Open.{classes, first_open, is_open_of, obligation_of};
+ghost use Rattle.choice_tree.specs.Open.{classes, decides, first_open, is_open_of, obligation_of};
 ghost use Rattle.choice_tree.specs.Open.{obligations};
 ghost use Rattle.choice_tree.specs.Open.{obligations_of, opposes};
 ghost use Rattle.choice_tree.specs.Places.{is_one, numbers, package_in};
@@ -26,14 +26,25 @@ use pkg_state::Class;
 use pms_names::Flags;
 use std::alloc::{AllocError, Global};
 
+/// Whether a decided line has a package that the atom matches.
+fn is_served(around: &Around<'_, '_>, atom: &Atom, nobody: &Flags) -> bool
+    requires { nobody.now ≡ [] }
+    ensures { result ≡
+        list_any (decides (atom_value atom.now)) (places_of around.now.places.now) }
+{
+    let lines = around.lines_named(atom.name.package.text());
+    any_decides(around.places, lines, atom, nobody)
+}
+
 /// The first wanted atom that no decided line serves.
-fn first_wanted<'a>(alloc: Global, atoms: &'a [Atom], places: &[Place<'_>]) -> Option<&'a Atom>
+fn first_wanted<'a>(alloc: Global, atoms: &'a [Atom], around: &Around<'_, '_>) -> Option<&'a Atom>
     ensures { option_map (λ a. atom_value a.now) result ≡
-        find (λ a. is_open_of (places_of places.now) (wanted a)) (map atom_value atoms.now) }
+        find (λ a. is_open_of (places_of around.now.places.now) (wanted a))
+        (map atom_value atoms.now) }
 {
     let nobody = Flags::new(alloc);
     for atom in atoms {
-        if !any_decides(places, atom, &nobody) {
+        if !is_served(around, atom, &nobody) {
             return Some(atom);
         }
     }
@@ -230,7 +241,7 @@ pub(crate) fn first_of_all<'a>(
         find (is_open_of (places_of around.now.places.now))
         (obligations (map atom_value atoms.now) (length around.now.places.now))) }
 {
-    if let Some(atom) = first_wanted(alloc, atoms, around.places) {
+    if let Some(atom) = first_wanted(alloc, atoms, around) {
         return Ok(Some(Obligation::Wanted(atom)));
     }
     if let Some(found) = first_of_packages(around, settled) {

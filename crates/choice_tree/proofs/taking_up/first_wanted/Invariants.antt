@@ -8,4 +8,4 @@ use Rattle.choice_tree.proofs.taking_up.first_wanted.Given as goal
 
 abbrev pub invariant-loop-atom : goal.invariant-loop-atom
 invariant-loop-atom l =
-    find (λ a. is_open_of (places_of l.places) (wanted a)) (map atom_value (drop l.atom-index l.atoms)) ≡ find (λ a. is_open_of (places_of l.places) (wanted a)) (map atom_value l.atoms)
+    find (λ a. is_open_of (places_of l.around.places.now) (wanted a)) (map atom_value (drop l.atom-index l.atoms)) ≡ find (λ a. is_open_of (places_of l.around.places.now) (wanted a)) (map atom_value l.atoms)
