@@ -1,3 +1,4 @@
 pub mod Below
 pub mod Grammar
 pub mod Moments
+pub mod PlainParts

@@ -1,12 +1,9 @@
 -- The texts that are paths, and the first fault of a text that is none.
 use Rattle.std.specs.Prelude.{◌≡◌, ◌==◌, ◌<◌, ◌≤◌, ◌+◌, ◌-◌, ◌&&◌, ◌||◌, ℕ, zero, suc, Bool, true, false, not, nat_lt, nat_le, nat_eq, List, [], ◌∷◌, length, drop, slice_index, take_while, bytes_eq, ⊤}
 use Rattle.std.specs.List.{starts_with}
+use Rattle.file_tree.specs.declared.limits.TheConstants.{MOST_PATH_BYTES}
 use Rattle.file_tree.specs.declared.fault.PathFault.{PathFault}
 use Rattle.file_tree.specs.declared.fault.PathFault.TheVariants.{Empty, BadChar, BadPart, TooLong, Memory}
-
--- the greatest length of a path, in bytes
-abbrev pub most_bytes : ℕ
-most_bytes = 4095
 
 -- the bytes before the first slash
 abbrev pub first_part : List ℕ → List ℕ
@@ -44,7 +41,7 @@ none_below test (suc n) = not (test n) && none_below test n
 -- a path: some bytes and not too many, and at no place of it a bad part or a bad byte
 unfoldable pub is_path : List ℕ → Bool
 is_path bytes = nat_lt 0 (length bytes) &&
-    (nat_le (length bytes) most_bytes && none_below (bad_at bytes) (length bytes + 1))
+    (nat_le (length bytes) MOST_PATH_BYTES && none_below (bad_at bytes) (length bytes + 1))
 
 -- the second path is strictly below the first: it goes on with a slash behind the whole of it
 abbrev pub is_below : List ℕ → List ℕ → Bool
@@ -61,14 +58,14 @@ FaultAt bytes at Memory = ⊥
 -- nothing is bad before this place of a text of a good length
 pub record IsGoodBefore (bytes : List ℕ) (at : ℕ) : Type 0 where
   pub some : 0 < length bytes
-  pub short : length bytes ≤ most_bytes
+  pub short : length bytes ≤ MOST_PATH_BYTES
   pub in_range : at ≤ length bytes
   pub before : (k : ℕ) → k < at → bad_at bytes k ≡ false
 
 -- the first fault of a text, in the order: empty, too long, the first bad place
 abbrev pub FirstFault : List ℕ → PathFault → Type 0
 FirstFault bytes Empty = length bytes ≡ 0
-FirstFault bytes TooLong = most_bytes < length bytes
+FirstFault bytes TooLong = MOST_PATH_BYTES < length bytes
 FirstFault bytes (BadChar at) = IsGoodBefore bytes at × (bad_char_at bytes at ≡ true)
 FirstFault bytes (BadPart at) = IsGoodBefore bytes at × (bad_part_at bytes at ≡ true)
 FirstFault bytes Memory = ⊤

@@ -58,6 +58,15 @@ impl Path {
         }
     }
 
+    /// The path of a text that is known to be one, as that of a fixed place.
+    pub fn of(alloc: Global, text: &str) -> Result<Path, AllocError>
+        requires { is_path text.now ≡ true }
+        ensures { IfOk result (λ p. p ≡ text.now) }
+    {
+        let text = Text::new(alloc, text)?;
+        Ok(Path { text })
+    }
+
     /// Whether the other path is strictly below this one.
     pub fn is_above(&self, other: &Path) -> bool
         ensures { result ≡ is_below self.now other.now }
@@ -96,7 +105,7 @@ fn first_fault(bytes: &[u8]) -> Option<PathFault>
 
 fn first_bad_place(bytes: &[u8]) -> Option<PathFault>
     requires some { 1 ≤ length bytes.now }
-    requires short { length bytes.now ≤ 4095 }
+    requires short { length bytes.now ≤ MOST_PATH_BYTES }
     ensures { MatchOption result (is_path bytes.now ≡ true)
         (λ f. (is_path bytes.now ≡ false) × FirstFault bytes.now f) }
 {

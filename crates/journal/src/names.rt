@@ -5,7 +5,7 @@ ghost use Rattle.journal.specs.Names.{IsPart, Part, digits, gate_path, jobs, nam
 ghost use Rattle.journal.specs.Names.{record_path, stage_path, token_path};
 
 use byteorder::{BigEndian, ByteOrder};
-use file_tree::{Path, PathFault};
+use file_tree::Path;
 use std::alloc::{AllocError, Global};
 
 /// The folder of all groups' journals.
@@ -21,17 +21,6 @@ fn digits_of(alloc: Global, number: u32) -> Result<String, AllocError>
     hex::encode(alloc, bytes)
 }
 
-fn path_of(alloc: Global, text: &str) -> Result<Path, AllocError>
-    requires { is_path text.now ≡ true }
-    ensures { IfOk result (λ p. p ≡ text.now) }
-{
-    match Path::parse(alloc, text) {
-        Ok(path) => Ok(path),
-        Err(PathFault::Memory) => Err(AllocError),
-        Err(_) => unreachable!(),
-    }
-}
-
 #[tactic(auto, unfolding(crate::specs::Names::named, crate::specs::Names::folder))]
 fn named(alloc: Global, group: u32, name: &str) -> Result<Path, AllocError>
     requires { is_path (named group name.now) ≡ true }
@@ -42,7 +31,7 @@ fn named(alloc: Global, group: u32, name: &str) -> Result<Path, AllocError>
     text.push_str(&digits_of(alloc, group)?)?;
     text.push_str("/")?;
     text.push_str(name)?;
-    path_of(alloc, &text)
+    Path::of(alloc, &text)
 }
 
 fn stage_name(alloc: Global, index: u32) -> Result<String, AllocError>
@@ -54,10 +43,11 @@ fn stage_name(alloc: Global, index: u32) -> Result<String, AllocError>
 }
 
 /// The folder of all groups' journals.
+#[tactic(auto, unfolding(file_tree::specs::Paths::is_path))]
 pub fn jobs_folder(alloc: Global) -> Result<Path, AllocError>
     ensures { IfOk result (λ p. p ≡ jobs) }
 {
-    path_of(alloc, JOBS)
+    Path::of(alloc, JOBS)
 }
 
 /// Where a group is open: it holds the one byte 1 then.

@@ -6,7 +6,8 @@ use Rattle.std.specs.Str.{is_utf8}
 use Rattle.std.proofs.lemmas.Bool.{eqb-true, ltb-false, le-ltb, leb-true, and_parts}
 use Rattle.std.proofs.lemmas.List.{append-nil, nil_from_length, take_at, drop_at, take-append-drop, length-append, length-take}
 use Rattle.std.proofs.lemmas.List.Concat.{flat_map-cons}
-use Rattle.file_tree.specs.Paths.{is_path, most_bytes}
+use Rattle.file_tree.specs.Paths.{is_path}
+use Rattle.file_tree.specs.declared.limits.TheConstants.{MOST_PATH_BYTES}
 use Rattle.file_tree.specs.declared.objects.Kind.{Kind}
 use Rattle.file_tree.specs.declared.objects.Kind.TheVariants.{Plain, Exec, Link}
 use Rattle.merge_record.specs.Content.{Content}
@@ -25,7 +26,7 @@ unfolding is_path
 is_path-short path h =
     let p = (and_parts _ _ h).1 in
     let q = (and_parts _ _ (and_parts _ _ p).1).0 in
-    let le : length path ≤ most_bytes = leb-true _ _ q in
+    let le : length path ≤ MOST_PATH_BYTES = leb-true _ _ q in
     omega arith
 
 -- ---- bytes
