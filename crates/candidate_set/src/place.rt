@@ -10,6 +10,9 @@ use file_tree::Path;
 use pms_names::Name;
 use std::alloc::{AllocError, Global};
 
+/// The folder of the cache.
+const CACHE: &str = "var/db/repos/gentoo/metadata/md5-cache";
+
 /// A package whose entry has a path in the cache, with the text of its name.
 #[derive(Drop)]
 pub(crate) struct Place {
@@ -60,11 +63,11 @@ fn name_text(alloc: Global, name: &Name) -> Result<Text, AllocError>
     Ok(Text::from_string(text))
 }
 
-#[tactic(auto, unfolding(crate::specs::Candidates::cache_folder))]
+#[tactic(auto, unfolding(crate::specs::Candidates::cache_folder, file_tree::specs::Paths::is_path))]
 pub(crate) fn folder_path(alloc: Global) -> Result<Path, AllocError>
     ensures { IfOk result (λ p. p ≡ cache_folder) }
 {
-    Path::parse(alloc, "var/db/repos/gentoo/metadata/md5-cache").map_err(|_| AllocError)
+    Path::of(alloc, CACHE)
 }
 
 /// The path of the package's entry.
@@ -74,7 +77,7 @@ pub(crate) fn entry_path(alloc: Global, id: &PackageId) -> Result<Path, AllocErr
 {
     let id = id.print(alloc)?;
     let id = id.as_str();
-    let text = format!(in alloc; "var/db/repos/gentoo/metadata/md5-cache/{id}")?;
+    let text = format!(in alloc; "{CACHE}/{id}")?;
     Path::parse(alloc, text.as_str()).map_err(|_| AllocError)
 }
 

@@ -5,12 +5,13 @@ ghost use Rattle.database_read.specs.Telling.{file_path, folder_path};
 use file_tree::Path;
 use record_read::RecordFile;
 use std::alloc::{AllocError, Global};
+use vdb_text::DATABASE;
 
 /// The path of the folder of this text.
 pub(crate) fn folder_path(alloc: Global, folder: &str) -> Result<Path, AllocError>
     ensures { IfOk result (λ p. p ≡ folder_path folder.now) }
 {
-    let text = format!(in alloc; "var/db/pkg/{folder}")?;
+    let text = format!(in alloc; "{DATABASE}/{folder}")?;
     path_of(alloc, text.as_str())
 }
 
@@ -19,7 +20,7 @@ pub(crate) fn file_path(alloc: Global, folder: &str, file: RecordFile) -> Result
     ensures { IfOk result (λ p. p ≡ file_path folder.now (field_of file)) }
 {
     let name = file.name();
-    let text = format!(in alloc; "var/db/pkg/{folder}/{name}")?;
+    let text = format!(in alloc; "{DATABASE}/{folder}/{name}")?;
     path_of(alloc, text.as_str())
 }
 

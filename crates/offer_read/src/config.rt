@@ -11,7 +11,7 @@ use crate::fault::{OffersFault, fault_of};
 use file_tree::{Path, Tree};
 use profile_read::{ReadFault, read};
 use std::alloc::{AllocError, Global};
-use user_read::{UserConfig, read_user};
+use user_read::{MAKE_PROFILE, UserConfig, read_user};
 
 /// What the profile and the user's files say.
 pub(crate) fn read_config<T: Tree>(alloc: Global, tree: &mut T) -> Result<UserConfig, OffersFault>
@@ -48,8 +48,9 @@ fn read_both<T: Tree>(alloc: Global, tree: &mut T) -> Result<UserConfig, ReadFau
     read_user(alloc, tree, profile)
 }
 
+#[tactic(auto, unfolding(file_tree::specs::Paths::is_path))]
 fn path_of_profile(alloc: Global) -> Result<Path, AllocError>
     ensures { IfOk result (λ p. p ≡ profile_path) }
 {
-    Path::parse(alloc, "etc/portage/make.profile").map_err(|_| AllocError)
+    Path::of(alloc, MAKE_PROFILE)
 }

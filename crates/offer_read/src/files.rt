@@ -7,7 +7,7 @@ use config_vars::FileVars;
 use file_tree::Path;
 use profile_read::DefaultsFile;
 use std::alloc::{AllocError, Global};
-use user_read::UserConfig;
+use user_read::{MAKE_CONF, UserConfig};
 
 /// The files that set variables, in the order in which they are read.
 pub(crate) fn files_of(alloc: Global, config: &UserConfig) -> Result<Vec<FileVars>, AllocError>
@@ -72,8 +72,9 @@ fn copy_of(assignment: &Assignment) -> Result<Assignment, AllocError>
     })
 }
 
+#[tactic(auto, unfolding(file_tree::specs::Paths::is_path))]
 fn path_of_conf(alloc: Global) -> Result<Path, AllocError>
     ensures { IfOk result (λ p. p ≡ make_conf) }
 {
-    Path::parse(alloc, "etc/portage/make.conf").map_err(|_| AllocError)
+    Path::of(alloc, MAKE_CONF)
 }

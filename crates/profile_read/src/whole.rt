@@ -102,10 +102,11 @@ fn read_masks<T: Tree>(alloc: Global, tree: &mut T, profile: &mut Profile) -> Re
     Ok(())
 }
 
+#[tactic(auto, unfolding(file_tree::specs::Paths::is_path))]
 fn path_of_masks(alloc: Global) -> Result<Path, AllocError>
     ensures { IfOk result (λ p. p ≡ repository_masks) }
 {
-    Path::parse(alloc, "var/db/repos/gentoo/profiles/package.mask").map_err(|_| AllocError)
+    Path::of(alloc, "var/db/repos/gentoo/profiles/package.mask")
 }
 
 /// The folders of a profile that were read to their end, and why they aren't all of them.

@@ -24,13 +24,12 @@ use config::told;
 use faults::fault_text;
 use file_tree::Path;
 use profile_read::{ReadFault, read};
-use profile_stack::ProfileFault;
 use std::alloc::{AllocError, Global};
 use std::io;
 use std::process::ExitCode;
 use tree_lines::{number_of, objects_of};
 use tree_mem::MemTree;
-use user_read::{UserConfig, read_user};
+use user_read::{MAKE_PROFILE, UserConfig, read_user};
 
 fn main(rt: HostRuntime) -> ExitCode {
     exit_of(answer_each(&rt, rt.alloc(), answer))
@@ -51,8 +50,9 @@ fn read_config(alloc: Global, tree: &mut MemTree) -> Result<UserConfig, ReadFaul
     read_user(alloc, tree, profile)
 }
 
-fn path_of_profile(alloc: Global) -> Result<Path, ProfileFault> {
-    Path::parse(alloc, "etc/portage/make.profile").map_err(|_| ProfileFault::Memory)
+#[tactic(auto, unfolding(file_tree::specs::Paths::is_path))]
+fn path_of_profile(alloc: Global) -> Result<Path, AllocError> {
+    Path::of(alloc, MAKE_PROFILE)
 }
 
 fn answer_text(alloc: Global, answer: Result<UserConfig, ReadFault>) -> Result<String, AllocError> {

@@ -18,6 +18,7 @@ use file_tree::{Entry, Kind, Object, Path};
 use pkg_state::{Class, Pkg};
 use record_read::{Installed, RecordFile};
 use std::alloc::{AllocError, Global};
+use vdb_text::DATABASE;
 
 /// The files that a folder may have, in byte order of their names.
 const FILES: [RecordFile; 11] = [
@@ -126,6 +127,6 @@ fn path_of(alloc: Global, id: &PackageId, file: RecordFile) -> Result<Path, Allo
 {
     let id = id.print(alloc)?;
     let name = file.name();
-    let text = format!(in alloc; "var/db/pkg/{id}/{name}")?;
+    let text = format!(in alloc; "{DATABASE}/{id}/{name}")?;
     Path::parse(alloc, text.as_str()).map_err(|_| AllocError)
 }

@@ -23,5 +23,6 @@ mod taken;
 mod user_config;
 mod whole;
 
+pub use make_conf::{MAKE_CONF, MAKE_PROFILE};
 pub use user_config::UserConfig;
 pub use whole::read_user;

@@ -1,5 +1,6 @@
-ghost use Rattle.std.specs.Prelude.{◌≡◌, ◌⊎◌, IfErr, IfOk, IsErrOf, IsTrue, OnOk};
+ghost use Rattle.std.specs.Prelude.{◌≡◌, ◌⊎◌, IfErr, IfOk, IsErrOf, IsTrue, OnOk, true};
 ghost use Rattle.file_tree.specs.Disk.{CountsFault};
+ghost use Rattle.file_tree.specs.Paths.{is_path};
 ghost use Rattle.profile_stack.specs.declared.fault.ProfileFault.TheVariants.{Failed};
 ghost use Rattle.profile_read.specs.Faults.{IsMachine};
 ghost use Rattle.profile_read.specs.declared.fault.ReadFault.TheVariants.{Profile as ProfileFaults};
@@ -94,11 +95,13 @@ fn count_lines(config: &mut UserConfig, file: UserFile, lines: Vec<Entry>) -> Re
 fn path_of(alloc: Global, file: UserFile) -> Result<Path, AllocError>
     ensures { IfOk result (λ p. p ≡ path_of file) }
 {
-    Path::parse(alloc, path_text(file)).map_err(|_| AllocError)
+    Path::of(alloc, path_text(file))
 }
 
+#[tactic(auto, unfolding(file_tree::specs::Paths::is_path))]
 fn path_text(file: UserFile) -> &'static str
-    ensures { result.now ≡ path_of file }
+    ensures text { result.now ≡ path_of file }
+    ensures form { is_path result.now ≡ true }
 {
     match file {
         UserFile::Uses => "etc/portage/package.use",

@@ -9,6 +9,12 @@ use file_tree::{Path, Tree};
 use profile_stack::{ProfileFault, read_text};
 use std::alloc::{AllocError, Global};
 
+/// The link to the profile that the user chose.
+pub const MAKE_PROFILE: &str = "etc/portage/make.profile";
+
+/// The user's `make.conf`.
+pub const MAKE_CONF: &str = "etc/portage/make.conf";
+
 /// What the user's `make.conf` sets, where these variables are known. A missing file sets none.
 pub(crate) fn read_conf<T: Tree>(
     alloc: Global,
@@ -31,10 +37,11 @@ pub(crate) fn read_conf<T: Tree>(
     }
 }
 
+#[tactic(auto, unfolding(file_tree::specs::Paths::is_path))]
 fn path_of_conf(alloc: Global) -> Result<Path, AllocError>
     ensures { IfOk result (λ p. p ≡ make_conf) }
 {
-    Path::parse(alloc, "etc/portage/make.conf").map_err(|_| AllocError)
+    Path::of(alloc, MAKE_CONF)
 }
 
 /// What the fault of the file's text is called.

@@ -10,22 +10,18 @@ use file_tree::{Entry, Kind, Object, Path};
 use slot_value::print_slots;
 use std::alloc::{AllocError, Global};
 
+/// The folder of the installed packages.
+pub const DATABASE: &str = "var/db/pkg";
+
 /// The text of EAPI.
 const EAPI_TEXT: &str = "8\n";
 
-/// The folder of the installed packages.
-#[tactic(auto, unfolding(crate::specs::Files::database_path))]
+/// The path of the folder of the installed packages.
+#[tactic(auto, unfolding(crate::specs::Files::database_path, file_tree::specs::Paths::is_path))]
 pub fn path_of_database(alloc: Global) -> Result<Path, AllocError>
     ensures { IfOk result (λ p. p ≡ database_path) }
 {
-    path_of(alloc, "var/db/pkg")
-}
-
-/// The path that a text spells.
-fn path_of(alloc: Global, text: &str) -> Result<Path, AllocError>
-    ensures { IfOk result (λ p. p ≡ text.now) }
-{
-    Path::parse(alloc, text).map_err(|_| AllocError)
+    Path::of(alloc, DATABASE)
 }
 
 /// The path of a file of the package's record.
@@ -34,8 +30,8 @@ fn path_of_record(alloc: Global, id: &PackageId, name: &str) -> Result<Path, All
     ensures { IfOk result (λ p. p ≡ record_path id.now name.now) }
 {
     let id = id.print(alloc)?;
-    let text = format!(in alloc; "var/db/pkg/{id}/{name}")?;
-    path_of(alloc, text.as_str())
+    let text = format!(in alloc; "{DATABASE}/{id}/{name}")?;
+    Path::parse(alloc, text.as_str()).map_err(|_| AllocError)
 }
 
 fn record_file(

@@ -19,5 +19,5 @@ mod files;
 mod laws;
 mod written;
 
-pub use files::{path_of_database, record_files};
+pub use files::{DATABASE, path_of_database, record_files};
 pub use laws::files_apart;
