@@ -2,6 +2,7 @@
 
 use candidate_set::{Candidates, Reason};
 use dep_atom::PackageId;
+use file_tree::TreeFault;
 use profile_read::ReadFault;
 use profile_stack::ProfileFault;
 use std::alloc::{AllocError, Global};
@@ -40,8 +41,10 @@ fn word_of(reason: Reason) -> &'static str {
 /// The word for what keeps the configuration from being read.
 pub(crate) fn fault_text(alloc: Global, fault: &ReadFault) -> Result<String, AllocError> {
     match fault {
-        ReadFault::Profile(ProfileFault::Failed) => String::from_str(alloc, "failed"),
-        ReadFault::Profile(ProfileFault::Memory) => Err(AllocError),
+        ReadFault::Profile(ProfileFault::Tree(TreeFault::Failed)) => {
+            String::from_str(alloc, "failed")
+        }
+        ReadFault::Profile(ProfileFault::Tree(TreeFault::Memory)) => Err(AllocError),
         _ => String::from_str(alloc, "config"),
     }
 }

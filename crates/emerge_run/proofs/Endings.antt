@@ -13,6 +13,7 @@ use Rattle.merge_core.specs.Trail.{IsAtRest}
 use Rattle.journal.specs.Names.{jobs}
 use Rattle.journal.specs.Recovered.{IsRecovered}
 use Rattle.recovery.specs.Promise.{IsFaultOf}
+use Rattle.file_tree.specs.declared.fault.TreeFault.TheVariants as trees
 use Rattle.recovery.specs.declared.fault.RecoverFault.{RecoverFault}
 use Rattle.recovery.specs.declared.fault.RecoverFault.TheVariants as recovery
 use Rattle.group_run.specs.Applied.{LeavesWith, ReadsWith, RecoversWith}
@@ -72,29 +73,29 @@ recovery_asks : (words : List (List ℕ)) (opening : Map) (f : RecoverFault) →
 recovery_asks words opening (recovery.BadRecord g) command is = (command, is)
 recovery_asks words opening (recovery.BadStage g i) command is = (command, is)
 recovery_asks words opening recovery.Limit command is = inl (command, is)
-recovery_asks words opening recovery.Failed command is = tt
-recovery_asks words opening recovery.Memory command is = tt
+recovery_asks words opening (recovery.Tree trees.Failed) command is = tt
+recovery_asks words opening (recovery.Tree trees.Memory) command is = tt
 
 pub early_recovery : (f : RecoverFault) → IsEarly (status_of_recovery f)
 early_recovery (recovery.BadRecord g) = tt
 early_recovery (recovery.BadStage g i) = tt
 early_recovery recovery.Limit = tt
-early_recovery recovery.Failed = tt
-early_recovery recovery.Memory = tt
+early_recovery (recovery.Tree trees.Failed) = tt
+early_recovery (recovery.Tree trees.Memory) = tt
 
 recovery_not_of_tree : (f : RecoverFault) → IsOfTree (status_of_recovery f) → ⊥
 recovery_not_of_tree (recovery.BadRecord g) of = of
 recovery_not_of_tree (recovery.BadStage g i) of = of
 recovery_not_of_tree recovery.Limit of = of
-recovery_not_of_tree recovery.Failed of = of
-recovery_not_of_tree recovery.Memory of = of
+recovery_not_of_tree (recovery.Tree trees.Failed) of = of
+recovery_not_of_tree (recovery.Tree trees.Memory) of = of
 
 pub recovery_not_of_words : (f : RecoverFault) → IsOfWords (status_of_recovery f) → ⊥
 recovery_not_of_words (recovery.BadRecord g) of = of
 recovery_not_of_words (recovery.BadStage g i) of = of
 recovery_not_of_words recovery.Limit of = of
-recovery_not_of_words recovery.Failed of = of
-recovery_not_of_words recovery.Memory of = of
+recovery_not_of_words (recovery.Tree trees.Failed) of = of
+recovery_not_of_words (recovery.Tree trees.Memory) of = of
 
 pub usage_recovery : (r : RecoverFault) (f : WordFault) → status_of_recovery r ≡ status.Usage f → ⊥
 usage_recovery r f is = recovery_not_of_words r (subst IsOfWords (sym is) tt)

@@ -14,6 +14,7 @@ use Rattle.plan_find.specs.declared.asked.Asked.{Asked}
 use Rattle.plan_find.specs.declared.ends.NoPlan.{NoPlan}
 use Rattle.plan_find.specs.declared.ends.NoPlan.TheVariants as ends
 use Rattle.plan_find.specs.declared.found.Found.{Found}
+use Rattle.file_tree.specs.declared.fault.TreeFault.TheVariants as trees
 use Rattle.recovery.specs.declared.fault.RecoverFault.{RecoverFault}
 use Rattle.recovery.specs.declared.fault.RecoverFault.TheVariants as recovery
 use Rattle.emerge_run.specs.Openings.{AreInstalled, AreInstalledAfter, GivesBack, HasRead, HasTooMuchAfter}
@@ -39,15 +40,15 @@ pub recovery_not_read : (f : RecoverFault) → HasRead (status_of_recovery f) �
 recovery_not_read (recovery.BadRecord g) of = of
 recovery_not_read (recovery.BadStage g i) of = of
 recovery_not_read recovery.Limit of = of
-recovery_not_read recovery.Failed of = of
-recovery_not_read recovery.Memory of = of
+recovery_not_read (recovery.Tree trees.Failed) of = of
+recovery_not_read (recovery.Tree trees.Memory) of = of
 
 pub recovery_no_paths : (f : RecoverFault) → status_of_recovery f ≡ status.Limit Paths → ⊥
 recovery_no_paths (recovery.BadRecord g) e = cc e
 recovery_no_paths (recovery.BadStage g i) e = cc e
 recovery_no_paths recovery.Limit e = cc e
-recovery_no_paths recovery.Failed e = cc e
-recovery_no_paths recovery.Memory e = cc e
+recovery_no_paths (recovery.Tree trees.Failed) e = cc e
+recovery_no_paths (recovery.Tree trees.Memory) e = cc e
 
 module _ (Such : List Installed → Type 0) (TooMuch : Quantity → Type 0) where
   pub gives_all : (s : Status) (ps : List Installed) → Such ps → GivesBack Such TooMuch s ps

@@ -32,9 +32,11 @@ impl From<AllocError> for PathFault {
 pub struct Failed;
 
 /// Why a call of a tree that takes memory has no answer.
-#[derive(Clone, Copy, Debug, PartialEq, Eq)]
+#[derive(Clone, Copy, Debug, PartialEq, Eq, Error)]
 pub enum TreeFault {
+    #[error("the device failed")]
     Failed,
+    #[error("out of memory")]
     Memory,
 }
 

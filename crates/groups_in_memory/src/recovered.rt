@@ -2,6 +2,7 @@
 
 use crate::opened::{stop_behind, unrecovered};
 use crate::told::push_tree;
+use file_tree::TreeFault;
 use recovery::{RecoverFault, recover};
 use std::alloc::{AllocError, Global};
 use std::io;
@@ -25,8 +26,8 @@ fn ended(alloc: Global, tree: &mut MemTree) -> Result<String, AllocError> {
             format!(in alloc; "stage {index} of {group}")
         }
         Err(RecoverFault::Limit) => String::from_str(alloc, "limit"),
-        Err(RecoverFault::Failed) => String::from_str(alloc, "failed"),
-        Err(RecoverFault::Memory) => Err(AllocError),
+        Err(RecoverFault::Tree(TreeFault::Failed)) => String::from_str(alloc, "failed"),
+        Err(RecoverFault::Tree(TreeFault::Memory)) => Err(AllocError),
     }
 }
 

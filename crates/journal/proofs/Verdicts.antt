@@ -24,8 +24,7 @@ one_on true rest e h = refl
 one_on false rest e h = absurd cc
 
 one_stops : (b : Bool) (rest : Result (Unit {0}) JudgeFault) (e f : JudgeFault) → Misses f (cond b fine (Err e)) → Misses f (cond b rest (Err e))
-one_stops b rest e faults.Failed h = tt
-one_stops b rest e faults.Memory h = tt
+one_stops b rest e (faults.Tree of) h = tt
 one_stops true rest e (faults.BadRecord g) h = absurd cc
 one_stops true rest e (faults.BadStage g i) h = absurd cc
 one_stops false rest e (faults.BadRecord g) h = h
@@ -69,8 +68,7 @@ paths_pass taken g r same h = rw (eq-eqb r.group g same, h) refl
 -- ---- one group
 
 pub misses_bind : {A B : Type 0} (e : JudgeFault) (r : Result A JudgeFault) (f : A → Result B JudgeFault) → Misses e r → Misses e (r >>= f)
-misses_bind faults.Failed r f h = tt
-misses_bind faults.Memory r f h = tt
+misses_bind (faults.Tree of) r f h = tt
 misses_bind (faults.BadRecord g) r f h = rw h refl
 misses_bind (faults.BadStage g i) r f h = rw h refl
 

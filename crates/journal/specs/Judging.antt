@@ -5,8 +5,6 @@ use Rattle.basics.specs.Members.{AreDistinct, Has}
 use Rattle.file_tree.specs.Disk.{Map}
 use Rattle.file_tree.specs.Paths.{is_below}
 use Rattle.file_tree.specs.Thing.{Thing}
-use Rattle.file_tree.specs.declared.fault.TreeFault.{TreeFault}
-use Rattle.file_tree.specs.declared.fault.TreeFault.TheVariants as tree_faults
 use Rattle.md5.specs.Md5.{md5}
 use Rattle.merge_record.specs.Content.{Content}
 use Rattle.journal.specs.Names.{jobs, record_path, stage_path}
@@ -107,19 +105,13 @@ AreApplicable rs = (r : Content) → Has rs r →
 
 -- what a call answered, seen by view, is the verdict, unless the device failed or memory ran out
 abbrev pub Misses : {Y : Type 0} → JudgeFault → Result Y JudgeFault → Type 0
-Misses faults.Failed verdict = ⊤
-Misses faults.Memory verdict = ⊤
+Misses (faults.Tree of) verdict = ⊤
 Misses (faults.BadRecord g) verdict = verdict ≡ Err (faults.BadRecord g)
 Misses (faults.BadStage g i) verdict = verdict ≡ Err (faults.BadStage g i)
 
 abbrev pub Agrees : {X Y : Type 0} → (X → Y) → Result X JudgeFault → Result Y JudgeFault → Type 0
 Agrees view (Ok x) verdict = verdict ≡ Ok (view x)
 Agrees view (Err e) verdict = Misses e verdict
-
--- a fault of the tree as a fault of the judge
-abbrev pub IsPassedOn : TreeFault → JudgeFault → Type 0
-IsPassedOn tree_faults.Failed e = e ≡ faults.Failed
-IsPassedOn tree_faults.Memory e = e ≡ faults.Memory
 
 -- an object as a placement tells it
 pub record IsStaged (x : Option Thing) (p : Placement) : Type 0 where

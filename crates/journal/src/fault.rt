@@ -10,43 +10,41 @@ pub enum JudgeFault {
     BadRecord { group: u32 },
     #[error("stage {index} of group {group} is bad")]
     BadStage { group: u32, index: u32 },
-    #[error("the device failed")]
-    Failed,
-    #[error("out of memory")]
-    Memory,
+    #[error(transparent)]
+    Tree(TreeFault),
 }
 
 impl From<AllocError> for JudgeFault {
     ghost use Rattle.std.specs.Prelude.{◌≡◌};
+    ghost use Rattle.file_tree.specs.declared.fault.TreeFault.TheVariants as trees;
     ghost use Rattle.journal.specs.declared.fault.JudgeFault.TheVariants as faults;
 
-    ghost from_gives = { λ _ e. e ≡ faults.Memory };
+    ghost from_gives = { λ _ e. e ≡ faults.Tree trees.Memory };
 
     fn from(_: AllocError) -> JudgeFault {
-        JudgeFault::Memory
+        JudgeFault::Tree(TreeFault::Memory)
     }
 }
 
 impl<T: Drop> From<AllocFailed<T>> for JudgeFault {
     ghost use Rattle.std.specs.Prelude.{◌≡◌};
+    ghost use Rattle.file_tree.specs.declared.fault.TreeFault.TheVariants as trees;
     ghost use Rattle.journal.specs.declared.fault.JudgeFault.TheVariants as faults;
 
-    ghost from_gives = { λ _ e. e ≡ faults.Memory };
+    ghost from_gives = { λ _ e. e ≡ faults.Tree trees.Memory };
 
     fn from(_: AllocFailed<T>) -> JudgeFault {
-        JudgeFault::Memory
+        JudgeFault::Tree(TreeFault::Memory)
     }
 }
 
 impl From<TreeFault> for JudgeFault {
-    ghost use Rattle.journal.specs.Judging.{IsPassedOn};
+    ghost use Rattle.std.specs.Prelude.{◌≡◌};
+    ghost use Rattle.journal.specs.declared.fault.JudgeFault.TheVariants as faults;
 
-    ghost from_gives = { IsPassedOn };
+    ghost from_gives = { λ f e. e ≡ faults.Tree f };
 
     fn from(fault: TreeFault) -> JudgeFault {
-        match fault {
-            TreeFault::Failed => JudgeFault::Failed,
-            TreeFault::Memory => JudgeFault::Memory,
-        }
+        JudgeFault::Tree(fault)
     }
 }

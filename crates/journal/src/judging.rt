@@ -11,19 +11,19 @@ ghost use Rattle.merge_record.specs.Reading.{record_of};
 use crate::fault::JudgeFault;
 use crate::names::{jobs_folder, record_path, stage_path};
 use crate::taken::TakenPaths;
-use file_tree::{Object, Path, Tree};
+use file_tree::{Object, Path, Tree, TreeFault};
 use merge_record::{Placement, Record, RecordFault, byte_of, decode, digest_of};
 use std::alloc::{AllocError, Global};
 
 #[tactic(auto, unfolding(crate::specs::Judging::record_read))]
 fn record_from(alloc: Global, group: u32, bytes: &[u8]) -> Result<Record, JudgeFault>
     ensures answer { Agrees (λ r. r) result (record_read group (record_of bytes.now)) }
-    ensures device { ¬ IsErrOf result JudgeFault.Failed }
+    ensures device { ¬ IsErrOf result (JudgeFault.Tree TreeFault.Failed) }
     ensures few { IfOk result (λ r. length r.placements < 2 ^ 32) }
 {
     match decode(alloc, bytes) {
         Ok(value) => Ok(value),
-        Err(RecordFault::Memory) => Err(JudgeFault::Memory),
+        Err(RecordFault::Memory) => Err(JudgeFault::Tree(TreeFault::Memory)),
         Err(_) => Err(JudgeFault::BadRecord { group }),
     }
 }
@@ -35,8 +35,8 @@ fn read_record<T: Tree>(alloc: Global, tree: &mut T, group: u32) -> Result<Recor
         (record_read group (record_in ((T.story tree.old).now.holds (record_path group)))) }
     ensures few { IfOk result (λ r. length r.placements < 2 ^ 32) }
     ensures same { IsTrue T.tells → T.story tree.new ≡ T.story tree.old }
-    ensures faults { CountsFault (IsErrOf result JudgeFault.Failed) (T.faults tree.old)
-        (T.faults tree.new) }
+    ensures faults { CountsFault (IsErrOf result (JudgeFault.Tree TreeFault.Failed))
+        (T.faults tree.old) (T.faults tree.new) }
 {
     let path = record_path(alloc, group)?;
     match tree.read(&path)? {
@@ -107,7 +107,7 @@ fn take_footprint(
     taken: &mut TakenPaths,
 ) -> Result<(), JudgeFault>
     ensures answer { Agrees (λ _. tt) result (paths_judged taken.old group value.now) }
-    ensures device { ¬ IsErrOf result JudgeFault.Failed }
+    ensures device { ¬ IsErrOf result (JudgeFault.Tree TreeFault.Failed) }
     ensures taken { OnOk result (HasSame taken.new (footprint value.now ++ taken.old)) }
 {
     if value.group != group {
@@ -143,8 +143,8 @@ fn judge_stage<T: Tree>(
     ensures answer { IsTrue T.tells → Agrees (λ _. tt) result
         (stages_judged (T.story tree.old).now.holds group index (placement.now ∷ [])) }
     ensures same { IsTrue T.tells → T.story tree.new ≡ T.story tree.old }
-    ensures faults { CountsFault (IsErrOf result JudgeFault.Failed) (T.faults tree.old)
-        (T.faults tree.new) }
+    ensures faults { CountsFault (IsErrOf result (JudgeFault.Tree TreeFault.Failed))
+        (T.faults tree.old) (T.faults tree.new) }
 {
     let path = stage_path(alloc, group, index)?;
     match tree.read(&path)? {
@@ -163,8 +163,8 @@ fn judge_stages<T: Tree>(
     ensures answer { IsTrue T.tells → Agrees (λ _. tt) result
         (stages_judged (T.story tree.old).now.holds group 0 placements.now) }
     ensures same { IsTrue T.tells → T.story tree.new ≡ T.story tree.old }
-    ensures faults { CountsFault (IsErrOf result JudgeFault.Failed) (T.faults tree.old)
-        (T.faults tree.new) }
+    ensures faults { CountsFault (IsErrOf result (JudgeFault.Tree TreeFault.Failed))
+        (T.faults tree.old) (T.faults tree.new) }
 {
     for index in 0..placements.len() {
         judge_stage(alloc, tree, group, index as u32, &placements[index])?;
@@ -186,8 +186,8 @@ pub fn judge<T: Tree>(
     ensures free { IfOk result (λ r. are_free taken.old (footprint r) ≡ true) }
     ensures few { IfOk result (λ r. length r.placements < 2 ^ 32) }
     ensures same { IsTrue T.tells → T.story tree.new ≡ T.story tree.old }
-    ensures faults { CountsFault (IsErrOf result JudgeFault.Failed) (T.faults tree.old)
-        (T.faults tree.new) }
+    ensures faults { CountsFault (IsErrOf result (JudgeFault.Tree TreeFault.Failed))
+        (T.faults tree.old) (T.faults tree.new) }
 {
     let value = read_record(alloc, tree, group)?;
     take_footprint(alloc, group, &value, taken)?;
@@ -205,8 +205,8 @@ pub fn judge_all<T: Tree>(
         (judged_all (T.story tree.old).now.holds [] groups.now) }
     ensures applicable { IfOk result (λ v. AreApplicable v.items) }
     ensures same { IsTrue T.tells → T.story tree.new ≡ T.story tree.old }
-    ensures faults { CountsFault (IsErrOf result JudgeFault.Failed) (T.faults tree.old)
-        (T.faults tree.new) }
+    ensures faults { CountsFault (IsErrOf result (JudgeFault.Tree TreeFault.Failed))
+        (T.faults tree.old) (T.faults tree.new) }
 {
     let mut taken = TakenPaths::new(alloc);
     let mut records = Vec::new(alloc);

@@ -18,24 +18,23 @@ use Rattle.offer_read.specs.Offers.{AreJudged, most_candidates}
 use Rattle.offer_read.specs.declared.fault.OffersFault.{OffersFault}
 use Rattle.offer_read.specs.declared.fault.OffersFault.TheVariants.{Failed, Limit, Memory, Text}
 
+-- what a fault of a tree is called
+abbrev pub fault_of_tree : TreeFault → OffersFault
+fault_of_tree trees.Failed = Failed
+fault_of_tree trees.Memory = Memory
+
 -- what a fault of the profile is called; a missing folder has no line
 abbrev pub fault_of_profile : ProfileFault → OffersFault
 fault_of_profile (profiles.Missing path) = Text path 0
 fault_of_profile (profiles.Loop path line) = Text path line
 fault_of_profile (profiles.Deep path line) = Text path line
 fault_of_profile (profiles.Text path line) = Text path line
-fault_of_profile profiles.Failed = Failed
-fault_of_profile profiles.Memory = Memory
+fault_of_profile (profiles.Tree fault) = fault_of_tree fault
 
 -- what a fault of the profile or of the user's files is called
 abbrev pub fault_of : ReadFault → OffersFault
 fault_of (reads.Profile fault) = fault_of_profile fault
 fault_of (reads.Atom path line) = Text path line
-
--- what a fault of a tree is called
-abbrev pub fault_of_tree : TreeFault → OffersFault
-fault_of_tree trees.Failed = Failed
-fault_of_tree trees.Memory = Memory
 
 -- what a fault of a variable's value is called
 abbrev pub fault_of_value : VarFault → OffersFault

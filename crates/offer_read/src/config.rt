@@ -1,8 +1,6 @@
 ghost use Rattle.std.specs.Prelude.{◌≡◌, ◌⊎◌, IfErr, IfOk, IsErrOf, IsTrue};
 ghost use Rattle.file_tree.specs.Disk.{CountsFault};
-ghost use Rattle.profile_read.specs.Faults.{IsMachine};
-ghost use Rattle.profile_read.specs.declared.fault.ReadFault.TheVariants.{Profile as ProfileFaults};
-ghost use Rattle.profile_stack.specs.declared.fault.ProfileFault.TheVariants.{Failed};
+ghost use Rattle.profile_read.specs.Faults.{IsMachine, device_failed};
 ghost use Rattle.user_read.specs.Files.{Config, configured};
 ghost use Rattle.offer_read.specs.Configured.{IsRead, MissRead, profile_path};
 ghost use Rattle.offer_read.specs.Faults.{IsOfMachine, IsUnread};
@@ -40,7 +38,7 @@ fn read_both<T: Tree>(alloc: Global, tree: &mut T) -> Result<UserConfig, ReadFau
     ensures fault { IsTrue T.tells → IfErr result
         (λ e. IsMachine e ⊎ MissRead (T.story tree.old).now.holds e) }
     ensures same { IsTrue T.tells → T.story tree.new ≡ T.story tree.old }
-    ensures faults { CountsFault (IsErrOf result (ProfileFaults Failed)) (T.faults tree.old)
+    ensures faults { CountsFault (IsErrOf result device_failed) (T.faults tree.old)
         (T.faults tree.new) }
 {
     let path = path_of_profile(alloc)?;

@@ -67,8 +67,7 @@ fn fault_of_profile(fault: ProfileFault) -> OffersFault
         ProfileFault::Loop { path, line } => OffersFault::Text { path, line },
         ProfileFault::Deep { path, line } => OffersFault::Text { path, line },
         ProfileFault::Text { path, line } => OffersFault::Text { path, line },
-        ProfileFault::Failed => OffersFault::Failed,
-        ProfileFault::Memory => OffersFault::Memory,
+        ProfileFault::Tree(fault) => OffersFault::from(fault),
     }
 }
 

@@ -1,15 +1,13 @@
 -- A line that says something has no fault.
 use Rattle.std.proofs.Common.{◌≡◌, ◌∙◌, ◌<◌, ◌++◌, ◌+◌, ℕ, List, [], ◌∷◌, arith, drop, get_or, inl, inr, length, subst, sym, take}
 use Rattle.dep_group.specs.Words.{words_of}
-use Rattle.profile_stack.specs.declared.fault.ProfileFault.TheVariants as stacks
 use Rattle.profile_stack.specs.declared.line_file.FileLine.{FileLine}
 use Rattle.profile_stack.proofs.Followed.{split_at}
-use Rattle.profile_read.specs.Faults.{ChangesNothing, FirstBad, IsBadBy, NamesNothing, fault_at}
+use Rattle.profile_read.specs.Faults.{ChangesNothing, FirstBad, IsBadBy, NamesNothing, device_failed, fault_at}
 use Rattle.profile_read.specs.Items.{AreEntries, IsEntry, IsRule, NamesPackages, Says}
 use Rattle.profile_read.specs.declared.fault.LineFault.{LineFault}
 use Rattle.profile_read.specs.declared.fault.LineFault.TheVariants.{Memory, NoAtom, NoChange}
 use Rattle.profile_read.specs.declared.fault.ReadFault.{ReadFault}
-use Rattle.profile_read.specs.declared.fault.ReadFault.TheVariants.{Profile}
 use Rattle.profile_read.specs.declared.item.Entry.{Entry}
 use Rattle.profile_read.specs.declared.item.Form.{Form}
 use Rattle.profile_read.specs.declared.item.Form.TheVariants.{Flags, Keywords, Masks, Rules}
@@ -66,10 +64,10 @@ first_bad form lines i line good lt at each why has fault told = record {
 }
 
 -- a line is never told as a fault of the device
-pub no_failure : (form : Form) (lines : List FileLine) (fault : ReadFault) → FirstBad form lines fault → ¬ (fault ≡ Profile stacks.Failed)
+pub no_failure : (form : Form) (lines : List FileLine) (fault : ReadFault) → FirstBad form lines fault → ¬ (fault ≡ device_failed)
 no_failure form lines fault first is = by_why first.bad first.why (sym first.told ∙ is)
   where
-    by_why : (line : FileLine) (why : LineFault) → fault_at line why ≡ Profile stacks.Failed → ⊥
+    by_why : (line : FileLine) (why : LineFault) → fault_at line why ≡ device_failed → ⊥
     by_why line NoAtom e = absurd (cc e)
     by_why line NoChange e = absurd (cc e)
     by_why line Memory e = absurd (cc e)

@@ -3,6 +3,7 @@ use Rattle.std.specs.Prelude.{◌≡◌, ◌⊎◌, ◌<◌, ◌++◌, ℕ, List
 use Rattle.std.specs.List.{AllByRecursion}
 use Rattle.dep_atom.specs.declared.atom.Atom.{Atom}
 use Rattle.dep_group.specs.Words.{words_of}
+use Rattle.file_tree.specs.declared.fault.TreeFault.TheVariants as trees
 use Rattle.profile_stack.specs.Machine.{IsOfMachine}
 use Rattle.profile_stack.specs.Stacks.{unsigned}
 use Rattle.profile_stack.specs.declared.fault.ProfileFault.{ProfileFault}
@@ -39,11 +40,19 @@ IsBadBy forms.Flags ws NoChange = ¬ AllByRecursion IsChange ws
 IsBadBy forms.Keywords ws NoAtom = NamesNothing ws
 IsBadBy form ws fault = ⊥
 
+-- memory ran out
+abbrev pub out_of_memory : ReadFault
+out_of_memory = Profile (stacks.Tree trees.Memory)
+
+-- the tree's device failed
+abbrev pub device_failed : ReadFault
+device_failed = Profile (stacks.Tree trees.Failed)
+
 -- what the fault of a line is called
 abbrev pub fault_at : FileLine → LineFault → ReadFault
 fault_at line NoAtom = AtomAt line.file line.number
 fault_at line NoChange = Profile (stacks.Text line.file line.number)
-fault_at line Memory = Profile stacks.Memory
+fault_at line Memory = out_of_memory
 
 -- the first line that isn't in form is told, by its file and number
 pub record FirstBad (form : Form) (lines : List FileLine) (fault : ReadFault) : Type 0 where
@@ -56,10 +65,6 @@ pub record FirstBad (form : Form) (lines : List FileLine) (fault : ReadFault) : 
   pub why : LineFault
   pub has : IsBadBy form (words_of bad.text) why
   pub told : fault ≡ fault_at bad why
-
--- memory ran out
-abbrev pub out_of_memory : ReadFault
-out_of_memory = Profile stacks.Memory
 
 -- the machine failed, whatever the tree holds
 abbrev pub IsMachine : ReadFault → Type 0

@@ -51,6 +51,6 @@ fn located(line: &FileLine, fault: LineFault) -> Result<ReadFault, AllocError>
             path: line.file.try_clone()?,
             line: line.number,
         })),
-        LineFault::Memory => Ok(ReadFault::Profile(ProfileFault::Memory)),
+        LineFault::Memory => Err(AllocError),
     }
 }

@@ -1,4 +1,4 @@
-use file_tree::Path;
+use file_tree::{Path, TreeFault};
 use profile_stack::ProfileFault;
 use std::alloc::{AllocError, AllocFailed};
 use thiserror::Error;
@@ -29,25 +29,23 @@ impl From<ProfileFault> for ReadFault {
 
 impl From<AllocError> for ReadFault {
     ghost use Rattle.std.specs.Prelude.{◌≡◌};
-    ghost use Rattle.profile_stack.specs.declared.fault.ProfileFault.TheVariants as stacks;
-    ghost use Rattle.profile_read.specs.declared.fault.ReadFault.TheVariants as faults;
+    ghost use Rattle.profile_read.specs.Faults.{out_of_memory};
 
-    ghost from_gives = { λ _ e. e ≡ faults.Profile stacks.Memory };
+    ghost from_gives = { λ _ e. e ≡ out_of_memory };
 
     fn from(_: AllocError) -> ReadFault {
-        ReadFault::Profile(ProfileFault::Memory)
+        ReadFault::Profile(ProfileFault::Tree(TreeFault::Memory))
     }
 }
 
 impl<T: Drop> From<AllocFailed<T>> for ReadFault {
     ghost use Rattle.std.specs.Prelude.{◌≡◌};
-    ghost use Rattle.profile_stack.specs.declared.fault.ProfileFault.TheVariants as stacks;
-    ghost use Rattle.profile_read.specs.declared.fault.ReadFault.TheVariants as faults;
+    ghost use Rattle.profile_read.specs.Faults.{out_of_memory};
 
-    ghost from_gives = { λ _ e. e ≡ faults.Profile stacks.Memory };
+    ghost from_gives = { λ _ e. e ≡ out_of_memory };
 
     fn from(_: AllocFailed<T>) -> ReadFault {
-        ReadFault::Profile(ProfileFault::Memory)
+        ReadFault::Profile(ProfileFault::Tree(TreeFault::Memory))
     }
 }
 

@@ -1,10 +1,8 @@
 ghost use Rattle.std.specs.Prelude.{◌≡◌, ◌⊎◌, IfErr, IfOk, IsErrOf, IsTrue, OnOk, Some};
 ghost use Rattle.file_tree.specs.Disk.{CountsFault};
-ghost use Rattle.profile_stack.specs.declared.fault.ProfileFault.TheVariants.{Failed};
-ghost use Rattle.profile_read.specs.Faults.{IsMachine};
+ghost use Rattle.profile_read.specs.Faults.{IsMachine, device_failed};
 ghost use Rattle.profile_read.specs.Files.{MissTells, Tells, content, counted, file_name, form_of};
 ghost use Rattle.profile_read.specs.Files.{line_files, path_in};
-ghost use Rattle.profile_read.specs.declared.fault.ReadFault.TheVariants.{Profile as ProfileFaults};
 
 use crate::entries::read_entries;
 use crate::fault::ReadFault;
@@ -54,7 +52,7 @@ pub(crate) fn read_file<T: Tree>(
     ensures fault { IsTrue T.tells → IfErr result (λ e. IsMachine e ⊎
         MissTells (T.story tree.old).now.holds (form_of file) (path_in folder.now file) e) }
     ensures same { IsTrue T.tells → T.story tree.new ≡ T.story tree.old }
-    ensures faults { CountsFault (IsErrOf result (ProfileFaults Failed)) (T.faults tree.old)
+    ensures faults { CountsFault (IsErrOf result device_failed) (T.faults tree.old)
         (T.faults tree.new) }
 {
     match file_in(alloc, folder, file_name(file))? {
@@ -75,7 +73,7 @@ pub fn read_line_file<T: Tree>(
     ensures fault { IsTrue T.tells → IfErr result (λ e. IsMachine e ⊎
         MissTells (T.story tree.old).now.holds form (Some path.now) e) }
     ensures same { IsTrue T.tells → T.story tree.new ≡ T.story tree.old }
-    ensures faults { CountsFault (IsErrOf result (ProfileFaults Failed)) (T.faults tree.old)
+    ensures faults { CountsFault (IsErrOf result device_failed) (T.faults tree.old)
         (T.faults tree.new) }
 {
     let lines = read_lines(alloc, tree, path)?;

@@ -1,10 +1,8 @@
 ghost use Rattle.std.specs.Prelude.{◌≡◌, ◌⊎◌, ◌++◌, IfErr, IsErrOf, IsTrue, OnOk, length};
 ghost use Rattle.file_tree.specs.Disk.{CountsFault};
-ghost use Rattle.profile_stack.specs.declared.fault.ProfileFault.TheVariants.{Failed};
-ghost use Rattle.profile_read.specs.Faults.{IsMachine};
+ghost use Rattle.profile_read.specs.Faults.{IsMachine, device_failed};
 ghost use Rattle.profile_read.specs.Files.{MissFile, MissFiles, MissFolder, ReadsFile, ReadsFiles};
 ghost use Rattle.profile_read.specs.Files.{ReadsFolder, content, defaults_file, defaults_path};
-ghost use Rattle.profile_read.specs.declared.fault.ReadFault.TheVariants.{Profile as ProfileFaults};
 
 use crate::fault::ReadFault;
 use crate::file::{File, LINE_FILES, count_lines, read_file};
@@ -26,7 +24,7 @@ pub fn read_folder<T: Tree>(
     ensures fault { IsTrue T.tells → IfErr result (λ e. IsMachine e ⊎ MissFolder
         (T.story tree.old).now.holds folder.now (content profile.old) e) }
     ensures same { IsTrue T.tells → T.story tree.new ≡ T.story tree.old }
-    ensures faults { CountsFault (IsErrOf result (ProfileFaults Failed)) (T.faults tree.old)
+    ensures faults { CountsFault (IsErrOf result device_failed) (T.faults tree.old)
         (T.faults tree.new) }
 {
     let mut set = read_defaults(alloc, tree, folder, &profile.assigned)?;
@@ -67,7 +65,7 @@ fn read_line_files<T: Tree>(
     ensures fault { IsTrue T.tells → IfErr result (λ e. IsMachine e ⊎ MissFiles
         (T.story tree.old).now.holds folder.now (content profile.old) e) }
     ensures same { IsTrue T.tells → T.story tree.new ≡ T.story tree.old }
-    ensures faults { CountsFault (IsErrOf result (ProfileFaults Failed)) (T.faults tree.old)
+    ensures faults { CountsFault (IsErrOf result device_failed) (T.faults tree.old)
         (T.faults tree.new) }
 {
     for file in &LINE_FILES {
@@ -89,7 +87,7 @@ fn read_one<T: Tree>(
     ensures fault { IsTrue T.tells → IfErr result (λ e. IsMachine e ⊎ MissFile
         (T.story tree.old).now.holds folder.now file (content profile.old) e) }
     ensures same { IsTrue T.tells → T.story tree.new ≡ T.story tree.old }
-    ensures faults { CountsFault (IsErrOf result (ProfileFaults Failed)) (T.faults tree.old)
+    ensures faults { CountsFault (IsErrOf result device_failed) (T.faults tree.old)
         (T.faults tree.new) }
 {
     let lines = read_file(alloc, tree, folder, file)?;

@@ -2,13 +2,11 @@ ghost use Rattle.std.specs.Prelude.{◌≡◌, ◌↔◌, ◌⊎◌, IfErr, IfOk
 ghost use Rattle.file_tree.specs.Disk.{CountsFault};
 ghost use Rattle.profile_stack.specs.Folders.{Walks};
 ghost use Rattle.profile_stack.specs.Machine.{IsOfMachine};
-ghost use Rattle.profile_stack.specs.declared.fault.ProfileFault.TheVariants.{Failed};
-ghost use Rattle.profile_read.specs.Faults.{IsMachine};
+ghost use Rattle.profile_read.specs.Faults.{IsMachine, device_failed};
 ghost use Rattle.profile_read.specs.Files.{Content, content, empty};
 ghost use Rattle.profile_read.specs.Profiles.{FirstFault, IsOwnEnd, IsProfile, MissFolders};
 ghost use Rattle.profile_read.specs.Profiles.{MissOpens, MissRest, Opens, ReadsFolders};
 ghost use Rattle.profile_read.specs.Profiles.{repository_masks};
-ghost use Rattle.profile_read.specs.declared.fault.ReadFault.TheVariants.{Profile as ProfileFaults};
 
 use crate::fault::ReadFault;
 use crate::file::{File, count_lines, read_line_file};
@@ -29,7 +27,7 @@ pub fn read<T: Tree>(alloc: Global, tree: &mut T, path: &Path) -> Result<Profile
     ensures fault { IsTrue T.tells → IfErr result (λ e. IsMachine e ⊎
         FirstFault (T.story tree.old).now.holds path.now e) }
     ensures same { IsTrue T.tells → T.story tree.new ≡ T.story tree.old }
-    ensures faults { CountsFault (IsErrOf result (ProfileFaults Failed)) (T.faults tree.old)
+    ensures faults { CountsFault (IsErrOf result device_failed) (T.faults tree.old)
         (T.faults tree.new) }
 {
     let mut profile = Profile::new(alloc);
@@ -52,7 +50,7 @@ fn read_into<T: Tree>(
     ensures fault { IsTrue T.tells → IfErr result (λ e. IsMachine e ⊎
         FirstFault (T.story tree.old).now.holds path.now e) }
     ensures same { IsTrue T.tells → T.story tree.new ≡ T.story tree.old }
-    ensures faults { CountsFault (IsErrOf result (ProfileFaults Failed)) (T.faults tree.old)
+    ensures faults { CountsFault (IsErrOf result device_failed) (T.faults tree.old)
         (T.faults tree.new) }
 {
     read_masks(alloc, tree, profile)?;
@@ -74,7 +72,7 @@ fn read_course<T: Tree>(
     ensures fault { IsTrue T.tells → IfErr result (λ e. IsMachine e ⊎ MissRest
         (T.story tree.old).now.holds course.folders.items course.end (content profile.old) e) }
     ensures same { IsTrue T.tells → T.story tree.new ≡ T.story tree.old }
-    ensures faults { CountsFault (IsErrOf result (ProfileFaults Failed)) (T.faults tree.old)
+    ensures faults { CountsFault (IsErrOf result device_failed) (T.faults tree.old)
         (T.faults tree.new) }
 {
     let Course { folders, end } = course;
@@ -93,7 +91,7 @@ fn read_masks<T: Tree>(alloc: Global, tree: &mut T, profile: &mut Profile) -> Re
     ensures fault { IsTrue T.tells → IfErr result (λ e. IsMachine e ⊎
         MissOpens (T.story tree.old).now.holds e) }
     ensures same { IsTrue T.tells → T.story tree.new ≡ T.story tree.old }
-    ensures faults { CountsFault (IsErrOf result (ProfileFaults Failed)) (T.faults tree.old)
+    ensures faults { CountsFault (IsErrOf result device_failed) (T.faults tree.old)
         (T.faults tree.new) }
 {
     let path = path_of_masks(alloc)?;
@@ -102,6 +100,7 @@ fn read_masks<T: Tree>(alloc: Global, tree: &mut T, profile: &mut Profile) -> Re
     Ok(())
 }
 
+#[tactic(auto, unfolding(file_tree::specs::Paths::is_path))]
 #[tactic(auto, unfolding(file_tree::specs::Paths::is_path))]
 fn path_of_masks(alloc: Global) -> Result<Path, AllocError>
     ensures { IfOk result (λ p. p ≡ repository_masks) }
@@ -123,7 +122,7 @@ fn walk<T: Tree>(alloc: Global, tree: &mut T, path: &Path) -> Result<Course, Rea
     ensures own { IfOk result (λ c. IsOwnEnd c.end) }
     ensures fault { IfErr result IsMachine }
     ensures same { IsTrue T.tells → T.story tree.new ≡ T.story tree.old }
-    ensures faults { CountsFault (IsErrOf result (ProfileFaults Failed)) (T.faults tree.old)
+    ensures faults { CountsFault (IsErrOf result device_failed) (T.faults tree.old)
         (T.faults tree.new) }
 {
     let Walk { folders, end } = find_folders(alloc, tree, path);
@@ -141,7 +140,7 @@ fn walk<T: Tree>(alloc: Global, tree: &mut T, path: &Path) -> Result<Course, Rea
 fn is_of_machine(fault: &ProfileFault) -> bool
     ensures { IsTrue result ↔ IsOfMachine fault.now }
 {
-    matches!(fault, ProfileFault::Failed | ProfileFault::Memory)
+    matches!(fault, ProfileFault::Tree(_))
 }
 
 /// Reads the folders one after the other, behind what the profile says.
@@ -156,7 +155,7 @@ fn read_folders<T: Tree>(
     ensures fault { IsTrue T.tells → IfErr result (λ e. IsMachine e ⊎ MissFolders
         (T.story tree.old).now.holds folders.now (content profile.old) e) }
     ensures same { IsTrue T.tells → T.story tree.new ≡ T.story tree.old }
-    ensures faults { CountsFault (IsErrOf result (ProfileFaults Failed)) (T.faults tree.old)
+    ensures faults { CountsFault (IsErrOf result device_failed) (T.faults tree.old)
         (T.faults tree.new) }
 {
     for folder in folders {

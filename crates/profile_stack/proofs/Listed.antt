@@ -17,7 +17,7 @@ use Rattle.file_tree.specs.Disk.{Lists, Map}
 use Rattle.file_tree.specs.Paths.{is_below}
 use Rattle.profile_stack.specs.LineFiles.{AreFiles, AreFilesIn, AreLines, HasBadByte, HasText, IsLinesFault, is_file_in, is_shown, lines_of}
 use Rattle.profile_stack.specs.declared.fault.ProfileFault.{ProfileFault}
-use Rattle.profile_stack.specs.declared.fault.ProfileFault.TheVariants.{Deep, Failed, Loop, Memory, Missing, Text}
+use Rattle.profile_stack.specs.declared.fault.ProfileFault.TheVariants.{Deep, Loop, Missing, Text, Tree}
 use Rattle.profile_stack.specs.declared.line_file.FileLine.{FileLine}
 use Rattle.profile_stack.proofs.Followed.{split_at}
 
@@ -89,8 +89,7 @@ module _ (m : Map) where
   bad_text file (Missing path) good bad = bad
   bad_text file (Loop path line) good bad = bad
   bad_text file (Deep path line) good bad = bad
-  bad_text file Failed good bad = bad
-  bad_text file Memory good bad = bad
+  bad_text file (Tree of) good bad = bad
 
   each_in : (front : List (List ℕ)) (file : List ℕ) (rest : List (List ℕ)) → AllByRecursion (HasText m) (front ++ (file ∷ rest)) → HasText m file
   each_in [] file rest all = all.0

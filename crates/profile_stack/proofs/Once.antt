@@ -15,7 +15,7 @@ use Rattle.profile_stack.specs.Machine.{IsOfMachine}
 use Rattle.profile_stack.specs.Parents.{AreNamed, IsMisnamed, LeadsNowhereAt, LeadsTo}
 use Rattle.profile_stack.specs.Places.{place_from}
 use Rattle.profile_stack.specs.declared.fault.ProfileFault.{ProfileFault}
-use Rattle.profile_stack.specs.declared.fault.ProfileFault.TheVariants.{Deep, Failed, Loop, Memory, Missing, Text}
+use Rattle.profile_stack.specs.declared.fault.ProfileFault.TheVariants.{Deep, Loop, Missing, Text, Tree}
 use Rattle.profile_stack.specs.declared.parents.Parent.{Parent}
 use Rattle.profile_stack.proofs.Followed.{trimmed_once}
 use Rattle.profile_stack.proofs.Places.{some_one}
@@ -84,13 +84,11 @@ one_misnamed folder bytes (Text path line) (Text path' line') a b =
 one_misnamed folder bytes (Text path line) (Missing path') a b = absurd b
 one_misnamed folder bytes (Text path line) (Loop path' line') a b = absurd b
 one_misnamed folder bytes (Text path line) (Deep path' line') a b = absurd b
-one_misnamed folder bytes (Text path line) Failed a b = absurd b
-one_misnamed folder bytes (Text path line) Memory a b = absurd b
+one_misnamed folder bytes (Text path line) (Tree of) a b = absurd b
 one_misnamed folder bytes (Missing path) g a b = absurd a
 one_misnamed folder bytes (Loop path line) g a b = absurd a
 one_misnamed folder bytes (Deep path line) g a b = absurd a
-one_misnamed folder bytes Failed g a b = absurd a
-one_misnamed folder bytes Memory g a b = absurd a
+one_misnamed folder bytes (Tree of) g a b = absurd a
 
 named_or_not : (folder bytes : List ℕ) (ps : List Parent) (f : ProfileFault) → AreNamed folder bytes ps → IsMisnamed folder bytes f → ⊥
 named_or_not folder bytes ps (Text path line) are (path-is, inl x) = no_bad_byte bytes line are.utf8 x
@@ -100,8 +98,7 @@ named_or_not folder bytes ps (Text path line) are (path-is, inr x) =
 named_or_not folder bytes ps (Missing path) are bad = bad
 named_or_not folder bytes ps (Loop path line) are bad = bad
 named_or_not folder bytes ps (Deep path line) are bad = bad
-named_or_not folder bytes ps Failed are bad = bad
-named_or_not folder bytes ps Memory are bad = bad
+named_or_not folder bytes ps (Tree of) are bad = bad
 
 module _ (m : Map) (above before : List (List ℕ)) (parent : Parent) where
   may_or_not : (f : ProfileFault) → MayRead m above before parent.folder → MayNotRead m above before parent f → ⊥
@@ -109,31 +106,26 @@ module _ (m : Map) (above before : List (List ℕ)) (parent : Parent) where
   may_or_not (Deep path line) may why = omega (arith, may.room, why.1)
   may_or_not (Missing path) may why = why.2 may.there
   may_or_not (Text path line) may why = why
-  may_or_not Failed may why = why
-  may_or_not Memory may why = why
+  may_or_not (Tree of) may why = why
 
   one_reason : (f g : ProfileFault) → MayNotRead m above before parent f → MayNotRead m above before parent g → f ≡ g
   one_reason (Loop path line) (Loop path' line') a b = ap (λ (p : List ℕ). Loop p line) (a.1 ∙ sym b.1) ∙ ap (λ (n : ℕ). Loop path' n) (a.2 ∙ sym b.2)
   one_reason (Loop path line) (Deep path' line') a b = absurd (b.0 a.0)
   one_reason (Loop path line) (Missing path') a b = absurd (b.0 a.0)
   one_reason (Loop path line) (Text path' line') a b = absurd b
-  one_reason (Loop path line) Failed a b = absurd b
-  one_reason (Loop path line) Memory a b = absurd b
+  one_reason (Loop path line) (Tree of) a b = absurd b
   one_reason (Deep path line) (Loop path' line') a b = absurd (a.0 b.0)
   one_reason (Deep path line) (Deep path' line') a b = ap (λ (p : List ℕ). Deep p line) (a.2 ∙ sym b.2) ∙ ap (λ (n : ℕ). Deep path' n) (a.3 ∙ sym b.3)
   one_reason (Deep path line) (Missing path') a b = absurd (omega (arith, a.1, b.1))
   one_reason (Deep path line) (Text path' line') a b = absurd b
-  one_reason (Deep path line) Failed a b = absurd b
-  one_reason (Deep path line) Memory a b = absurd b
+  one_reason (Deep path line) (Tree of) a b = absurd b
   one_reason (Missing path) (Loop path' line') a b = absurd (a.0 b.0)
   one_reason (Missing path) (Deep path' line') a b = absurd (omega (arith, a.1, b.1))
   one_reason (Missing path) (Missing path') a b = ap Missing (a.3 ∙ sym b.3)
   one_reason (Missing path) (Text path' line') a b = absurd b
-  one_reason (Missing path) Failed a b = absurd b
-  one_reason (Missing path) Memory a b = absurd b
+  one_reason (Missing path) (Tree of) a b = absurd b
   one_reason (Text path line) g a b = absurd a
-  one_reason Failed g a b = absurd a
-  one_reason Memory g a b = absurd a
+  one_reason (Tree of) g a b = absurd a
 
 -- two endings from one beginning are the same
 abbrev AreOne : Ends → Ends → Type 0

@@ -12,6 +12,7 @@ use Rattle.profile_stack.specs.Machine.{IsOfMachine}
 use Rattle.file_tree.specs.Paths.{is_path}
 use Rattle.profile_stack.specs.Places.{path_of}
 use Rattle.profile_stack.specs.Texts.{text_at, text_fault, text_of}
+use Rattle.file_tree.specs.declared.fault.TreeFault.TheVariants as trees
 use Rattle.profile_stack.specs.declared.fault.ProfileFault.{ProfileFault}
 
 -- an empty text sets nothing
@@ -33,11 +34,11 @@ pub its_fault : (file text : List ℕ) (first : TextFault) (fault : ProfileFault
 its_fault file text (texts.NotUtf8 line) fault has told = inr (record { first = texts.NotUtf8 line; has = has; own = λ e. absurd (cc e); told = told })
 its_fault file text (texts.BadKey line) fault has told = inr (record { first = texts.BadKey line; has = has; own = λ e. absurd (cc e); told = told })
 its_fault file text (texts.OpenQuote line) fault has told = inr (record { first = texts.OpenQuote line; has = has; own = λ e. absurd (cc e); told = told })
-its_fault file text texts.Memory fault has told = inl (inl told)
+its_fault file text texts.Memory fault has told = inl (trees.Memory, told)
 
 -- where the text sets something no fault but want of memory is told
 pub only_memory : (file : List ℕ) (first : TextFault) (fault : ProfileFault) → first ≡ texts.Memory → fault ≡ text_fault file first → IsOfMachine fault
-only_memory file first fault is told = inl (told ∙ ap (text_fault file) is)
+only_memory file first fault is told = (trees.Memory, told ∙ ap (text_fault file) is)
 
 -- a path that a text is, is that text
 pub is_itself : (text path : List ℕ) → path_of text ≡ Some path → path ≡ text

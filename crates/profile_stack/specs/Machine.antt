@@ -1,14 +1,8 @@
--- What a tree's fault is called, where a profile is read.
-use Rattle.std.specs.Prelude.{◌≡◌, ◌⊎◌}
-use Rattle.file_tree.specs.declared.fault.TreeFault.{TreeFault}
-use Rattle.file_tree.specs.declared.fault.TreeFault.TheVariants as trees
+-- The faults of a profile that tell nothing of the tree.
+use Rattle.file_tree.specs.Faults as carried
 use Rattle.profile_stack.specs.declared.fault.ProfileFault.{ProfileFault}
-use Rattle.profile_stack.specs.declared.fault.ProfileFault.TheVariants.{Failed, Memory}
-
-abbrev pub fault_of : TreeFault → ProfileFault
-fault_of trees.Failed = Failed
-fault_of trees.Memory = Memory
+use Rattle.profile_stack.specs.declared.fault.ProfileFault.TheVariants.{Tree}
 
 -- the machine failed, whatever the tree holds
 abbrev pub IsOfMachine : ProfileFault → Type 0
-IsOfMachine fault = (fault ≡ Memory) ⊎ (fault ≡ Failed)
+IsOfMachine fault = carried.IsOfMachine Tree fault

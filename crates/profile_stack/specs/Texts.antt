@@ -7,8 +7,9 @@ use Rattle.file_tree.specs.Thing.{Thing}
 use Rattle.file_tree.specs.declared.objects.Kind.{Kind}
 use Rattle.file_tree.specs.declared.objects.Kind.TheVariants.{Exec, Link, Plain}
 use Rattle.profile_stack.specs.Places.{path_of}
+use Rattle.file_tree.specs.declared.fault.TreeFault.TheVariants as trees
 use Rattle.profile_stack.specs.declared.fault.ProfileFault.{ProfileFault}
-use Rattle.profile_stack.specs.declared.fault.ProfileFault.TheVariants.{Memory, Text}
+use Rattle.profile_stack.specs.declared.fault.ProfileFault.TheVariants.{Text, Tree}
 
 -- the bytes of a file of the kind; those of a link are no text
 abbrev pub bytes_of_kind : Kind → List ℕ → List ℕ
@@ -39,4 +40,4 @@ abbrev pub text_fault : List ℕ → TextFault → ProfileFault
 text_fault path (texts.NotUtf8 line) = Text path line
 text_fault path (texts.BadKey line) = Text path line
 text_fault path (texts.OpenQuote line) = Text path line
-text_fault path texts.Memory = Memory
+text_fault path texts.Memory = Tree trees.Memory

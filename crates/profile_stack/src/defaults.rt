@@ -7,7 +7,7 @@ ghost use Rattle.profile_stack.specs.Machine.{IsOfMachine};
 use crate::fault::ProfileFault;
 use crate::text::{file_in, located, read_text};
 use config_text::{Assignment, assignments};
-use file_tree::{Path, Tree};
+use file_tree::{Path, Tree, TreeFault};
 use std::alloc::Global;
 
 /// The variables that the profile in the folder sets in its file `make.defaults`, where those that
@@ -26,8 +26,8 @@ pub fn read_defaults<T: Tree>(
     ensures fault { IsTrue T.tells → IfErr result
         (λ e. IsOfMachine e ⊎ IsDefaultsFault (T.story tree.old).now.holds folder.now e) }
     ensures same { IsTrue T.tells → T.story tree.new ≡ T.story tree.old }
-    ensures faults { CountsFault (IsErrOf result ProfileFault.Failed) (T.faults tree.old)
-        (T.faults tree.new) }
+    ensures faults { CountsFault (IsErrOf result (ProfileFault.Tree TreeFault.Failed))
+        (T.faults tree.old) (T.faults tree.new) }
 {
     let Some(file) = file_in(alloc, folder, "make.defaults")? else {
         return Ok(Vec::new(alloc));

@@ -17,56 +17,53 @@ pub enum ProfileFault {
     /// The first line of the file that isn't in form.
     #[error("line {line} of a file of the profile is none of its form")]
     Text { path: Path, line: u32 },
-    /// The tree's device failed.
-    #[error("the device failed")]
-    Failed,
-    #[error("out of memory")]
-    Memory,
+    #[error(transparent)]
+    Tree(TreeFault),
 }
 
 impl From<AllocError> for ProfileFault {
     ghost use Rattle.std.specs.Prelude.{◌≡◌};
+    ghost use Rattle.file_tree.specs.declared.fault.TreeFault.TheVariants as trees;
     ghost use Rattle.profile_stack.specs.declared.fault.ProfileFault.TheVariants as faults;
 
-    ghost from_gives = { λ _ e. e ≡ faults.Memory };
+    ghost from_gives = { λ _ e. e ≡ faults.Tree trees.Memory };
 
     fn from(_: AllocError) -> ProfileFault {
-        ProfileFault::Memory
+        ProfileFault::Tree(TreeFault::Memory)
     }
 }
 
 impl<T: Drop> From<AllocFailed<T>> for ProfileFault {
     ghost use Rattle.std.specs.Prelude.{◌≡◌};
+    ghost use Rattle.file_tree.specs.declared.fault.TreeFault.TheVariants as trees;
     ghost use Rattle.profile_stack.specs.declared.fault.ProfileFault.TheVariants as faults;
 
-    ghost from_gives = { λ _ e. e ≡ faults.Memory };
+    ghost from_gives = { λ _ e. e ≡ faults.Tree trees.Memory };
 
     fn from(_: AllocFailed<T>) -> ProfileFault {
-        ProfileFault::Memory
+        ProfileFault::Tree(TreeFault::Memory)
     }
 }
 
 impl From<TreeFault> for ProfileFault {
     ghost use Rattle.std.specs.Prelude.{◌≡◌};
-    ghost use Rattle.profile_stack.specs.Machine.{fault_of};
+    ghost use Rattle.profile_stack.specs.declared.fault.ProfileFault.TheVariants as faults;
 
-    ghost from_gives = { λ f e. e ≡ fault_of f };
+    ghost from_gives = { λ f e. e ≡ faults.Tree f };
 
     fn from(fault: TreeFault) -> ProfileFault {
-        match fault {
-            TreeFault::Failed => ProfileFault::Failed,
-            TreeFault::Memory => ProfileFault::Memory,
-        }
+        ProfileFault::Tree(fault)
     }
 }
 
 impl From<Failed> for ProfileFault {
     ghost use Rattle.std.specs.Prelude.{◌≡◌};
+    ghost use Rattle.file_tree.specs.declared.fault.TreeFault.TheVariants as trees;
     ghost use Rattle.profile_stack.specs.declared.fault.ProfileFault.TheVariants as faults;
 
-    ghost from_gives = { λ _ e. e ≡ faults.Failed };
+    ghost from_gives = { λ _ e. e ≡ faults.Tree trees.Failed };
 
     fn from(_: Failed) -> ProfileFault {
-        ProfileFault::Failed
+        ProfileFault::Tree(TreeFault::Failed)
     }
 }

@@ -9,7 +9,7 @@ ghost use Rattle.profile_stack.specs.Machine.{IsOfMachine};
 use crate::fault::ProfileFault;
 use crate::parents::{Parent, read_parents};
 use crate::start::{find_start, is_folder};
-use file_tree::{Path, Tree};
+use file_tree::{Path, Tree, TreeFault};
 use std::alloc::Global;
 
 /// So many profiles are read at most, each as often as it is named.
@@ -35,8 +35,8 @@ pub fn find_folders<T: Tree>(alloc: Global, tree: &mut T, path: &Path) -> Walk
     ensures fault { IsTrue T.tells → IfErr result.end (λ e. IsOfMachine e ⊎
         FirstFault (T.story tree.old).now.holds path.now result.folders.items e) }
     ensures same { IsTrue T.tells → T.story tree.new ≡ T.story tree.old }
-    ensures faults { CountsFault (IsErrOf result.end ProfileFault.Failed) (T.faults tree.old)
-        (T.faults tree.new) }
+    ensures faults { CountsFault (IsErrOf result.end (ProfileFault.Tree TreeFault.Failed))
+        (T.faults tree.old) (T.faults tree.new) }
 {
     let mut course = Course {
         above: Vec::new(alloc),
@@ -71,8 +71,8 @@ fn read_all<T: Tree>(
     ensures fault { IsTrue T.tells → IfErr result (λ e. IsOfMachine e ⊎
         FirstFault (T.story tree.old).now.holds path.now course.new.folders.items e) }
     ensures same { IsTrue T.tells → T.story tree.new ≡ T.story tree.old }
-    ensures faults { CountsFault (IsErrOf result ProfileFault.Failed) (T.faults tree.old)
-        (T.faults tree.new) }
+    ensures faults { CountsFault (IsErrOf result (ProfileFault.Tree TreeFault.Failed))
+        (T.faults tree.old) (T.faults tree.new) }
 {
     let folder = find_start(alloc, tree, path)?;
     read_profile(alloc, tree, &folder, course)
@@ -96,8 +96,8 @@ fn read_profile<T: Tree>(
         course.old.folders.items course.new.folders.items (Some e))) }
     ensures above { OnOk result (course.new.above.items ≡ course.old.above.items) }
     ensures same { IsTrue T.tells → T.story tree.new ≡ T.story tree.old }
-    ensures faults { CountsFault (IsErrOf result ProfileFault.Failed) (T.faults tree.old)
-        (T.faults tree.new) }
+    ensures faults { CountsFault (IsErrOf result (ProfileFault.Tree TreeFault.Failed))
+        (T.faults tree.old) (T.faults tree.new) }
 {
     let parents = read_parents(alloc, tree, folder)?;
     course.above.push(folder.try_clone()?)?;
@@ -119,8 +119,8 @@ fn check_parent<T: Tree>(tree: &mut T, course: &Course, parent: &Parent) -> Resu
         MayNotRead (T.story tree.old).now.holds course.now.above.items
         course.now.folders.items parent.now e) }
     ensures same { IsTrue T.tells → T.story tree.new ≡ T.story tree.old }
-    ensures faults { CountsFault (IsErrOf result ProfileFault.Failed) (T.faults tree.old)
-        (T.faults tree.new) }
+    ensures faults { CountsFault (IsErrOf result (ProfileFault.Tree TreeFault.Failed))
+        (T.faults tree.old) (T.faults tree.new) }
 {
     if has(&course.above, &parent.folder) {
         return Err(ProfileFault::Loop {

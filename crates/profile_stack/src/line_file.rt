@@ -41,8 +41,8 @@ pub fn read_lines<T: Tree>(
     ensures fault { IsTrue T.tells → IfErr result
         (λ e. IsOfMachine e ⊎ IsLinesFault (T.story tree.old).now.holds path.now e) }
     ensures same { IsTrue T.tells → T.story tree.new ≡ T.story tree.old }
-    ensures faults { CountsFault (IsErrOf result ProfileFault.Failed) (T.faults tree.old)
-        (T.faults tree.new) }
+    ensures faults { CountsFault (IsErrOf result (ProfileFault.Tree TreeFault.Failed))
+        (T.faults tree.old) (T.faults tree.new) }
 {
     let files = files_at(alloc, tree, path)?;
     let mut all = Vec::new(alloc);
@@ -144,8 +144,8 @@ fn add_lines<T: Tree>(
     ensures fault { IsTrue T.tells → IfErr result
         (λ e. IsOfMachine e ⊎ HasBadByte (T.story tree.old).now.holds file.now e) }
     ensures same { IsTrue T.tells → T.story tree.new ≡ T.story tree.old }
-    ensures faults { CountsFault (IsErrOf result ProfileFault.Failed) (T.faults tree.old)
-        (T.faults tree.new) }
+    ensures faults { CountsFault (IsErrOf result (ProfileFault.Tree TreeFault.Failed))
+        (T.faults tree.old) (T.faults tree.new) }
 {
     let bytes = read_text(alloc, tree, file)?;
     let lines = match lines(alloc, &bytes) {

@@ -4,13 +4,12 @@ ghost use Rattle.file_tree.specs.Disk.{CountsFault};
 ghost use Rattle.profile_stack.specs.Machine.{IsOfMachine};
 ghost use Rattle.profile_stack.specs.Parents.{AreNamed, AreParents, IsMisnamed, IsParentFault};
 ghost use Rattle.profile_stack.specs.Parents.{LeadsTo, parent_file};
-ghost use Rattle.profile_stack.specs.declared.fault.ProfileFault.TheVariants.{Memory};
 
 use crate::fault::ProfileFault;
 use crate::place::place_from;
 use crate::text::{file_in, located, read_text};
 use config_text::{Line, lines};
-use file_tree::{Path, Tree};
+use file_tree::{Path, Tree, TreeFault};
 use std::alloc::{AllocError, Global};
 
 /// A line of a file `parent`, and the folder to which it leads.
@@ -32,8 +31,8 @@ pub(crate) fn read_parents<T: Tree>(
     ensures fault { IsTrue T.tells → IfErr result
         (λ e. IsOfMachine e ⊎ IsParentFault (T.story tree.old).now.holds folder.now e) }
     ensures same { IsTrue T.tells → T.story tree.new ≡ T.story tree.old }
-    ensures faults { CountsFault (IsErrOf result ProfileFault.Failed) (T.faults tree.old)
-        (T.faults tree.new) }
+    ensures faults { CountsFault (IsErrOf result (ProfileFault.Tree TreeFault.Failed))
+        (T.faults tree.old) (T.faults tree.new) }
 {
     let Some(file) = file_in(alloc, folder, "parent")? else {
         return Ok(Vec::new(alloc));
@@ -51,7 +50,8 @@ fn parents_in(
 ) -> Result<Vec<Parent>, ProfileFault>
     requires file { file.now ≡ parent_file folder.now }
     ensures found { IfOk result (λ v. AreNamed folder.now bytes.now v.items) }
-    ensures fault { IfErr result (λ e. (e ≡ Memory) ⊎ IsMisnamed folder.now bytes.now e) }
+    ensures fault { IfErr result
+        (λ e. (e ≡ ProfileFault.Tree TreeFault.Memory) ⊎ IsMisnamed folder.now bytes.now e) }
 {
     let lines = match lines(alloc, bytes) {
         Ok(lines) => lines,

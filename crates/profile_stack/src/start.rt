@@ -6,12 +6,11 @@ ghost use Rattle.profile_stack.specs.Begins.{BeginsAt, BeginsNowhere, IsBadTarge
 ghost use Rattle.profile_stack.specs.Begins.{IsTarget, Starts, StartsNowhere};
 ghost use Rattle.profile_stack.specs.Machine.{IsOfMachine};
 ghost use Rattle.profile_stack.specs.Places.{link_place};
-ghost use Rattle.profile_stack.specs.declared.fault.ProfileFault.TheVariants.{Memory};
 
 use crate::fault::ProfileFault;
 use crate::place::link_place;
 use config_text::text_of;
-use file_tree::{Failed, Kind, Look, Object, Path, Tree};
+use file_tree::{Failed, Kind, Look, Object, Path, Tree, TreeFault};
 use std::alloc::{AllocError, Global};
 
 /// The folder of the profile at the path, which may be a link to it.
@@ -25,8 +24,8 @@ pub(crate) fn find_start<T: Tree>(
     ensures fault { IsTrue T.tells → IfErr result (λ e. IsOfMachine e ⊎
         BeginsNowhere (T.story tree.old).now.holds path.now e) }
     ensures same { IsTrue T.tells → T.story tree.new ≡ T.story tree.old }
-    ensures faults { CountsFault (IsErrOf result ProfileFault.Failed) (T.faults tree.old)
-        (T.faults tree.new) }
+    ensures faults { CountsFault (IsErrOf result (ProfileFault.Tree TreeFault.Failed))
+        (T.faults tree.old) (T.faults tree.new) }
 {
     let object = tree.read(path)?;
     let folder = start_of(alloc, path, object)?;
@@ -39,7 +38,8 @@ pub(crate) fn find_start<T: Tree>(
 /// The folder at which the profile begins, where the path holds this.
 fn start_of(alloc: Global, path: &Path, object: Option<Object>) -> Result<Path, ProfileFault>
     ensures starts { IfOk result (Starts object path.now) }
-    ensures fault { IfErr result (λ e. (e ≡ Memory) ⊎ StartsNowhere object path.now e) }
+    ensures fault { IfErr result
+        (λ e. (e ≡ ProfileFault.Tree TreeFault.Memory) ⊎ StartsNowhere object path.now e) }
 {
     match object {
         None => Ok(path.try_clone()?),
@@ -55,7 +55,8 @@ fn start_of(alloc: Global, path: &Path, object: Option<Object>) -> Result<Path, 
 /// The path to which a link at the path with this target leads.
 fn target(alloc: Global, path: &Path, target: &[u8]) -> Result<Path, ProfileFault>
     ensures found { IfOk result (IsTarget path.now target.now) }
-    ensures fault { IfErr result (λ e. (e ≡ Memory) ⊎ IsBadTarget path.now target.now e) }
+    ensures fault { IfErr result
+        (λ e. (e ≡ ProfileFault.Tree TreeFault.Memory) ⊎ IsBadTarget path.now target.now e) }
 {
     match place_of(alloc, path, target)? {
         Some(place) => Ok(place),

@@ -52,7 +52,7 @@ pub(crate) fn located(file: &Path, fault: TextFault) -> Result<ProfileFault, All
         TextFault::NotUtf8 { line } => text_at(file, line),
         TextFault::BadKey { line } => text_at(file, line),
         TextFault::OpenQuote { line } => text_at(file, line),
-        TextFault::Memory => Ok(ProfileFault::Memory),
+        TextFault::Memory => Ok(ProfileFault::Tree(TreeFault::Memory)),
     }
 }
 

@@ -1,6 +1,6 @@
 //! The faults of a configuration.
 
-use file_tree::Path;
+use file_tree::{Path, TreeFault};
 use profile_read::ReadFault;
 use profile_stack::ProfileFault;
 use std::alloc::{AllocError, Global};
@@ -19,8 +19,8 @@ fn profile_text(alloc: Global, fault: &ProfileFault) -> Result<String, AllocErro
         ProfileFault::Loop { path, line } => in_line(alloc, "loop", path, *line),
         ProfileFault::Deep { path, line } => in_line(alloc, "deep", path, *line),
         ProfileFault::Text { path, line } => in_line(alloc, "text", path, *line),
-        ProfileFault::Failed => String::from_str(alloc, "failed"),
-        ProfileFault::Memory => Err(AllocError),
+        ProfileFault::Tree(TreeFault::Failed) => String::from_str(alloc, "failed"),
+        ProfileFault::Tree(TreeFault::Memory) => Err(AllocError),
     }
 }
 

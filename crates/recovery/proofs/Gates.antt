@@ -4,8 +4,6 @@ use Rattle.std.specs.Prelude.{◌↔◌, IsSome, filter}
 use Rattle.basics.specs.Members.{Has}
 use Rattle.file_tree.specs.Disk.{Map, Story}
 use Rattle.file_tree.specs.Thing.{Thing}
-use Rattle.file_tree.specs.declared.fault.TreeFault.{TreeFault}
-use Rattle.file_tree.specs.declared.fault.TreeFault.TheVariants as tree_faults
 use Rattle.merge_record.specs.Content.{Content}
 use Rattle.journal.specs.Judging.{Misses, judged_all, judged_open}
 use Rattle.journal.specs.Names.{gate_path}
@@ -13,7 +11,7 @@ use Rattle.journal.specs.Open.{is_open, open_groups}
 use Rattle.journal.proofs.Opened.{Opens, open_groups_only, same_list}
 use Rattle.journal.specs.declared.fault.JudgeFault.{JudgeFault}
 use Rattle.journal.specs.declared.fault.JudgeFault.TheVariants as judge_faults
-use Rattle.recovery.specs.Faults.{judge_fault, tree_fault}
+use Rattle.recovery.specs.Faults.{judge_fault}
 use Rattle.recovery.specs.Found.{AreGates, AreOdd, HasTooManyGates, IsFound}
 use Rattle.recovery.specs.Promise.{IsFaultOf}
 use Rattle.recovery.specs.declared.limits.TheConstants.{MOST_GATES}
@@ -67,8 +65,7 @@ all_opened a os is = ap (judged_all a []) is ∙ judged_opened a
 pub judge_fault_is : (a : Map) (e : JudgeFault) → (HasTooManyGates a → ⊥) → Misses e (judged_open a) → IsFaultOf (judge_fault e) a
 judge_fault_is a (judge_faults.BadRecord g) few is = (few, is)
 judge_fault_is a (judge_faults.BadStage g i) few is = (few, is)
-judge_fault_is a judge_faults.Failed few is = tt
-judge_fault_is a judge_faults.Memory few is = tt
+judge_fault_is a (judge_faults.Tree of) few is = tt
 
 -- ---- over a story that stays
 
@@ -95,8 +92,3 @@ pub fault_judged : (s t u : Story) (gs gs' os os' : List ℕ) (e : JudgeFault) �
 fault_judged s t u gs gs' os os' e same same' gates few list opened os_is misses =
     judge_fault_is s.now.holds e (few_gates s.now.holds gs gates few)
     (subst (λ (v : Result (List Content) JudgeFault). Misses e v) (judged_same s u os' os (same' ∙ same) opened (opened_are s t gs gs' os same gates list os_is)) misses)
-
--- the faults of the tree tell nothing
-pub tree_fault_is : (a : Map) (e : TreeFault) → IsFaultOf (tree_fault e) a
-tree_fault_is a tree_faults.Failed = tt
-tree_fault_is a tree_faults.Memory = tt

@@ -12,19 +12,17 @@ use Rattle.recovery.specs.declared.fault.RecoverFault.TheVariants as faults
 abbrev pub RecoversAlike : Map → Map → Type 0
 RecoversAlike a c = (m : Map) × IsRecovered a m × IsRecovered c m
 
--- the fault is one of the map: too many gates, or else the first fault of its open groups; a
--- failure and want of memory may come with any map
+-- the fault is one of the map: too many gates, or else the first fault of its open groups; the
+-- tree's own may come with any map
 abbrev pub IsFaultOf : RecoverFault → Map → Type 0
 IsFaultOf faults.Limit m = HasTooManyGates m
 IsFaultOf (faults.BadRecord g) m =
     ¬ HasTooManyGates m × (judged_open m ≡ Err (judge_faults.BadRecord g))
 IsFaultOf (faults.BadStage g i) m =
     ¬ HasTooManyGates m × (judged_open m ≡ Err (judge_faults.BadStage g i))
-IsFaultOf faults.Failed m = ⊤
-IsFaultOf faults.Memory m = ⊤
+IsFaultOf (faults.Tree of) m = ⊤
 
 -- a fault that comes before anything is changed
 abbrev pub IsRefusal : RecoverFault → Type 0
-IsRefusal faults.Failed = ⊥
-IsRefusal faults.Memory = ⊥
+IsRefusal (faults.Tree of) = ⊥
 IsRefusal fault = ⊤

@@ -15,56 +15,54 @@ pub enum RecoverFault {
     /// More gates hold an object than are recovered.
     #[error("the journal has too many gates")]
     Limit,
-    #[error("the device failed")]
-    Failed,
-    #[error("out of memory")]
-    Memory,
+    #[error(transparent)]
+    Tree(TreeFault),
 }
 
 impl From<Failed> for RecoverFault {
     ghost use Rattle.std.specs.Prelude.{◌≡◌};
+    ghost use Rattle.file_tree.specs.declared.fault.TreeFault.TheVariants as trees;
     ghost use Rattle.recovery.specs.declared.fault.RecoverFault.TheVariants as faults;
 
-    ghost from_gives = { λ _ e. e ≡ faults.Failed };
+    ghost from_gives = { λ _ e. e ≡ faults.Tree trees.Failed };
 
     fn from(_: Failed) -> RecoverFault {
-        RecoverFault::Failed
+        RecoverFault::Tree(TreeFault::Failed)
     }
 }
 
 impl From<AllocError> for RecoverFault {
     ghost use Rattle.std.specs.Prelude.{◌≡◌};
+    ghost use Rattle.file_tree.specs.declared.fault.TreeFault.TheVariants as trees;
     ghost use Rattle.recovery.specs.declared.fault.RecoverFault.TheVariants as faults;
 
-    ghost from_gives = { λ _ e. e ≡ faults.Memory };
+    ghost from_gives = { λ _ e. e ≡ faults.Tree trees.Memory };
 
     fn from(_: AllocError) -> RecoverFault {
-        RecoverFault::Memory
+        RecoverFault::Tree(TreeFault::Memory)
     }
 }
 
 impl<T: Drop> From<AllocFailed<T>> for RecoverFault {
     ghost use Rattle.std.specs.Prelude.{◌≡◌};
+    ghost use Rattle.file_tree.specs.declared.fault.TreeFault.TheVariants as trees;
     ghost use Rattle.recovery.specs.declared.fault.RecoverFault.TheVariants as faults;
 
-    ghost from_gives = { λ _ e. e ≡ faults.Memory };
+    ghost from_gives = { λ _ e. e ≡ faults.Tree trees.Memory };
 
     fn from(_: AllocFailed<T>) -> RecoverFault {
-        RecoverFault::Memory
+        RecoverFault::Tree(TreeFault::Memory)
     }
 }
 
 impl From<TreeFault> for RecoverFault {
     ghost use Rattle.std.specs.Prelude.{◌≡◌};
-    ghost use Rattle.recovery.specs.Faults.{tree_fault};
+    ghost use Rattle.recovery.specs.declared.fault.RecoverFault.TheVariants as faults;
 
-    ghost from_gives = { λ f e. e ≡ tree_fault f };
+    ghost from_gives = { λ f e. e ≡ faults.Tree f };
 
     fn from(fault: TreeFault) -> RecoverFault {
-        match fault {
-            TreeFault::Failed => RecoverFault::Failed,
-            TreeFault::Memory => RecoverFault::Memory,
-        }
+        RecoverFault::Tree(fault)
     }
 }
 
@@ -78,8 +76,7 @@ impl From<JudgeFault> for RecoverFault {
         match fault {
             JudgeFault::BadRecord { group } => RecoverFault::BadRecord { group },
             JudgeFault::BadStage { group, index } => RecoverFault::BadStage { group, index },
-            JudgeFault::Failed => RecoverFault::Failed,
-            JudgeFault::Memory => RecoverFault::Memory,
+            JudgeFault::Tree(fault) => RecoverFault::Tree(fault),
         }
     }
 }

@@ -129,8 +129,8 @@ pub(crate) fn read_journal<T: Tree>(alloc: Global, tree: &mut T) -> Result<Journ
     ensures refused { IsTrue T.tells → IfErr result
         (λ e. IsFaultOf e (T.story tree.old).now.holds) }
     ensures same { IsTrue T.tells → T.story tree.new ≡ T.story tree.old }
-    ensures faults { CountsFault (IsErrOf result RecoverFault.Failed) (T.faults tree.old)
-        (T.faults tree.new) }
+    ensures faults { CountsFault (IsErrOf result (RecoverFault.Tree TreeFault.Failed))
+        (T.faults tree.old) (T.faults tree.new) }
 {
     let gates = find_gates(alloc, tree)?;
     if gates.len() > MOST_GATES {

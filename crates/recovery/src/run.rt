@@ -10,7 +10,7 @@ use crate::clearing::{clear_journal, remove_gates};
 use crate::fault::RecoverFault;
 use crate::finding::read_journal;
 use crate::redoing::redo;
-use file_tree::Tree;
+use file_tree::{Tree, TreeFault};
 use std::alloc::Global;
 
 /// The groups that a recovery completed, in rising order.
@@ -38,8 +38,8 @@ pub fn recover<T: Tree>(alloc: Global, tree: &mut T) -> Result<Recovered, Recove
     ensures unchanged { IsTrue T.tells → IfErr result
         (λ e. IsRefusal e → (T.story tree.new).now.holds ≡ (T.story tree.old).now.holds) }
     ensures few { IsTrue T.tells → OnOk result (¬ HasTooManyGates (T.story tree.old).now.holds) }
-    ensures faults { CountsFault (IsErrOf result RecoverFault.Failed) (T.faults tree.old)
-        (T.faults tree.new) }
+    ensures faults { CountsFault (IsErrOf result (RecoverFault.Tree TreeFault.Failed))
+        (T.faults tree.old) (T.faults tree.new) }
 {
     tree.sync()?;
     let journal = read_journal(alloc, tree)?;

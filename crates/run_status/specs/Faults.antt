@@ -17,8 +17,7 @@ abbrev pub status_of_recovery : RecoverFault → Status
 status_of_recovery (recovery.BadRecord g) = status.BadJournal (recovery.BadRecord g)
 status_of_recovery (recovery.BadStage g i) = status.BadJournal (recovery.BadStage g i)
 status_of_recovery recovery.Limit = status.Limit Groups
-status_of_recovery recovery.Failed = status.DeviceFault
-status_of_recovery recovery.Memory = status.Memory
+status_of_recovery (recovery.Tree fault) = status_of_tree fault
 
 abbrev pub status_of_word : WordFault → Status
 status_of_word words.Memory = status.Memory

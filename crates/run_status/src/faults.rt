@@ -35,8 +35,7 @@ impl From<RecoverFault> for Status {
             RecoverFault::Limit => Status::Limit {
                 quantity: Quantity::Groups,
             },
-            RecoverFault::Failed => Status::DeviceFault,
-            RecoverFault::Memory => Status::Memory,
+            RecoverFault::Tree(fault) => Status::from(fault),
         }
     }
 }

@@ -209,9 +209,7 @@ fn broken_part(alloc: Global, fault: RecoverFault) -> Result<String, AllocError>
     match fault {
         RecoverFault::BadRecord { group } => format!(in alloc; "{group} record"),
         RecoverFault::BadStage { group, index } => format!(in alloc; "{group} stage {index}"),
-        RecoverFault::Limit | RecoverFault::Failed | RecoverFault::Memory => {
-            Ok(String::new(alloc))
-        }
+        RecoverFault::Limit | RecoverFault::Tree(_) => Ok(String::new(alloc)),
     }
 }
 

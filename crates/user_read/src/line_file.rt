@@ -1,9 +1,7 @@
 ghost use Rattle.std.specs.Prelude.{◌≡◌, ◌⊎◌, IfErr, IfOk, IsErrOf, IsTrue, OnOk, true};
 ghost use Rattle.file_tree.specs.Disk.{CountsFault};
 ghost use Rattle.file_tree.specs.Paths.{is_path};
-ghost use Rattle.profile_stack.specs.declared.fault.ProfileFault.TheVariants.{Failed};
-ghost use Rattle.profile_read.specs.Faults.{IsMachine};
-ghost use Rattle.profile_read.specs.declared.fault.ReadFault.TheVariants.{Profile as ProfileFaults};
+ghost use Rattle.profile_read.specs.Faults.{IsMachine, device_failed};
 ghost use Rattle.user_read.specs.Files.{MissFile, MissFiles, ReadsFile, ReadsFiles, configured};
 ghost use Rattle.user_read.specs.Files.{counted, form_of, path_of, user_files};
 
@@ -45,7 +43,7 @@ pub(crate) fn read_line_files<T: Tree>(
     ensures fault { IsTrue T.tells → IfErr result (λ e. IsMachine e ⊎ MissFiles
         (T.story tree.old).now.holds (configured config.old) e) }
     ensures same { IsTrue T.tells → T.story tree.new ≡ T.story tree.old }
-    ensures faults { CountsFault (IsErrOf result (ProfileFaults Failed)) (T.faults tree.old)
+    ensures faults { CountsFault (IsErrOf result device_failed) (T.faults tree.old)
         (T.faults tree.new) }
 {
     for file in &USER_FILES {
@@ -66,7 +64,7 @@ fn read_one<T: Tree>(
     ensures fault { IsTrue T.tells → IfErr result (λ e. IsMachine e ⊎ MissFile
         (T.story tree.old).now.holds file (configured config.old) e) }
     ensures same { IsTrue T.tells → T.story tree.new ≡ T.story tree.old }
-    ensures faults { CountsFault (IsErrOf result (ProfileFaults Failed)) (T.faults tree.old)
+    ensures faults { CountsFault (IsErrOf result device_failed) (T.faults tree.old)
         (T.faults tree.new) }
 {
     let path = path_of(alloc, file)?;

@@ -5,7 +5,7 @@ ghost use Rattle.profile_stack.specs.Texts.{text_fault};
 ghost use Rattle.user_read.specs.Files.{AreOfConf, IsConfFault, make_conf};
 
 use config_text::{Assignment, TextFault, assignments};
-use file_tree::{Path, Tree};
+use file_tree::{Path, Tree, TreeFault};
 use profile_stack::{ProfileFault, read_text};
 use std::alloc::{AllocError, Global};
 
@@ -26,8 +26,8 @@ pub(crate) fn read_conf<T: Tree>(
     ensures fault { IsTrue T.tells → IfErr result
         (λ e. IsOfMachine e ⊎ IsConfFault (T.story tree.old).now.holds e) }
     ensures same { IsTrue T.tells → T.story tree.new ≡ T.story tree.old }
-    ensures faults { CountsFault (IsErrOf result ProfileFault.Failed) (T.faults tree.old)
-        (T.faults tree.new) }
+    ensures faults { CountsFault (IsErrOf result (ProfileFault.Tree TreeFault.Failed))
+        (T.faults tree.old) (T.faults tree.new) }
 {
     let file = path_of_conf(alloc)?;
     let text = read_text(alloc, tree, &file)?;
@@ -52,6 +52,6 @@ fn located(path: Path, fault: TextFault) -> ProfileFault
         TextFault::NotUtf8 { line } => ProfileFault::Text { path, line },
         TextFault::BadKey { line } => ProfileFault::Text { path, line },
         TextFault::OpenQuote { line } => ProfileFault::Text { path, line },
-        TextFault::Memory => ProfileFault::Memory,
+        TextFault::Memory => ProfileFault::Tree(TreeFault::Memory),
     }
 }

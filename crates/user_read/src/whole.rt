@@ -1,9 +1,7 @@
 ghost use Rattle.std.specs.Prelude.{◌≡◌, ◌⊎◌, IfErr, IfOk, IsErrOf, IsTrue, OnOk};
 ghost use Rattle.file_tree.specs.Disk.{CountsFault};
-ghost use Rattle.profile_stack.specs.declared.fault.ProfileFault.TheVariants.{Failed};
-ghost use Rattle.profile_read.specs.Faults.{IsMachine};
+ghost use Rattle.profile_read.specs.Faults.{IsMachine, device_failed};
 ghost use Rattle.profile_read.specs.Files.{content};
-ghost use Rattle.profile_read.specs.declared.fault.ReadFault.TheVariants.{Profile as ProfileFaults};
 ghost use Rattle.user_read.specs.Files.{Config, MissUser, ReadsUser, begun, configured};
 
 use crate::line_file::read_line_files;
@@ -28,7 +26,7 @@ pub fn read_user<T: Tree>(
     ensures fault { IsTrue T.tells → IfErr result (λ e. IsMachine e ⊎
         MissUser (T.story tree.old).now.holds (begun (content profile)) e) }
     ensures same { IsTrue T.tells → T.story tree.new ≡ T.story tree.old }
-    ensures faults { CountsFault (IsErrOf result (ProfileFaults Failed)) (T.faults tree.old)
+    ensures faults { CountsFault (IsErrOf result device_failed) (T.faults tree.old)
         (T.faults tree.new) }
 {
     let mut config = UserConfig::begin(alloc, profile);
@@ -45,7 +43,7 @@ fn read_into<T: Tree>(alloc: Global, tree: &mut T, config: &mut UserConfig) -> R
     ensures fault { IsTrue T.tells → IfErr result (λ e. IsMachine e ⊎ MissUser
         (T.story tree.old).now.holds (configured config.old) e) }
     ensures same { IsTrue T.tells → T.story tree.new ≡ T.story tree.old }
-    ensures faults { CountsFault (IsErrOf result (ProfileFaults Failed)) (T.faults tree.old)
+    ensures faults { CountsFault (IsErrOf result device_failed) (T.faults tree.old)
         (T.faults tree.new) }
 {
     let mut set = read_conf(alloc, tree, &config.defaults)?;
