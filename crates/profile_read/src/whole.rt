@@ -101,7 +101,6 @@ fn read_masks<T: Tree>(alloc: Global, tree: &mut T, profile: &mut Profile) -> Re
 }
 
 #[tactic(auto, unfolding(file_tree::specs::Paths::is_path))]
-#[tactic(auto, unfolding(file_tree::specs::Paths::is_path))]
 fn path_of_masks(alloc: Global) -> Result<Path, AllocError>
     ensures { IfOk result (λ p. p ≡ repository_masks) }
 {

@@ -1,6 +1,7 @@
 use Rattle.std.proofs.Common.{◌≡◌, ◌∙◌, ◌++◌, ◌∷◌, [], List, None, Some, ap, arith, inl, inr, subst, sym, ℕ}
 use Rattle.std.proofs.lemmas.Result.{err_from_is_err_and}
 use Rattle.file_tree.specs.Disk.{Map, Story}
+use Rattle.file_tree.specs.declared.fault.TreeFault.TheVariants as trees
 use Rattle.profile_stack.specs.Parents.{AreParents}
 use Rattle.profile_stack.proofs.Steps.{closed, misnamed, step, step_at, step_in, step_last}
 use Rattle.profile_stack.proofs.folders.+read_profile.Goals as goal
@@ -75,3 +76,13 @@ returns-clause-found g k c t =
     let inner : c.push.new.self.items ≡ above ++ c.args.folder.now ∷ [] = c.in_ok-push.ensures.items ∙ ap (λ (f : List ℕ). above ++ f ∷ []) c.in_ok-try_clone.ensures in
     let end : c.push-2.new.self.items ≡ now ++ c.args.folder.now ∷ [] = c.in_ok-push-2.ensures.items ∙ ap (λ (f : List ℕ). now ++ f ∷ []) c.in_ok-try_clone-2.ensures in
     rw end (closed m above c.args.folder.now before c.requires.room parents are c.push.new.self.items inner now None (step_last m c.push.new.self.items before parents c.loop-parent.parent-index now c.loop-parent-test.false (inv.0 t)))
+
+pub returns-in_err-try_clone-2-clause-fault : goal.returns-in_err-try_clone-2-clause-fault
+returns-in_err-try_clone-2-clause-fault g k c t =
+    let q = err_from_is_err_and c.from_residual-in_err-try_clone-2.result c.from_residual-in_err-try_clone-2.ensures.1 in
+    rw q.1 (inl (trees.Memory, q.2))
+
+pub returns-in_err-push-2-clause-fault : goal.returns-in_err-push-2-clause-fault
+returns-in_err-push-2-clause-fault g k c t =
+    let q = err_from_is_err_and c.from_residual-in_err-push-2.result c.from_residual-in_err-push-2.ensures.1 in
+    rw q.1 (inl (trees.Memory, q.2))
