@@ -2,20 +2,21 @@
 
 A program that is asked so reads lines and writes one line for each. It is the one that the gate has
 built, in crates/NAME/out, or the one that the environment names by NAME in capitals; with UNPROVED=1
-there it is made and run without any proof (`rt try`).
+there it is made without any proof (`rt try`), and kept.
 """
 import functools
 import itertools
 import os
-import re
 import subprocess
 import sys
-import tempfile
+from concurrent.futures import ThreadPoolExecutor
+
+import unproved
 
 TOP = os.path.dirname(os.path.dirname(os.path.dirname(os.path.abspath(__file__))))
 SECONDS = 900
-# A try without a proof prints at most 1 MiB in one run, so it gets so many lines at a time.
-AT_A_TIME = 200
+# The lines that a run of a program has at least.
+LEAST = 20
 
 
 class Wrong(Exception):
@@ -23,10 +24,12 @@ class Wrong(Exception):
 
 
 def command(name):
-    """The words that start a proved program, and the folder in which it starts."""
+    """The words that start a program, and the folder in which it starts."""
     folder = f"{TOP}/crates/{name}"
     made = os.environ.get(name.upper(), f"{folder}/out/{name}")
-    if not os.path.isfile(made):
+    if os.environ.get("UNPROVED"):
+        made = unproved.program(name)
+    elif not os.path.isfile(made):
         print(f"{name} is proved and built first", flush=True)
         quiet = {"stdin": subprocess.DEVNULL, "stdout": subprocess.DEVNULL}
         subprocess.run(["rt", "run"], cwd=folder, **quiet)
@@ -34,37 +37,27 @@ def command(name):
 
 
 def ask(name, lines):
-    """What the program answers to each of these lines, which hold no line feed."""
-    ran = run_unproved(name, lines) if os.environ.get("UNPROVED") else run_proved(name, lines)
-    answers = ran.stdout.decode(errors="surrogateescape").split("\n")[:-1]
-    if len(answers) != len(lines):
-        said = ran.stderr.decode(errors="replace")[-600:]
-        raise Wrong(f"{name} answered {len(answers)} of {len(lines)} lines: {said}")
-    return answers
-
-
-def text_of(lines):
-    return "".join(f"{line}\n" for line in lines).encode()
-
-
-def run_proved(name, lines):
-    """The run of the program over these lines."""
+    """What the program answers to each of these lines, which hold no line feed. Each line is a case
+    of its own, so the program runs on parts of them side by side."""
     words, folder = command(name)
-    how = {"input": text_of(lines), "stdout": subprocess.PIPE, "stderr": subprocess.PIPE}
-    return subprocess.run(words, cwd=folder, timeout=SECONDS, **how)
+    size = max(LEAST, -(-len(lines) // (os.cpu_count() or 1)))
+    parts = [lines[at : at + size] for at in range(0, len(lines), size)]
+    with ThreadPoolExecutor() as pool:
+        answers = pool.map(functools.partial(answers_of, words, folder), parts)
+        return list(itertools.chain.from_iterable(answers))
 
 
-def run_unproved(name, lines):
-    """The same without any proof: the program is made once, and run for some lines after others."""
-    words = ["rt", "try", "--steps", "1000000000", "--seconds", str(SECONDS), "--cases"]
-    how = {"cwd": f"{TOP}/crates/{name}", "stdout": subprocess.PIPE, "stderr": subprocess.PIPE}
-    with tempfile.TemporaryDirectory() as cases:
-        for at in range(0, len(lines), AT_A_TIME):
-            with open(f"{cases}/{at:09}", "wb") as case:
-                case.write(text_of(lines[at : at + AT_A_TIME]))
-        ran = subprocess.run([*words, cases], timeout=4 * SECONDS, **how)
-    ran.stdout = re.sub(rb"^== \d{9}\n", b"", ran.stdout, flags=re.MULTILINE)
-    return ran
+def answers_of(words, folder, lines):
+    """What a program that is started so answers to each of these lines."""
+    text = "".join(f"{line}\n" for line in lines).encode()
+    how = {"input": text, "stdout": subprocess.PIPE, "stderr": subprocess.PIPE}
+    ran = subprocess.run(words, cwd=folder, timeout=SECONDS, **how)
+    answers = ran.stdout.decode(errors="surrogateescape").split("\n")[:-1]
+    if ran.returncode != 0 or len(answers) != len(lines):
+        said = ran.stderr.decode(errors="replace")[-600:]
+        ended = f"status {ran.returncode}, {len(answers)} of {len(lines)} lines answered"
+        raise Wrong(f"{words[0]}: {ended}: {said}")
+    return answers
 
 
 def hold(rows, answers):
