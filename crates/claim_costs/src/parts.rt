@@ -91,15 +91,7 @@ pub fn batch_of(alloc: Global, paths: u32) -> Result<Batch, AllocError>
         line: Vec::new(alloc),
     };
     let groups = vec![in alloc; group]?;
-    let history = Vec::with_capacity(alloc, 1)?;
-    let acknowledged = Vec::with_capacity(alloc, 1)?;
-    Ok(Batch {
-        turns,
-        book,
-        groups,
-        history,
-        acknowledged,
-    })
+    Batch::new(alloc, turns, book, groups)
 }
 
 /// The record of a group that places so many empty files.

@@ -1,5 +1,5 @@
 ghost use Rattle.std.specs.Prelude.{◌≡◌, ◌+◌, ◌<◌, ◌≤◌, ◌^◌, [], length};
-ghost use Rattle.std.specs.Prelude.{IfErr, IsErrOf, IsTrue, MatchOption, OnOk};
+ghost use Rattle.std.specs.Prelude.{IfErr, IfOk, IsErrOf, IsTrue, MatchOption, OnOk};
 ghost use Rattle.std.specs.Prelude.{vec_capacity, vec_len};
 ghost use Rattle.basics.specs.Members.{AreDistinct, Has};
 ghost use Rattle.file_tree.specs.Disk.{CountsFault};
@@ -18,7 +18,7 @@ use file_tree::{Sink, Tree};
 use merge_core::Core;
 use merge_site::{Site, SiteGroup};
 use owner_book::OwnerBook;
-use std::alloc::Global;
+use std::alloc::{AllocError, Global};
 
 /// Groups that are to be merged in this order, and what their run takes, made before the first
 /// change of the tree.
@@ -31,6 +31,36 @@ pub struct Batch {
     pub groups: Vec<SiteGroup>,
     pub history: Vec<u32>,
     pub acknowledged: Vec<u32>,
+}
+
+impl Batch {
+    /// A batch of these turns, with room for what their run notes.
+    pub fn new(
+        alloc: Global,
+        turns: Vec<Turn>,
+        book: OwnerBook,
+        groups: Vec<SiteGroup>,
+    ) -> Result<Batch, AllocError>
+        ensures turns { IfOk result (λ b. b.turns.items ≡ turns.items) }
+        ensures book { IfOk result (λ b. b.book ≡ book) }
+        ensures groups { IfOk result (λ b. b.groups.items ≡ groups.items) }
+        ensures none { IfOk result (λ b. b.history.items ≡ []) }
+        ensures untold { IfOk result (λ b. b.acknowledged.items ≡ []) }
+        ensures room { IfOk result (λ b. vec_len b.history + length turns.items ≤
+            vec_capacity b.history) }
+        ensures more { IfOk result (λ b. vec_len b.acknowledged + length turns.items ≤
+            vec_capacity b.acknowledged) }
+    {
+        let history = Vec::with_capacity(alloc, turns.len())?;
+        let acknowledged = Vec::with_capacity(alloc, turns.len())?;
+        Ok(Batch {
+            turns,
+            book,
+            groups,
+            history,
+            acknowledged,
+        })
+    }
 }
 
 /// What a run of groups gives back.
