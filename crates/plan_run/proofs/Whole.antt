@@ -155,7 +155,7 @@ device_or_not (Err (stops.Merge merges.Limit)) = inr (λ e. cc e)
 device_or_not (Err (stops.Build id)) = inr (λ e. cc e)
 device_or_not (Err (stops.Image id)) = inr (λ e. cc e)
 
-rose_later : (a b c : ℕ) → Rose a b → b ≤ c → Rose a c
+pub rose_later : (a b c : ℕ) → Rose a b → b ≤ c → Rose a c
 rose_later a b c (inl lt) le = inl (omega (arith, lt, le))
 rose_later a b c (inr full) le = inr (omega (arith, full, le))
 
@@ -211,6 +211,9 @@ module _ (f : TreeFault) (end : Result (Unit {0}) PlanStop) (is : end ≡ Err (s
 
   pub unmerged_ok : (P : Type 0) → OnOk end P
   unmerged_ok P = subst (λ (x : Result (Unit {0}) PlanStop). OnOk x P) (sym is) tt
+
+  pub unmerged_fine : (P : Type 0) → OnOk (merge_end tt end) P
+  unmerged_fine P = subst (λ (x : Result (Unit {0}) PlanStop). OnOk (merge_end tt x) P) (sym is) tt
 
   pub unmerged_build : (Q : PlanStop → Type 0) → Q (stops.Merge (stop_of_tree f)) → IfErr end Q
   unmerged_build Q q = subst (λ (x : Result (Unit {0}) PlanStop). IfErr x Q) (sym is) q

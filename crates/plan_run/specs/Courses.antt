@@ -1,5 +1,5 @@
 -- How the turns of a plan's run went, before its journal is cleared.
-use Rattle.std.specs.Prelude.{◌≡◌, ℕ, suc, Bool, List, [], ◌∷◌, Result, length, ⊤}
+use Rattle.std.specs.Prelude.{◌≡◌, ℕ, suc, Bool, List, [], ◌∷◌, IsTrue, Result, length, ⊤}
 use Rattle.build_pool.specs.declared.orders.Order.{Order}
 use Rattle.file_tree.specs.Disk.{Map}
 use Rattle.file_tree.specs.declared.objects.Entry.{Entry}
@@ -8,6 +8,7 @@ use Rattle.plan_law.specs.Plans.{Group, group_at}
 use Rattle.database_law.specs.Packages.{Installed}
 use Rattle.group_run.specs.Lines.{IsBeginning}
 use Rattle.group_run.specs.Runs.{IsOver, IsUnderWay}
+use Rattle.group_run.specs.Through.{HasRoom}
 use Rattle.group_run.specs.Turns.{numbers}
 use Rattle.group_run.specs.declared.stop.Stop.{Stop}
 use Rattle.group_run.specs.declared.turn.Turn.{Turn}
@@ -15,11 +16,24 @@ use Rattle.exchange_make.specs.Keys.{folders_with}
 use Rattle.exchange_make.specs.Places.{ArePlaces}
 use Rattle.exchange_make.specs.declared.newcomer.Newcomer.{Newcomer}
 use Rattle.exchange_make.specs.declared.places.Places.{Places}
-use Rattle.plan_make.specs.Held.{Holdings, holding_all}
-use Rattle.plan_make.specs.Plans.{coming}
+use Rattle.plan_make.specs.Held.{HoldOwned, Holdings, holding_all, holdings_of}
+use Rattle.plan_make.specs.Plans.{AreSiteGroups, coming}
 use Rattle.plan_make.specs.Turns.{AreNewcomersAt, AreTurns, IsTurnOf}
 use Rattle.plan_make.specs.declared.job.Job.{Job}
 use Rattle.plan_run.specs.Runs.{upto}
+use Rattle.plan_run.specs.declared.preparing.Course.{Course}
+
+-- this is what the run of a plan takes, over a map with these packages: the places of its packages,
+-- what its site is opened for, what is held of those that go, and room for all of its groups
+pub record IsCourse (tells : Bool) (m : Map) (ps : List Installed) (plan : List Group)
+    (jobs : List Job) (course : Course) : Type 0 where
+  pub places : ArePlaces (folders_with ps (coming plan)) course.places
+  pub groups : AreSiteGroups ps plan jobs course.groups.items
+  pub held : IsTrue tells → HoldOwned m ps plan (holdings_of course.progress.held)
+  pub history : course.progress.history.items ≡ []
+  pub acknowledged : course.progress.acknowledged.items ≡ []
+  pub room : HasRoom (length plan) course.progress.history
+  pub more : HasRoom (length plan) course.progress.acknowledged
 
 -- these turns are those of the first groups of the plan, for any packages whose places these are
 pub record AreMade (Image : Order → List Entry → Type 0) (plan : List Group) (jobs : List Job)

@@ -1,4 +1,4 @@
-ghost use Rattle.std.specs.Prelude.{◌≡◌, ◌≤◌, ℕ, List, IsErrOf, IsTrue};
+ghost use Rattle.std.specs.Prelude.{◌≡◌, ◌≤◌, ℕ, List, IsErrOf, IsTrue, Some};
 ghost use Rattle.file_tree.specs.Disk.{Rose};
 ghost use Rattle.group_run.specs.Runs.{IsOver};
 ghost use Rattle.group_run.specs.Turns.{AreFirst};
@@ -8,35 +8,32 @@ ghost use Rattle.group_run.specs.declared.turn.Turn.{Turn};
 ghost use Rattle.plan_run.specs.Ends.{ClosesAs, build_of, joined_end};
 ghost use Rattle.plan_run.specs.Runs.{merge_end};
 
+use crate::merge::Merged;
+use crate::preparing::Progress;
 use crate::stop::PlanStop;
 use file_tree::{Sink, Tree};
 use group_run::{Closed, Stop, close_run};
-use merge_core::Core;
 use merge_site::Site;
 use std::alloc::Global;
-
-/// What the site of a plan's run gives back.
-#[derive(Drop)]
-pub(crate) struct Parts<T, S> {
-    pub(crate) tree: T,
-    pub(crate) sink: S,
-    pub(crate) machine: Core,
-    pub(crate) end: Result<(), PlanStop>,
-}
 
 /// Clears the journal of a run that ended so.
 pub(crate) fn close<T: Tree, S: Sink>(
     alloc: Global,
     site: Site<T, S>,
     end: Result<(), PlanStop>,
-) -> Parts<T, S>
+    progress: Progress,
+) -> Merged<T, S>
     ensures went { (turns : List Turn) (history acknowledged : List ℕ) → IsOver T.tells
         (T.story site.opened).now.holds turns history acknowledged (merge_end tt end) site →
         IsTrue T.tells →
         WentWith (AreFirst (T.story site.opened).now.holds site.opened_book site.groups turns)
         (T.story site.opened) (T.story result.tree) history (merge_end tt result.end) }
-    ensures machine { result.machine ≡ site.keeping }
-    ensures sink { result.sink ≡ site.sink }
+    ensures rest { result ≡ record result {
+      sink = site.sink;
+      machine = Some site.keeping;
+      history = progress.history;
+      acknowledged = progress.acknowledged;
+    } }
     ensures end { ClosesAs end result.end }
     ensures count { T.faults site.tree ≤ T.faults result.tree }
     ensures rose { IsErrOf result.end (PlanStop.Merge merges.Device) →
@@ -50,12 +47,18 @@ pub(crate) fn close<T: Tree, S: Sink>(
         machine,
         end,
     } = close_run(alloc, site, merge);
-    let end = joined(end, build);
-    Parts {
+    let Progress {
+        history,
+        acknowledged,
+        ..
+    } = progress;
+    Merged {
         tree,
         sink,
-        machine,
-        end,
+        machine: Some(machine),
+        end: joined(end, build),
+        history,
+        acknowledged,
     }
 }
 

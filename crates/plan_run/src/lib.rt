@@ -3,7 +3,8 @@
 //! those that it adds come.
 //!
 //! **A contract sees** the tree as its story, a plan as `plan_law` does, what is made of its groups
-//! as `plan_make` does, and what a crash leaves by the groups that `group_run` speaks of.
+//! as `plan_make` does, and what a crash leaves by the groups that `group_run` speaks of. What a run
+//! promises is one record, `MergesPlan` (`specs/Merges.antt`).
 //!
 //! **Proved**: each group's images are what builders of the pool tell for its orders, and its turn is
 //! made of the plan, over what those before it left; the groups come in their order, and the first

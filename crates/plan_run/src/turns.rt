@@ -14,6 +14,7 @@ ghost use Rattle.plan_run.specs.Courses.{RanPlan};
 ghost use Rattle.plan_run.specs.Runs.{SaysBuild, merge_end, upto};
 
 use crate::newcomers::newcomers_of;
+use crate::preparing::Progress;
 use crate::stop::PlanStop;
 use build_pool::{BuildPool, Builder};
 use exchange_make::Places;
@@ -21,7 +22,7 @@ use file_tree::{Sink, Tree};
 use group_run::merge_next;
 use merge_site::Site;
 use plan_check::Group;
-use plan_make::{Held, Job, make_turn};
+use plan_make::{Job, make_turn};
 use std::alloc::Global;
 
 /// Merges the groups of a plan one after another, until one is stopped.
@@ -32,28 +33,27 @@ pub(crate) fn merge_groups<T: Tree, S: Sink, B: Builder>(
     plan: &[Group],
     jobs: &[Job],
     places: &Places,
-    held: &mut Held,
-    history: &mut Vec<u32>,
-    acknowledged: &mut Vec<u32>,
+    progress: &mut Progress,
 ) -> Result<(), PlanStop>
     requires begun { IsUnderWay T.tells (T.story site.old.opened).now.holds []
-        history.old.items acknowledged.old.items site.old }
+        progress.old.history.items progress.old.acknowledged.items site.old }
     requires groups { length site.old.groups ≡ length plan.now + 1 }
     requires jobs { AreJobs plan.now jobs.now }
     requires small { length plan.now < 2 ^ 31 }
     requires resting { 0 < length pool.old.resting }
-    requires room { HasRoom (length plan.now) history.old }
-    requires more { HasRoom (length plan.now) acknowledged.old }
+    requires room { HasRoom (length plan.now) progress.old.history }
+    requires more { HasRoom (length plan.now) progress.old.acknowledged }
     ensures same { IsSameSite site.old site.new }
     ensures ran { RanPlan (IsBuilt B.tells B.told pool.old.resting) plan.now jobs.now places.now
-        (holdings_of held.old) T.tells (T.story site.old.opened).now.holds history.new.items
-        acknowledged.new.items (merge_end tt result) site.new }
-    ensures merged { OnOk result (history.new.items ≡ upto (length plan.now)) }
-    ensures written { IsTrue S.tells → Wrote
-        (AreLines (line_in site.old.groups) history.new.items acknowledged.new.items)
+        (holdings_of progress.old.held) T.tells (T.story site.old.opened).now.holds
+        progress.new.history.items progress.new.acknowledged.items (merge_end tt result) site.new }
+    ensures merged { OnOk result (progress.new.history.items ≡ upto (length plan.now)) }
+    ensures written { IsTrue S.tells → Wrote (AreLines (line_in site.old.groups)
+        progress.new.history.items progress.new.acknowledged.items)
         (S.written site.old.sink) (S.written site.new.sink) }
     ensures build { IfErr result (SaysBuild (IsPastLimit B.tells B.told pool.old.resting)
-        (PoolRose B.faults pool.old pool.new) (orders_at jobs.now (length history.new.items))) }
+        (PoolRose B.faults pool.old pool.new)
+        (orders_at jobs.now (length progress.new.history.items))) }
     ensures ids { SameIds B.number pool.old pool.new }
     ensures lent { pool.new.lent ≡ pool.old.lent }
     ensures builds { faults_of B.faults pool.old ≤ faults_of B.faults pool.new }
@@ -65,8 +65,14 @@ pub(crate) fn merge_groups<T: Tree, S: Sink, B: Builder>(
     for (place, group) in plan.iter().enumerate() {
         let newcomers = newcomers_of(alloc, pool, &group.additions, &jobs[place].orders)?;
         let number = place as u32 + 1;
+        let held = &mut progress.held;
         let turn = make_turn(alloc, places, held, group, number, newcomers)?;
-        merge_next(site, turn, history, acknowledged)?;
+        merge_next(
+            site,
+            turn,
+            &mut progress.history,
+            &mut progress.acknowledged,
+        )?;
     }
     Ok(())
 }

@@ -14,6 +14,6 @@ returns-clause-went g c turns history acknowledged over t =
     let opened = g.T.Tree.story a.opened in
     let r = c.close_run-tree.result.end in
     let before = subst (λ (x : Result (Unit {0}) Stop). IsOver g.T.Tree.tells opened.now.holds turns history acknowledged x a) (sym c.parted-merge.ensures.merge) over in
-    let same = ap (merge_end tt) (c.joined-end.ensures ∙ ap (joined_end r) c.parted-merge.ensures.build) ∙ merge_joined c.args.end r in
+    let same = ap (merge_end tt) (c.joined.ensures ∙ ap (joined_end r) c.parted-merge.ensures.build) ∙ merge_joined c.args.end r in
     subst (λ (x : Result (Unit {0}) Stop). WentWith (AreFirst opened.now.holds a.opened_book a.groups turns) opened (g.T.Tree.story c.close_run-tree.result.tree) history x) (sym same)
     (c.close_run-tree.ensures.went turns history acknowledged before t)

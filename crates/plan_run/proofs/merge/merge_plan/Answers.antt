@@ -1,52 +1,39 @@
-use Rattle.std.proofs.Common.{◌≡◌, ◌∙◌, List, ap, arith, inl, subst, sym}
-use Rattle.file_tree.specs.Disk.{Story}
-use Rattle.journal.specs.Group.{Group}
+use Rattle.std.proofs.Common.{◌≡◌, ◌∙◌, List, Err, ap, refl, subst, sym}
+use Rattle.file_tree.specs.Disk.{CountsFault, Story}
+use Rattle.file_tree.specs.declared.fault.TreeFault.TheVariants as trees
 use Rattle.merge_core.specs.Trail.{IsAtRest}
-use Rattle.group_run.specs.Lines.{AreLines, Wrote}
-use Rattle.plan_run.proofs.Unmade.{of_tree, went_unmade}
-use Rattle.image_build.specs.Images.{IsBuilt}
 use Rattle.plan_make.specs.Held.{HoldOwned, holdings_of}
-use Rattle.plan_make.specs.Plans.{line_for}
+use Rattle.plan_make.specs.Plans.{AreSiteGroups}
 use Rattle.plan_make.specs.declared.job.Job.{Job}
-use Rattle.plan_run.specs.Runs.{WentFor, merge_end}
-use Rattle.plan_run.proofs.Whole.{rose_earlier, unmerged_plain}
+use Rattle.plan_run.proofs.Promised.{never_began, read_before}
 use Rattle.plan_run.proofs.merge.merge_plan.Goals as goal
 
 pub run_course-requires-clause-rest : goal.run_course-requires-clause-rest
 run_course-requires-clause-rest g c t = subst (λ (s : Story). IsAtRest s.now.holds s.now) (sym (c.course_of.ensures.same t)) (c.requires.rest t)
 
-pub run_course-requires-clause-held : goal.run_course-requires-clause-held
-run_course-requires-clause-held g c t =
-    subst (λ (s : Story). HoldOwned s.now.holds c.args.installed.now c.args.plan.now (holdings_of c.in-Ok.course.held)) (sym (c.course_of.ensures.same t)) (c.in-Ok.ensures.held t)
+pub run_course-requires-clause-course : goal.run_course-requires-clause-course
+run_course-requires-clause-course g c =
+    let is = c.in-Ok.ensures.course in
+    record {
+      places = is.places;
+      groups = subst (λ (js : List Job). AreSiteGroups c.args.installed.now c.args.plan.now js c.in-Ok.course.groups.items) c.deref.ensures.value is.groups;
+      held = λ t. subst (λ (s : Story). HoldOwned s.now.holds c.args.installed.now c.args.plan.now (holdings_of c.in-Ok.course.progress.held)) (sym (c.course_of.ensures.same t)) (is.held t);
+      history = is.history;
+      acknowledged = is.acknowledged;
+      room = is.room;
+      more = is.more;
+    }
 
-pub returns-in-Ok-clause-went : goal.returns-in-Ok-clause-went
-returns-in-Ok-clause-went g c t =
-    let B = g.B.Builder in
-    let r = c.run_course.result in
-    let Goes : List Job → Story → Type 0 = λ js s. WentFor (IsBuilt B.tells B.told c.args.pool.now.resting) c.args.task.book c.args.installed.now c.args.plan.now js s (g.T.Tree.story r.tree) r.history.items (merge_end tt r.end) in
-    subst (λ (s : Story). Goes c.args.task.jobs.items s) (c.course_of.ensures.same t)
-    (subst (λ (js : List Job). Goes js (g.T.Tree.story c.course_of.new.tree)) c.deref-in-Ok.ensures.value (c.run_course.ensures.went t))
+pub returns-in-Ok : goal.returns-in-Ok
+returns-in-Ok g c =
+    read_before g.T.Tree g.S.Sink g.B.Builder c.args.installed.now c.args.plan.now c.args.task c.args.tree c.args.sink c.args.pool.now c.run_course.new.pool c.run_course.result
+    c.course_of.new.tree c.course_of.ensures.same c.course_of.ensures.faults.later c.run_course.ensures
 
-pub returns-in-Ok-clause-written : goal.returns-in-Ok-clause-written
-returns-in-Ok-clause-written g c st =
-    let r = c.run_course.result in
-    subst (λ (js : List Job). Wrote (AreLines (line_for js) r.history.items r.acknowledged.items) (g.S.Sink.written c.args.sink) (g.S.Sink.written r.sink)) c.deref-in-Ok.ensures.value (c.run_course.ensures.written st)
-
-pub returns-in-Ok-clause-device : goal.returns-in-Ok-clause-device
-returns-in-Ok-clause-device g c =
-    let T = g.T.Tree in
-    let early = c.course_of.ensures.faults.later in
-    let late = c.run_course.ensures.device in
-    let later = late.later in
-    record { later = omega (arith, early, later); rose = λ failed. rose_earlier (T.faults c.args.tree) (T.faults c.course_of.new.tree) (T.faults c.run_course.result.tree) early (late.rose failed) }
-
-pub returns-clause-went : goal.returns-clause-went
-returns-clause-went g c t =
-    let old = g.T.Tree.story c.args.tree in
-    let r = c.unmerged.result in
+pub returns-in-Err : goal.returns-in-Err
+returns-in-Err g c =
     let e = c.unmerged.ensures in
-    inl (
-      went_unmade (λ (x : Group). ⊥) old (g.T.Tree.story r.tree) r.history.items (merge_end tt r.end) (c.requires.rest t) (ap g.T.Tree.story e.tree ∙ c.course_of.ensures.same t) e.history
-          (of_tree c.in-Err.fault (merge_end tt r.end) (ap (merge_end tt) e.end)),
-      unmerged_plain c.in-Err.fault r.end e.end,
-    )
+    let r = c.unmerged.result in
+    let before = c.course_of.ensures in
+    let counts : CountsFault (c.in-Err.fault ≡ trees.Failed) (g.T.Tree.faults c.args.tree) (g.T.Tree.faults c.course_of.new.tree) = record { later = before.faults.later; rose = λ failed. before.faults.rose (c.in-Err.is ∙ ap Err failed) } in
+    never_began g.T.Tree g.S.Sink g.B.Builder c.args.installed.now c.args.plan.now c.args.task c.args.tree c.args.sink c.args.pool.now c.args.pool.now r
+    c.in-Err.fault c.requires.rest (λ t. ap g.T.Tree.story e.tree ∙ before.same t) (subst (λ x. CountsFault (c.in-Err.fault ≡ trees.Failed) (g.T.Tree.faults c.args.tree) (g.T.Tree.faults x)) (sym e.tree) counts) e.sink refl e.machine e.end e.history e.acknowledged

@@ -29,8 +29,8 @@ returns-in_err-newcomers-clause-ran g c =
     let f = c.in_err-newcomers.field-0.0 in
     let plain = build_plain (IsPastLimit B.tells B.told c.loop-place.pool.resting) (PoolRose B.faults c.loop-place.pool c.newcomers_of.new.pool) c.deref-in-loop-place.result.now f c.in_err-newcomers.ensures.stops in
     rw (p.1, p.2)
-    (ran_now (IsBuilt B.tells B.told c.args.pool.now.resting) c.args.plan.now c.args.jobs.now c.args.places.now (holdings_of c.args.held.now) g.T.Tree.tells (g.T.Tree.story c.args.site.now.opened).now.holds
-    c.loop-place.place (holdings_of c.loop-place.held) c.loop-place.history.items c.loop-place.acknowledged.items c.loop-place.site (merge_end tt (Err f)) (omega (arith, c.loop-place-test.true)) inv.0 plain)
+    (ran_now (IsBuilt B.tells B.told c.args.pool.now.resting) c.args.plan.now c.args.jobs.now c.args.places.now (holdings_of c.args.progress.now.held) g.T.Tree.tells (g.T.Tree.story c.args.site.now.opened).now.holds
+    c.loop-place.place (holdings_of c.loop-place.progress.held) c.loop-place.progress.history.items c.loop-place.progress.acknowledged.items c.loop-place.site (merge_end tt (Err f)) (omega (arith, c.loop-place-test.true)) inv.0 plain)
 
 pub returns-in_err-newcomers-clause-build : goal.returns-in_err-newcomers-clause-build
 returns-in_err-newcomers-clause-build g c =
@@ -44,9 +44,9 @@ returns-in_err-newcomers-clause-build g c =
     let M = IsPastLimit B.tells B.told old.resting in
     let F = PoolRose B.faults old new in
     let place : ℕ = c.loop-place.place in
-    let long : length c.loop-place.history.items ≡ place = ap length (inv.0.under.merged ∙ inv.0.numbered) ∙ length_upto place in
+    let long : length c.loop-place.progress.history.items ≡ place = ap length (inv.0.under.merged ∙ inv.0.numbered) ∙ length_upto place in
     let lt : place < length c.args.jobs.now = omega (arith, c.loop-place-test.true, c.requires.jobs.count) in
-    let orders : c.deref-in-loop-place.result.now ≡ orders_at c.args.jobs.now (length c.loop-place.history.items) =
+    let orders : c.deref-in-loop-place.result.now ≡ orders_at c.args.jobs.now (length c.loop-place.progress.history.items) =
     c.deref-in-loop-place.ensures.value ∙ (ap (λ (j : Job). j.orders.items) (sym c.index-jobs-place.is) ∙ (sym (orders_here c.args.jobs.now place c.index-jobs-place.result lt c.index-jobs-place.is) ∙ ap (orders_at c.args.jobs.now) (sym long))) in
     rw (p.1, p.2)
     (subst (λ (os : List Order). SaysBuild M F os f) orders
@@ -59,8 +59,8 @@ returns-in_err-turn-clause-ran g c =
     let inv = c.loop-place.invariant in
     let p = err_from_is_err_and c.from_residual-in_err-turn.result c.from_residual-in_err-turn.ensures.1 in
     rw (p.1, p.2)
-    (ran_now (IsBuilt B.tells B.told c.args.pool.now.resting) c.args.plan.now c.args.jobs.now c.args.places.now (holdings_of c.args.held.now) g.T.Tree.tells (g.T.Tree.story c.args.site.now.opened).now.holds
-    c.loop-place.place (holdings_of c.loop-place.held) c.loop-place.history.items c.loop-place.acknowledged.items c.loop-place.site (Err merges.Memory) (omega (arith, c.loop-place-test.true)) inv.0 (λ of. of))
+    (ran_now (IsBuilt B.tells B.told c.args.pool.now.resting) c.args.plan.now c.args.jobs.now c.args.places.now (holdings_of c.args.progress.now.held) g.T.Tree.tells (g.T.Tree.story c.args.site.now.opened).now.holds
+    c.loop-place.place (holdings_of c.loop-place.progress.held) c.loop-place.progress.history.items c.loop-place.progress.acknowledged.items c.loop-place.site (Err merges.Memory) (omega (arith, c.loop-place-test.true)) inv.0 (λ of. of))
 
 pub merge_next-requires-clause-begun : goal.merge_next-requires-clause-begun
 merge_next-requires-clause-begun g c =
@@ -68,7 +68,7 @@ merge_next-requires-clause-begun g c =
     let place : ℕ = c.loop-place.place in
     let t = c.in_ok-turn.turn in
     let number = c.in_ok-turn.ensures.number in
-    let under = subst (λ o. IsUnderWay g.T.Tree.tells (g.T.Tree.story o).now.holds inv.0.turns c.loop-place.history.items c.loop-place.acknowledged.items c.loop-place.site) (sym inv.1.opened) inv.0.under in
+    let under = subst (λ o. IsUnderWay g.T.Tree.tells (g.T.Tree.story o).now.holds inv.0.turns c.loop-place.progress.history.items c.loop-place.progress.acknowledged.items c.loop-place.site) (sym inv.1.opened) inv.0.under in
     (inv.0.turns, (λ has. not_yet place t.group (omega (arith, number)) (subst (λ (l : List ℕ). Has l t.group) inv.0.numbered has)), under)
 
 pub merge_next-requires-clause-room : goal.merge_next-requires-clause-room
@@ -98,10 +98,10 @@ returns-in_err-merge_next-clause-ran g c =
     let f = c.in_err-merge_next.field-0.0 in
     let t = c.in_ok-turn.turn in
     let ns = c.in_ok-newcomers.newcomers.items in
-    let last = holdings_of c.loop-place.held in
+    let last = holdings_of c.loop-place.progress.held in
     let next = holdings_of c.make_turn.new.held in
-    let history = c.loop-place.history.items in
-    let told = c.loop-place.acknowledged.items in
+    let history = c.loop-place.progress.history.items in
+    let told = c.loop-place.progress.acknowledged.items in
     let lt : place < length plan = omega (arith, c.loop-place-test.true) in
     let lt2 : place < length jobs = omega (arith, lt, c.requires.jobs.count) in
     let group : group_at plan place ≡ c.index-plan-place.result = group_is plan place c.index-plan-place.result lt c.index-plan-place.is in
@@ -114,14 +114,14 @@ returns-in_err-merge_next-clause-ran g c =
       images = subst (λ (os : List Order). AllZip (λ o n. Image o n.image.items) os ns) orders
           (all_built B.told B.tells old.resting c.loop-place.pool.resting c.deref-in-loop-place.result.now ns inv.7 c.in_ok-newcomers.ensures.images);
     } in
-    let up = up_next Image plan jobs c.args.places.now (holdings_of c.args.held.now) g.T.Tree.tells (g.T.Tree.story c.args.site.now.opened).now.holds place last next history told c.loop-place.site inv.0 t ns number comes
+    let up = up_next Image plan jobs c.args.places.now (holdings_of c.args.progress.now.held) g.T.Tree.tells (g.T.Tree.story c.args.site.now.opened).now.holds place last next history told c.loop-place.site inv.0 t ns number comes
     (λ ps are. subst (λ (x : Group). IsTurnOf ps plan x last ns t) (sym group) (c.in_ok-turn.ensures.turn ps plan are)) (λ i q. c.in_ok-turn.ensures.held q i) in
     let under = subst (λ o. IsUnderWay g.T.Tree.tells (g.T.Tree.story o).now.holds inv.0.turns history told c.loop-place.site) (sym inv.1.opened) inv.0.under in
     let fresh : Has (numbers inv.0.turns) t.group → ⊥ = λ has. not_yet place t.group (omega (arith, number)) (subst (λ (l : List ℕ). Has l t.group) inv.0.numbered has) in
     let ends = c.in_err-merge_next.ensures.stopped inv.0.turns fresh under in
     let ended = subst (λ o. EndsAt g.T.Tree.tells (g.T.Tree.story o).now.holds (inv.0.turns ++ t ∷ []) c.merge_next.new.history.items c.merge_next.new.acknowledged.items c.merge_next.new.site f) inv.1.opened ends in
     rw (p.1, p.2)
-    (ran_stopped Image plan jobs c.args.places.now (holdings_of c.args.held.now) g.T.Tree.tells (g.T.Tree.story c.args.site.now.opened).now.holds place next (inv.0.turns ++ t ∷ [])
+    (ran_stopped Image plan jobs c.args.places.now (holdings_of c.args.progress.now.held) g.T.Tree.tells (g.T.Tree.story c.args.site.now.opened).now.holds place next (inv.0.turns ++ t ∷ [])
     c.merge_next.new.history.items c.merge_next.new.acknowledged.items c.merge_next.new.site f lt up.0 up.1 ended)
 
 pub returns-in_err-merge_next-clause-written : goal.returns-in_err-merge_next-clause-written
@@ -130,7 +130,7 @@ returns-in_err-merge_next-clause-written g c st =
     let start = g.S.Sink.written c.args.site.now.sink in
     subst (λ (l : List SiteGroup). Wrote (AreLines (line_in l) c.merge_next.new.history.items c.merge_next.new.acknowledged.items) start (g.S.Sink.written c.merge_next.new.site.sink)) i.1.groups
     (c.merge_next.ensures.written st start
-    (subst (λ (l : List SiteGroup). Wrote (AreLines (line_in l) c.loop-place.history.items c.loop-place.acknowledged.items) start (g.S.Sink.written c.loop-place.site.sink)) (sym i.1.groups) (i.4 st)))
+    (subst (λ (l : List SiteGroup). Wrote (AreLines (line_in l) c.loop-place.progress.history.items c.loop-place.progress.acknowledged.items) start (g.S.Sink.written c.loop-place.site.sink)) (sym i.1.groups) (i.4 st)))
 
 pub loop-place-preserved : goal.loop-place-preserved
 loop-place-preserved g c =
@@ -143,10 +143,10 @@ loop-place-preserved g c =
     let Image = IsBuilt B.tells B.told old.resting in
     let t = c.in_ok-turn.turn in
     let ns = c.in_ok-newcomers.newcomers.items in
-    let last = holdings_of c.loop-place.held in
+    let last = holdings_of c.loop-place.progress.held in
     let next = holdings_of c.make_turn.new.held in
-    let history = c.loop-place.history.items in
-    let told = c.loop-place.acknowledged.items in
+    let history = c.loop-place.progress.history.items in
+    let told = c.loop-place.progress.acknowledged.items in
     let start = g.S.Sink.written c.args.site.now.sink in
     let lt : place < length plan = omega (arith, c.loop-place-test.true) in
     let lt2 : place < length jobs = omega (arith, lt, c.requires.jobs.count) in
@@ -160,7 +160,7 @@ loop-place-preserved g c =
       images = subst (λ (os : List Order). AllZip (λ o n. Image o n.image.items) os ns) orders
           (all_built B.told B.tells old.resting c.loop-place.pool.resting c.deref-in-loop-place.result.now ns inv.7 c.in_ok-newcomers.ensures.images);
     } in
-    let up = up_next Image plan jobs c.args.places.now (holdings_of c.args.held.now) g.T.Tree.tells (g.T.Tree.story c.args.site.now.opened).now.holds place last next history told c.loop-place.site inv.0 t ns number comes
+    let up = up_next Image plan jobs c.args.places.now (holdings_of c.args.progress.now.held) g.T.Tree.tells (g.T.Tree.story c.args.site.now.opened).now.holds place last next history told c.loop-place.site inv.0 t ns number comes
     (λ ps are. subst (λ (x : Group). IsTurnOf ps plan x last ns t) (sym group) (c.in_ok-turn.ensures.turn ps plan are)) (λ i q. c.in_ok-turn.ensures.held q i) in
     let under = subst (λ o. IsUnderWay g.T.Tree.tells (g.T.Tree.story o).now.holds inv.0.turns history told c.loop-place.site) (sym inv.1.opened) inv.0.under in
     let fresh : Has (numbers inv.0.turns) t.group → ⊥ = λ has. not_yet place t.group (omega (arith, number)) (subst (λ (l : List ℕ). Has l t.group) inv.0.numbered has) in
@@ -195,5 +195,5 @@ pub returns-clause-ran : goal.returns-clause-ran
 returns-clause-ran g c =
     let B = g.B.Builder in
     let inv = c.loop-place.invariant in
-    ran_now (IsBuilt B.tells B.told c.args.pool.now.resting) c.args.plan.now c.args.jobs.now c.args.places.now (holdings_of c.args.held.now) g.T.Tree.tells (g.T.Tree.story c.args.site.now.opened).now.holds
-    c.loop-place.place (holdings_of c.loop-place.held) c.loop-place.history.items c.loop-place.acknowledged.items c.loop-place.site (Ok tt) (omega (arith, c.loop-place.auto.place-end)) inv.0 tt
+    ran_now (IsBuilt B.tells B.told c.args.pool.now.resting) c.args.plan.now c.args.jobs.now c.args.places.now (holdings_of c.args.progress.now.held) g.T.Tree.tells (g.T.Tree.story c.args.site.now.opened).now.holds
+    c.loop-place.place (holdings_of c.loop-place.progress.held) c.loop-place.progress.history.items c.loop-place.progress.acknowledged.items c.loop-place.site (Ok tt) (omega (arith, c.loop-place.auto.place-end)) inv.0 tt

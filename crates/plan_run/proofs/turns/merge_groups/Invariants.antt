@@ -11,11 +11,11 @@ use Rattle.plan_run.proofs.turns.merge_groups.Given as goal
 
 abbrev pub invariant-loop-place : goal.invariant-loop-place
 invariant-loop-place g l =
-    IsUpTo (IsBuilt g.B.Builder.tells g.B.Builder.told l.fn.pool.resting) l.plan l.jobs l.places (holdings_of l.fn.held) g.T.Tree.tells (g.T.Tree.story l.fn.site.opened).now.holds l.place (holdings_of l.held) l.history.items l.acknowledged.items l.site
+    IsUpTo (IsBuilt g.B.Builder.tells g.B.Builder.told l.fn.pool.resting) l.plan l.jobs l.places (holdings_of l.fn.progress.held) g.T.Tree.tells (g.T.Tree.story l.fn.site.opened).now.holds l.place (holdings_of l.progress.held) l.progress.history.items l.progress.acknowledged.items l.site
     × IsSameSite l.fn.site l.site
-    × ((n : ℕ) → l.place + n ≡ length l.plan → HasRoom n l.history)
-    × ((n : ℕ) → l.place + n ≡ length l.plan → HasRoom n l.acknowledged)
-    × (IsTrue g.S.Sink.tells → Wrote (AreLines (line_in l.fn.site.groups) l.history.items l.acknowledged.items) (g.S.Sink.written l.fn.site.sink) (g.S.Sink.written l.site.sink))
+    × ((n : ℕ) → l.place + n ≡ length l.plan → HasRoom n l.progress.history)
+    × ((n : ℕ) → l.place + n ≡ length l.plan → HasRoom n l.progress.acknowledged)
+    × (IsTrue g.S.Sink.tells → Wrote (AreLines (line_in l.fn.site.groups) l.progress.history.items l.progress.acknowledged.items) (g.S.Sink.written l.fn.site.sink) (g.S.Sink.written l.site.sink))
     × (g.T.Tree.faults l.fn.site.tree ≤ g.T.Tree.faults l.site.tree)
     × (g.S.Sink.faults l.fn.site.sink ≤ g.S.Sink.faults l.site.sink)
     × TellAlike g.B.Builder.told l.fn.pool.resting l.pool.resting
