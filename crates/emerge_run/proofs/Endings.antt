@@ -5,6 +5,7 @@ use Rattle.file_tree.specs.Disk.{IsUntouched, Map, Story}
 use Rattle.file_tree.specs.Moments.{Since}
 use Rattle.file_tree.specs.Paths.{is_below}
 use Rattle.file_tree.proofs.Moments.{since_same, since_start, since_then, since_weaker}
+use Rattle.file_tree.specs.declared.limits.Quantity.TheVariants.{Candidates, Groups, Packages, Paths, RecordBytes}
 use Rattle.dep_atom.specs.declared.package.PackageId.{PackageId}
 use Rattle.database_law.specs.Packages.{Installed}
 use Rattle.journal.specs.Group as journal
@@ -12,6 +13,7 @@ use Rattle.journal.specs.Group.{applied}
 use Rattle.merge_core.specs.Trail.{IsAtRest}
 use Rattle.journal.specs.Names.{jobs}
 use Rattle.journal.specs.Recovered.{IsRecovered}
+use Rattle.owner_book.specs.declared.fault.ImageBad.{ImageBad}
 use Rattle.recovery.specs.Promise.{IsFaultOf}
 use Rattle.file_tree.specs.declared.fault.TreeFault.TheVariants as trees
 use Rattle.recovery.specs.declared.fault.RecoverFault.{RecoverFault}
@@ -24,11 +26,13 @@ use Rattle.plan_make.specs.declared.job.Job.{Job}
 use Rattle.plan_run.specs.Runs.{upto}
 use Rattle.plan_sound.specs.Ends.{Course, Images, IsReached, IsRunOf}
 use Rattle.emerge_run.specs.Answers.{Asks, AsksEarly, AsksMerge, AsksPlan}
-use Rattle.emerge_run.specs.Outcomes.{EndsEarly, HasRecovered, IsChoice, IsChosenFor, IsEarly, IsOfTree, IsToShow, MergedTo, Outcome}
+use Rattle.emerge_run.specs.Outcomes.{EndsEarly, HasRecovered, IsChoice, IsChosenFor, IsEarly, IsOfMerge, IsOfTree, IsRefusal, IsToShow, MergedTo, Outcome}
+use Rattle.emerge_run.specs.Openings.{HasPlan, IsUnread}
 use Rattle.emerge_run.specs.Package.{AreMade, Making}
 use Rattle.emerge_run.specs.Words.{AskForMerge, AskForOther, EndsAtWords, IsOfWords, IsRequest, IsUsage}
 use Rattle.emerge_words.specs.declared.request.WordFault.{WordFault}
 use Rattle.run_status.specs.Faults.{status_of_recovery}
+use Rattle.run_status.specs.declared.collision.Collision.{Collision}
 use Rattle.run_status.specs.declared.status.Part.TheVariants as part
 use Rattle.run_status.specs.declared.status.Status.{Status}
 use Rattle.run_status.specs.declared.status.Status.TheVariants as status
@@ -66,6 +70,44 @@ asks_words words m = at_words words (AsksEarly words m) (λ f h. h) (λ h. h) tt
 
 words_not_of_tree : (words : List (List ℕ)) (s : Status) → EndsAtWords words s → IsOfTree s → ⊥
 words_not_of_tree words = at_words words (λ s. IsOfTree s → ⊥) (λ f h of. of) (λ h of. of) (λ of. of)
+
+-- ---- what a merge answers
+
+module _ (P : Status → Type 0) (ok : (n : ℕ) → P (status.Ok n)) (collision : (c : Collision) → P (status.Collision c)) (image : (b : ImageBad) → P (status.BadImage b)) (build : (id : PackageId) → P (status.BuildFailed id))
+    (paths : P (status.Limit Paths)) (bytes : P (status.Limit RecordBytes)) (device : P status.DeviceFault) (output : P status.OutputFault) (memory : P status.Memory) where
+  -- what holds of each of these answers
+  pub at_merge : (s : Status) → IsOfMerge s → P s
+  at_merge (status.Ok groups) of = ok groups
+  at_merge (status.Usage fault) of = absurd of
+  at_merge (status.BadText path line) of = absurd of
+  at_merge (status.BadDatabase fault) of = absurd of
+  at_merge (status.BadJournal fault) of = absurd of
+  at_merge (status.Inconsistent fault) of = absurd of
+  at_merge (status.NoCandidate atom reasons) of = absurd of
+  at_merge status.NoSolution of = absurd of
+  at_merge (status.BacktrackLimit refuted) of = absurd of
+  at_merge (status.PlanRefused fault) of = absurd of
+  at_merge (status.Collision c) of = collision c
+  at_merge (status.BadImage b) of = image b
+  at_merge (status.BuildFailed id) of = build id
+  at_merge status.DeviceFault of = device
+  at_merge status.OutputFault of = output
+  at_merge (status.Limit Groups) of = absurd of
+  at_merge (status.Limit Packages) of = absurd of
+  at_merge (status.Limit Candidates) of = absurd of
+  at_merge (status.Limit Paths) of = paths
+  at_merge (status.Limit RecordBytes) of = bytes
+  at_merge status.Memory of = memory
+  at_merge (status.NotBuilt what) of = absurd of
+
+pub merge_not_of_words : (s : Status) → IsOfMerge s → IsOfWords s → ⊥
+merge_not_of_words = at_merge (λ s. IsOfWords s → ⊥) (λ n e. e) (λ c e. e) (λ b e. e) (λ id e. e) (λ e. e) (λ e. e) (λ e. e) (λ e. e) (λ e. e)
+
+pub merge_not_refused : (s : Status) → IsOfMerge s → IsRefusal s → ⊥
+merge_not_refused = at_merge (λ s. IsRefusal s → ⊥) (λ n e. e) (λ c e. e) (λ b e. e) (λ id e. e) (λ e. e) (λ e. e) (λ e. e) (λ e. e) (λ e. e)
+
+pub merge_not_unread : (s : Status) → IsOfMerge s → IsUnread s → ⊥
+merge_not_unread = at_merge (λ s. IsUnread s → ⊥) (λ n e. e) (λ c e. e) (λ b e. e) (λ id e. e) (λ e. e) (λ e. e) (λ e. e) (λ e. e) (λ e. e)
 
 -- ---- what recovery answers
 
@@ -123,6 +165,26 @@ early_kept words old mid new s same has asks =
     let here = recovered_same old mid new same has in
     record { answer = asks; moments = here.moments; tree = λ of. here }
 
+pub early_no_plan : (s : Status) → IsEarly s → HasPlan s → ⊥
+early_no_plan (status.Ok groups) early of = early
+early_no_plan (status.Usage fault) early of = of
+early_no_plan (status.BadText path line) early of = of
+early_no_plan (status.BadDatabase fault) early of = of
+early_no_plan (status.BadJournal fault) early of = of
+early_no_plan (status.Inconsistent fault) early of = of
+early_no_plan (status.NoCandidate atom reasons) early of = of
+early_no_plan status.NoSolution early of = of
+early_no_plan (status.BacktrackLimit refuted) early of = of
+early_no_plan (status.PlanRefused fault) early of = of
+early_no_plan (status.Collision c) early of = early
+early_no_plan (status.BadImage b) early of = early
+early_no_plan (status.BuildFailed id) early of = early
+early_no_plan status.DeviceFault early of = of
+early_no_plan status.OutputFault early of = of
+early_no_plan (status.Limit quantity) early of = of
+early_no_plan status.Memory early of = of
+early_no_plan (status.NotBuilt what) early of = of
+
 -- what such a run asks for, whatever the images
 early_asks : (words : List (List ℕ)) (opening : Map) (Image : Images) (s : Status) → IsEarly s → AsksEarly words opening s → Asks words opening Image [] s
 early_asks words opening Image (status.Ok groups) of asks = absurd of
@@ -153,31 +215,38 @@ rest_reads m empty q = at (is_below jobs q) refl
     at true e = empty q e ∙ sym (ap (λ (b : Bool). if b then None else m q) e)
     at false e = sym (ap (λ (b : Bool). if b then None else m q) e)
 
+-- a run came to this answer, which is asked for, and leaves this
+abbrev pub Comes : List (List ℕ) → Images → Story → Story → List ℕ → Status → Type 0
+Comes words Image old new history s = Asks words old.now.holds Image history s × Outcome words Image old new history s
+
 module _ (words : List (List ℕ)) (Image : Images) (old new : Story) (s : Status) where
   -- a run that merged nothing
-  outcome_kept : Asks words old.now.holds Image [] s → Since (IsImageOrAlike old.now) old new → (IsOfTree s → HasRecovered old new) → Outcome words Image old new [] s
-  outcome_kept asks since tree = record {
-    answer = asks;
-    moments = since_weaker (IsImageOrAlike old.now) (IsReached (IsChoice words) Image [] old.now) (λ c h. inl (refl, h)) old new since;
-    crash = λ c is. inl (refl, since.now c is);
-    left = λ healthy. inl (refl, since.now);
-    tree = λ of.
-        let has = tree of in (
-          new.now.holds,
-          has.recovered,
-          (None, record { groups = []; of = λ x there. absurd there; are = refl; reads = rest_reads new.now.holds has.rest.empty; untouched = has.rest.untouched }),
-        );
-  }
+  outcome_kept : Asks words old.now.holds Image [] s → Since (IsImageOrAlike old.now) old new → (IsOfTree s → HasRecovered old new) → (IsOfWords s → new ≡ old) → Comes words Image old new [] s
+  outcome_kept asks since tree unchanged = (
+    asks,
+    record {
+      moments = since_weaker (IsImageOrAlike old.now) (IsReached (IsChoice words) Image [] old.now) (λ c h. inl (refl, h)) old new since;
+      crash = λ c is. inl (refl, since.now c is);
+      left = λ healthy. inl (refl, since.now);
+      tree = λ of.
+          let has = tree of in (
+            new.now.holds,
+            has.recovered,
+            (None, record { groups = []; of = λ x there. absurd there; are = refl; reads = rest_reads new.now.holds has.rest.empty; untouched = has.rest.untouched }),
+          );
+      unchanged = unchanged;
+    },
+  )
 
-  outcome_early : IsEarly s → EndsEarly words old new s → Outcome words Image old new [] s
-  outcome_early of ends = outcome_kept (early_asks words old.now.holds Image s of ends.answer) ends.moments ends.tree
+  outcome_early : IsEarly s → (IsOfWords s → new ≡ old) → EndsEarly words old new s → Comes words Image old new [] s
+  outcome_early of unchanged ends = outcome_kept (early_asks words old.now.holds Image s of ends.answer) ends.moments ends.tree unchanged
 
-  outcome_over : HasRecovered old new → Asks words old.now.holds Image [] s → Outcome words Image old new [] s
-  outcome_over has asks = outcome_kept asks has.moments (λ of. has)
+  outcome_over : HasRecovered old new → (IsOfWords s → ⊥) → Asks words old.now.holds Image [] s → Comes words Image old new [] s
+  outcome_over has other asks = outcome_kept asks has.moments (λ of. has) (λ of. absurd (other of))
 
 -- a run that merged nothing has no history
-outcome_none : (words : List (List ℕ)) (Image : Images) (old new : Story) (history : List ℕ) (s : Status) → history ≡ [] → Outcome words Image old new [] s → Outcome words Image old new history s
-outcome_none words Image old new history s none outcome = subst (λ (h : List ℕ). Outcome words Image old new h s) (sym none) outcome
+outcome_none : (words : List (List ℕ)) (Image : Images) (old new : Story) (history : List ℕ) (s : Status) → history ≡ [] → Comes words Image old new [] s → Comes words Image old new history s
+outcome_none words Image old new history s none comes = subst (λ (h : List ℕ). Comes words Image old new h s) (sym none) comes
 
 -- ---- a plan that is only shown, and one without groups
 
@@ -193,21 +262,24 @@ rest_asks words opening m Image ps plan recovered (found, chosen, same, jobs) no
       (m, recovered, inl (record { found = found; ready = chosen.ready; jobs = []; are = jobs; asks = (sym (ap (λ (p : List Group). upto (length p)) empty), sym (ap (λ (p : List Group). length p) empty)) })),
     )
 
-module _ (words : List (List ℕ)) (Image : Images) (old mid new : Story) (ps : List Installed) (plan : List Group) (history : List ℕ) (s : Status) (same : new ≡ mid) (none : history ≡ []) where
-  pub outcome_shown : (text : List ℕ) (t : Status) → HasRecovered old mid → IsToShow words mid.now.holds ps text plan → s ≡ t → (t ≡ status.Ok 0) ⊎ (t ≡ status.OutputFault) → Outcome words Image old new history s
-  outcome_shown text t has is told ends =
-      outcome_none words Image old new history s none (outcome_over words Image old new s (recovered_same old mid new same has)
-      (subst (Asks words old.now.holds Image []) (sym told) (shown_asks words old.now.holds mid.now.holds Image ps text plan t has.recovered is ends)))
+-- what was shown, or couldn't be written, isn't told of the words
+shown_not_of_words : (s : Status) → (s ≡ status.Ok 0) ⊎ (s ≡ status.OutputFault) → IsOfWords s → ⊥
+shown_not_of_words s (inl ok) of = subst IsOfWords ok of
+shown_not_of_words s (inr fault) of = subst IsOfWords fault of
 
-  pub outcome_rest : HasRecovered old mid → IsChoice words mid.now.holds ps plan [] → plan ≡ [] → s ≡ status.Ok 0 → Outcome words Image old new history s
-  outcome_rest has choice empty told =
-      outcome_none words Image old new history s none (outcome_over words Image old new s (recovered_same old mid new same has)
-      (subst (Asks words old.now.holds Image []) (sym told) (rest_asks words old.now.holds mid.now.holds Image ps plan has.recovered choice empty)))
+module _ (words : List (List ℕ)) (Image : Images) (old mid : Story) (history : List ℕ) (none : history ≡ []) where
+  pub outcome_shown : (ps : List Installed) (text : List ℕ) (plan : List Group) (s : Status) → HasRecovered old mid → IsToShow words mid.now.holds ps text plan → (s ≡ status.Ok 0) ⊎ (s ≡ status.OutputFault) → Comes words Image old mid history s
+  outcome_shown ps text plan s has is ends =
+      outcome_none words Image old mid history s none (outcome_over words Image old mid s has (shown_not_of_words s ends)
+      (shown_asks words old.now.holds mid.now.holds Image ps text plan s has.recovered is ends))
 
-  pub outcome_unfound : (t : Status) → EndsEarly words old mid t → IsEarly t → s ≡ t → Outcome words Image old new history s
-  outcome_unfound t ends early told =
-      outcome_none words Image old new history s none (subst (λ (x : Status). Outcome words Image old new [] x) (sym told)
-      (subst (λ (x : Story). Outcome words Image old x [] t) (sym same) (outcome_early words Image old mid t early ends)))
+  pub outcome_rest : (ps : List Installed) (plan : List Group) → HasRecovered old mid → IsChoice words mid.now.holds ps plan [] → plan ≡ [] → Comes words Image old mid history (status.Ok 0)
+  outcome_rest ps plan has choice empty =
+      outcome_none words Image old mid history (status.Ok 0) none (outcome_over words Image old mid (status.Ok 0) has (λ of. of)
+      (rest_asks words old.now.holds mid.now.holds Image ps plan has.recovered choice empty))
+
+  pub outcome_unfound : (s : Status) → EndsEarly words old mid s → IsEarly s → (IsOfWords s → mid ≡ old) → Comes words Image old mid history s
+  outcome_unfound s ends early unchanged = outcome_none words Image old mid history s none (outcome_early words Image old mid s early unchanged ends)
 
 -- ---- a run that merges a plan
 
@@ -235,7 +307,7 @@ module _ (words : List (List ℕ)) (opening m : Map) (Image : Images) (history :
 
 -- a run whose plan was merged
 module _ (words : List (List ℕ)) (Image : Images) (old mid new : Story) (ps : List Installed) (plan : List Group) (js : List Job) (history : List ℕ) (s : Status)
-    (has : HasRecovered old mid) (choice : IsChoice words mid.now.holds ps plan js) (merged : MergedTo Image ps plan js mid new history s) where
+    (has : HasRecovered old mid) (choice : IsChoice words mid.now.holds ps plan js) (asks : AsksMerge Image ps plan js mid.now.holds history s) (of : IsOfMerge s) (merged : MergedTo Image ps plan js mid new history s) where
   abbrev m : Map
   m = mid.now.holds
 
@@ -254,8 +326,8 @@ module _ (words : List (List ℕ)) (Image : Images) (old mid new : Story) (ps : 
   reached : (among : List ℕ) (c : Map) → RecoversWith (AreMade merged.made) m among c → Reached among c
   reached among c h = inr (m, has.recovered, (course merged.made, same_run merged.made (λ Run. RecoversWith Run m among c) h))
 
-  whole : IsChosenFor words m ps choice.0 → AsksMerge Image ps plan js m history s → AsksPlan choice.1.asked m Image history s
-  whole chosen asks = record {
+  whole : IsChosenFor words m ps choice.0 → AsksPlan choice.1.asked m Image history s
+  whole chosen = record {
     found = choice.0;
     ready = choice.1.ready;
     jobs = js;
@@ -266,49 +338,18 @@ module _ (words : List (List ℕ)) (Image : Images) (old mid new : Story) (ps : 
   answered : Asks words old.now.holds Image history s
   answered =
       let chosen = choice.1 in
-      merge_asks words old.now.holds m Image history chosen.asked chosen.is has.recovered ps plan js s merged.answer (whole chosen merged.answer)
+      merge_asks words old.now.holds m Image history chosen.asked chosen.is has.recovered ps plan js s asks (whole chosen)
 
-  pub outcome_merged : Outcome words Image old new history s
-  outcome_merged = record {
-    answer = answered;
-    moments = since_then (Reached []) old mid new (since_weaker (IsImageOrAlike old.now) (Reached []) (λ c h. inl (refl, h)) old mid has.moments)
-        (since_weaker (RecoversWith (AreMade merged.made) m []) (Reached []) (λ c h. reached [] c h) mid new merged.moments);
-    crash = λ c k. reached history c (merged.crash c k);
-    left = λ healthy. inr (m, has.recovered, (course merged.made, same_run merged.made (λ Run. LeavesWith Run m history new.now) (merged.left healthy)));
-    tree = λ of. (m, has.recovered, (course merged.made, same_run merged.made (λ Run. ReadsWith Run m history new.now) (merged.tree (λ e. subst IsOfTree e of) (λ e. subst IsOfTree e of))));
-  }
+  pub outcome_merged : Comes words Image old new history s
+  outcome_merged = (
+    answered,
+    record {
+      moments = since_then (Reached []) old mid new (since_weaker (IsImageOrAlike old.now) (Reached []) (λ c h. inl (refl, h)) old mid has.moments)
+          (since_weaker (RecoversWith (AreMade merged.made) m []) (Reached []) (λ c h. reached [] c h) mid new merged.moments);
+      crash = λ c k. reached history c (merged.crash c k);
+      left = λ healthy. inr (m, has.recovered, (course merged.made, same_run merged.made (λ Run. LeavesWith Run m history new.now) (merged.left healthy)));
+      tree = λ of_tree. (m, has.recovered, (course merged.made, same_run merged.made (λ Run. ReadsWith Run m history new.now) (merged.tree (λ e. subst IsOfTree e of_tree) (λ e. subst IsOfTree e of_tree))));
+      unchanged = λ of_words. absurd (merge_not_of_words s of of_words);
+    },
+  )
 
--- ---- behind the last line
-
--- a last line makes no refusal of the words of another status
-pub usage_kept : {X : Type 0} (came s : Status) (f : WordFault) → (s ≡ came) ⊎ ((s ≡ status.Memory) ⊎ ((s ≡ status.OutputFault) × X)) → s ≡ status.Usage f → came ≡ status.Usage f
-usage_kept came s f (inl is) e = sym is ∙ e
-usage_kept came s f (inr (inl is)) e = absurd (cc (is, e))
-usage_kept came s f (inr (inr (is, x))) e = absurd (cc (is, e))
-
--- a run that came to one status ends with another one, which asks for nothing
-outcome_as : (words : List (List ℕ)) (Image : Images) (old new : Story) (history : List ℕ) (s s' : Status) → (s ≡ status.DeviceFault → s' ≡ status.DeviceFault)
-    → Asks words old.now.holds Image history s' → (IsOfTree s' → ⊥) → Outcome words Image old new history s → Outcome words Image old new history s'
-outcome_as words Image old new history s s' stays asks other outcome = record {
-  answer = asks;
-  moments = outcome.moments;
-  crash = outcome.crash;
-  left = λ healthy. outcome.left (λ e. healthy (stays e));
-  tree = λ of. absurd (other of);
-}
-
--- the status that a run ends with is the one it came to, want of memory, or the output's fault
-pub outcome_finished : (words : List (List ℕ)) (Image : Images) (old new : Story) (history : List ℕ) (s s' : Status) (rose : Type 0)
-    → (s' ≡ s) ⊎ ((s' ≡ status.Memory) ⊎ ((s' ≡ status.OutputFault) × rose)) → (s ≡ status.DeviceFault → s' ≡ status.DeviceFault)
-    → Outcome words Image old new history s → Outcome words Image old new history s'
-outcome_finished words Image old new history s s' rose (inl same) stays h = subst (λ (x : Status). Outcome words Image old new history x) (sym same) h
-outcome_finished words Image old new history s s' rose (inr (inl memory)) stays h =
-    outcome_as words Image old new history s s' stays (subst (λ (x : Status). Asks words old.now.holds Image history x) (sym memory) tt) (λ of. subst IsOfTree memory of) h
-outcome_finished words Image old new history s s' rose (inr (inr (output, r))) stays h =
-    outcome_as words Image old new history s s' stays (subst (λ (x : Status). Asks words old.now.holds Image history x) (sym output) tt) (λ of. subst IsOfTree output of) h
-
--- a run that ends with a builder's failure came to it
-pub built_before : (s s' : Status) (id : PackageId) (rose : Type 0) → (s' ≡ s) ⊎ ((s' ≡ status.Memory) ⊎ ((s' ≡ status.OutputFault) × rose)) → s' ≡ status.BuildFailed id → s ≡ status.BuildFailed id
-built_before s s' id rose (inl same) is = sym same ∙ is
-built_before s s' id rose (inr (inl memory)) is = absurd (cc (memory, is))
-built_before s s' id rose (inr (inr (output, r))) is = absurd (cc (output, is))

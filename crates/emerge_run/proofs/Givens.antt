@@ -57,12 +57,6 @@ module _ (Such : List Installed → Type 0) (TooMuch : Quantity → Type 0) wher
   pub gives_none : (s : Status) (ps : List Installed) → (HasRead s → ⊥) → (s ≡ status.Limit Paths → TooMuch Paths) → ps ≡ [] → GivesBack Such TooMuch s ps
   gives_none s ps none much empty = record { read = λ of. absurd (none of); paths = λ is. inr (empty, much is); whole = inl empty }
 
-  -- a last line that can't be written, or made, changes nothing of it
-  pub gives_finished : (came s : Status) (rose : Type 0) (ps : List Installed) → (s ≡ came) ⊎ ((s ≡ status.Memory) ⊎ ((s ≡ status.OutputFault) × rose)) → GivesBack Such TooMuch came ps → GivesBack Such TooMuch s ps
-  gives_finished came s rose ps (inl same) gives = subst (λ (x : Status). GivesBack Such TooMuch x ps) (sym same) gives
-  gives_finished came s rose ps (inr (inl memory)) gives = record { read = λ of. absurd (subst HasRead memory of); paths = λ is. absurd (cc (memory, is)); whole = gives.whole }
-  gives_finished came s rose ps (inr (inr (output, r))) gives = record { read = λ of. absurd (subst HasRead output of); paths = λ is. absurd (cc (output, is)); whole = gives.whole }
-
 -- the packages of what there is to choose from are installed
 of_choices : (m : Map) (flips : ℕ) (k : Choices) (ps : List Installed) → AreChoices m flips k → ps ≡ k.packages → AreInstalled m ps
 of_choices m flips k ps are same = subst (AreInstalled m) (sym same) (record { database = are.opening.database; tidy = are.opening.tidy })

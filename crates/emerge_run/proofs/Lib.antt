@@ -6,3 +6,4 @@ pub mod Jobs
 pub mod Lines
 pub mod Merged
 pub mod Owners
+pub mod Promises

@@ -160,30 +160,29 @@ module _ (Image : Images) (ps : List Installed) (plan : List Group) (jobs : List
     ended_asks (Err (plans.Build id)) went all (o, has, is, failed) = (o, has, is)
     ended_asks (Err (plans.Image id)) went all (o, has, is, (image, made, many)) = inl (record { order = o; ordered = has; image = image; made = made; many = many })
 
-    asked_so : (end : Result ⊤ PlanStop) (s : Status) → IsStatusOf ids (length plan) end s → Goes (merge_end tt end) → OnOk end (history ≡ upto (length plan)) → IfErr end (Builds Image Failed jobs history) → Asked s
+    pub asked_so : (end : Result ⊤ PlanStop) (s : Status) → IsStatusOf ids (length plan) end s → Goes (merge_end tt end) → OnOk end (history ≡ upto (length plan)) → IfErr end (Builds Image Failed jobs history) → Asked s
     asked_so end s (inl is) went all builds = subst Asked (sym is) (ended_asks end went all builds)
     asked_so end s (inr (memory, collides)) went all builds = subst Asked (sym memory) tt
 
-    healthy : (end : Result ⊤ PlanStop) (s : Status) → IsStatusOf ids (length plan) end s → s ≢ status.DeviceFault → IsErrOf (merge_end tt end) stops.Device → ⊥
-    healthy end s (inl is) h e = h (is ∙ ap (status_of_end ids (length plan)) (stop_in end stops.Device e))
-    healthy end s (inr (memory, collides)) h e = subst EndsAtCollision (stop_in end stops.Device e) collides
+  healthy : (end : Result ⊤ PlanStop) (s : Status) → IsStatusOf ids (length plan) end s → s ≢ status.DeviceFault → IsErrOf (merge_end tt end) stops.Device → ⊥
+  healthy end s (inl is) h e = h (is ∙ ap (status_of_end ids (length plan)) (stop_in end stops.Device e))
+  healthy end s (inr (memory, collides)) h e = subst EndsAtCollision (stop_in end stops.Device e) collides
 
-    fed : (end : Result ⊤ PlanStop) (s : Status) → IsStatusOf ids (length plan) end s → s ≢ status.Memory → IsErrOf (merge_end tt end) stops.Memory → ⊥
-    fed end s (inl is) h e = h (is ∙ ap (status_of_end ids (length plan)) (stop_in end stops.Memory e))
-    fed end s (inr (memory, collides)) h e = h memory
+  fed : (end : Result ⊤ PlanStop) (s : Status) → IsStatusOf ids (length plan) end s → s ≢ status.Memory → IsErrOf (merge_end tt end) stops.Memory → ⊥
+  fed end s (inl is) h e = h (is ∙ ap (status_of_end ids (length plan)) (stop_in end stops.Memory e))
+  fed end s (inr (memory, collides)) h e = h memory
 
-    pub merged_to : (end : Result ⊤ PlanStop) (s : Status) → IsStatusOf ids (length plan) end s → Goes (merge_end tt end) → OnOk end (history ≡ upto (length plan)) → IfErr end (Builds Image Failed jobs history) → MergedTo Image ps plan jobs old new history s
-    merged_to end s is went all builds =
-        let way = way_of (merge_end tt end) went in
-        let w = way.1 in
-        record {
-          answer = asked_so end s is went all builds;
-          made = way.0;
-          moments = w.moments;
-          crash = w.crash;
-          left = λ h. w.left (healthy end s is h);
-          tree = λ h k. w.tree (healthy end s is h) (fed end s is k);
-        }
+  pub merged_to : (end : Result ⊤ PlanStop) (s : Status) → IsStatusOf ids (length plan) end s → Goes (merge_end tt end) → MergedTo Image ps plan jobs old new history s
+  merged_to end s is went =
+      let way = way_of (merge_end tt end) went in
+      let w = way.1 in
+      record {
+        made = way.0;
+        moments = w.moments;
+        crash = w.crash;
+        left = λ h. w.left (healthy end s is h);
+        tree = λ h k. w.tree (healthy end s is h) (fed end s is k);
+      }
 
 -- ---- which statuses a merge ends with
 

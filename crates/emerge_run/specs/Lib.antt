@@ -1,7 +1,9 @@
 pub mod Answers
 pub mod Builds
 pub mod Collisions
+pub mod Commands
 pub mod Headline
+pub mod Merges
 pub mod Openings
 pub mod Outcomes
 pub mod Output

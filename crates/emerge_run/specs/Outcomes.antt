@@ -17,24 +17,22 @@ use Rattle.plan_make.specs.declared.job.Job.{Job}
 use Rattle.plan_sound.specs.Ends.{HasGroups, Images, IsReached, LeavesGroups}
 use Rattle.plan_text.specs.Plans.{plan_value}
 use Rattle.plan_text.specs.Texts.{plan_text}
-use Rattle.emerge_run.specs.Answers.{Asks, AsksEarly, AsksMerge, IsReady}
+use Rattle.emerge_run.specs.Answers.{AsksEarly, IsReady}
 use Rattle.emerge_run.specs.Builds.{AreJobsOf}
 use Rattle.emerge_run.specs.Package.{AreMade, Making}
-use Rattle.emerge_run.specs.Words.{IsRequest}
+use Rattle.emerge_run.specs.Words.{IsOfWords, IsRequest}
 use Rattle.emerge_run.specs.declared.choosing.Work.{Work}
 use Rattle.emerge_run.specs.declared.choosing.Work.TheVariants as work
 use Rattle.run_status.specs.declared.status.Part.TheVariants.{Command}
 use Rattle.run_status.specs.declared.status.Status.{Status}
 use Rattle.run_status.specs.declared.status.Status.TheVariants as status
 
--- How the merge of a plan over a tree at rest ended: with the answer that it asks for, and with
--- what was made for its groups, if memory and the device let it. Its first groups are the history.
--- Each crash image of each moment recovers to the tree from before with some first groups, at the
--- end with all of the history; and the tree has just these, unless the device failed or memory ran
--- out.
+-- What the merge of a plan leaves of a tree at rest, with what was made for its groups, if memory
+-- and the device let it. Its first groups are the history. Each crash image of each moment recovers
+-- to the tree from before with some first groups, at the end with all of the history; and the tree
+-- has just these, unless the device failed or memory ran out.
 pub record MergedTo (Image : Images) (ps : List Installed) (plan : List Group) (jobs : List Job)
     (old new : Story) (history : List ℕ) (s : Status) : Type 0 where
-  pub answer : AsksMerge Image ps plan jobs old.now.holds history s
   pub made : Option (Making Image ps plan jobs old.now.holds)
   pub moments : Since (RecoversWith (AreMade made) old.now.holds []) old new
   pub crash : Leaves (RecoversWith (AreMade made) old.now.holds history) new.now
@@ -72,18 +70,18 @@ IsOfTree status.OutputFault = ⊥
 IsOfTree status.Memory = ⊥
 IsOfTree s = ⊤
 
--- How a run over this tree ended: with the answer that it asks for. Each crash image of each
--- moment is one of the beginning, or recovers to what the tree recovered to, with first groups of
--- the run, at the end with all of the history; unless the device failed with just these; and a run
--- that tells how it went leaves a tree that reads so.
+-- What a run leaves of this tree. Each crash image of each moment is one of the beginning, or
+-- recovers to what the tree recovered to, with first groups of the run, at the end with all of the
+-- history; unless the device failed with just these; a run that tells how it went leaves a tree
+-- that reads so; and one that ends at its words leaves it as it was.
 pub record Outcome (words : List (List ℕ)) (Image : Images) (old new : Story) (history : List ℕ)
     (s : Status) : Type 0 where
-  pub answer : Asks words old.now.holds Image history s
   pub moments : Since (IsReached (IsChoice words) Image [] old.now) old new
   pub crash : Leaves (IsReached (IsChoice words) Image history old.now) new.now
   pub left : s ≢ status.DeviceFault →
       LeavesGroups (IsChoice words) Image history old.now new.now
   pub tree : IsOfTree s → HasGroups (IsChoice words) Image history old.now new.now
+  pub unchanged : IsOfWords s → new ≡ old
 
 -- a run has recovered its tree, which is at rest
 pub record HasRecovered (old new : Story) : Type 0 where

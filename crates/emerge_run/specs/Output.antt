@@ -1,5 +1,5 @@
 -- What a run writes: the lines of its groups, or the plan that it shows, and its last line.
-use Rattle.std.specs.Prelude.{◌≡◌, ℕ, Bool, List, [], ◌++◌}
+use Rattle.std.specs.Prelude.{◌≡◌, ℕ, Bool, true, false, List, [], ◌++◌}
 use Rattle.file_tree.specs.Disk.{Map}
 use Rattle.group_run.specs.Lines.{AreLines, IsBeginning}
 use Rattle.plan_law.specs.Plans.{Group}
@@ -48,3 +48,11 @@ pub record IsOutput (words : List (List ℕ)) (tells : Bool) (opening : Map)
   pub last : List ℕ
   pub ends : IsLast came s last
   pub whole : text ≡ lines ++ last
+
+-- what a run wrote, with its last line or before that
+abbrev pub IsWritten : (last : Bool) → List (List ℕ) → Bool → Map → (Status → Type 0) →
+    List ℕ → List ℕ → Status → List ℕ → Type 0
+IsWritten true words tells opening IsAnswer history acknowledged s text =
+    IsOutput words tells opening IsAnswer history acknowledged s text
+IsWritten false words tells opening IsAnswer history acknowledged s text =
+    IsSaid words tells opening history acknowledged s text

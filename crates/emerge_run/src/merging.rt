@@ -1,16 +1,8 @@
-ghost use Rattle.std.specs.Prelude.{◌≡◌, ◌⊎◌, ◌<◌, ◌^◌, [], ℕ, IsTrue, MatchOption, None, length};
-ghost use Rattle.std.specs.Prelude.{map, slice_get};
+ghost use Rattle.std.specs.Prelude.{◌≡◌, ◌⊎◌, ◌<◌, ◌^◌, IsTrue, length, map, slice_get};
 ghost use Rattle.std.specs.Option.{option_copied};
-ghost use Rattle.build_pool.specs.Pool.{PoolRose, SameIds};
-ghost use Rattle.dep_atom.specs.declared.package.PackageId.{PackageId};
-ghost use Rattle.file_tree.specs.Disk.{CountsFault};
-ghost use Rattle.group_run.specs.Applied.{number};
-ghost use Rattle.group_run.specs.Lines.{AreLines, AreTold, Wrote};
-ghost use Rattle.image_build.specs.Images.{IsBuilt};
 ghost use Rattle.merge_core.specs.Trail.{IsAtRest};
 ghost use Rattle.plan_make.specs.Plans.{coming};
-ghost use Rattle.emerge_run.specs.Builds.{line_of};
-ghost use Rattle.emerge_run.specs.Outcomes.{IsOfMerge, IsTold, MergedTo};
+ghost use Rattle.emerge_run.specs.Merges.{MergesTask};
 ghost use Rattle.emerge_run.specs.Package.{IsTask};
 ghost use Rattle.emerge_run.specs.Collisions.{id_of_package, ids_with, owned_by};
 ghost use Rattle.emerge_run.specs.Collisions.{status_of_collision};
@@ -18,7 +10,7 @@ ghost use Rattle.emerge_run.specs.Refusals.{Collides, CollidesAt, CollidesIn, Is
 ghost use Rattle.emerge_run.specs.Refusals.{IsStatusOf, status_of_claim, status_of_plan_stop};
 ghost use Rattle.emerge_run.specs.Refusals.{status_of_stop};
 
-use crate::run::Reached;
+use crate::run::Ended;
 use build_pool::{BuildPool, Builder};
 use dep_atom::PackageId;
 use file_tree::{Path, Quantity, Sink, Tree};
@@ -35,40 +27,16 @@ pub fn merge_ready<T: Tree, S: Sink, B: Builder>(
     alloc: Global,
     tree: T,
     out: S,
-    pool: &mut BuildPool<B>,
+    mut pool: BuildPool<B>,
     opening: Vec<Installed>,
     plan: Plan,
     task: Task,
-) -> Reached<T, S>
+) -> Ended<T, S, BuildPool<B>>
     requires rest { IsTrue T.tells → IsAtRest (T.story tree).now.holds (T.story tree).now }
     requires task { IsTask T.tells (T.story tree).now.holds opening.items plan task.jobs.items
         task.book }
-    requires resting { 0 < length pool.old.resting }
-    ensures merged { IsTrue T.tells → MergedTo (IsBuilt B.tells B.told pool.old.resting)
-        opening.items plan task.jobs.items (T.story tree) (T.story result.tree)
-        result.history.items result.status }
-    ensures opening { result.opening.items ≡ opening.items }
-    ensures plan { MatchOption result.plan ⊥ (λ p. p ≡ plan) }
-    ensures machine { MatchOption result.machine (result.history.items ≡ [])
-        (λ k. result.history.items ≡ map number k.order) }
-    ensures of { IsOfMerge result.status }
-    ensures ok { (n : ℕ) → result.status ≡ Status.Ok n →
-        (n ≡ length result.history.items) ×
-        (result.acknowledged.items ≡ result.history.items) }
-    ensures kept { AreTold result.history.items result.acknowledged.items }
-    ensures told { IsTold result.status → result.acknowledged.items ≡ result.history.items }
-    ensures written { IsTrue S.tells → Wrote (AreLines (line_of plan)
-        result.history.items result.acknowledged.items)
-        (S.written out) (S.written result.out) }
-    ensures build { (id : PackageId) → result.status ≡ Status.BuildFailed id →
-        PoolRose B.faults pool.old pool.new }
-    ensures device { CountsFault (result.status ≡ Status.DeviceFault) (T.faults tree)
-        (T.faults result.tree) }
-    ensures output { CountsFault (result.status ≡ Status.OutputFault) (S.faults out)
-        (S.faults result.out) }
-    ensures ids { SameIds B.number pool.old pool.new }
-    ensures lent { pool.new.lent ≡ pool.old.lent }
-    ensures unasked { result.machine ≡ None → pool.new ≡ pool.old }
+    requires resting { 0 < length pool.resting }
+    ensures { MergesTask T.Tree S.Sink B.Builder opening.items plan task tree out pool result }
 {
     let Merged {
         tree,
@@ -77,12 +45,13 @@ pub fn merge_ready<T: Tree, S: Sink, B: Builder>(
         end,
         history,
         acknowledged,
-    } = merge_plan(alloc, tree, out, pool, &opening, plan.groups(), task);
+    } = merge_plan(alloc, tree, out, &mut pool, &opening, plan.groups(), task);
     let status = status_of_end(&opening, plan.groups(), end);
-    Reached {
+    Ended {
         status,
         tree,
         out: sink,
+        pool,
         opening,
         plan: Some(plan),
         machine,

@@ -1,0 +1,291 @@
+-- How the promise of each layer comes of that of the layer below.
+use Rattle.std.proofs.Common.{◌≡◌, ◌⊎◌, ◌∙◌, ◌≤◌, ◌+◌, ℕ, true, false, List, [], Option, None, Some, IsTrue, MatchOption, ap, arith, inl, inr, length, map, refl, subst, sym}
+use Rattle.std.specs.Prelude.{IfSome, Vec}
+use Rattle.std.specs.Global.{Global}
+use Rattle.build_pool.specs.Pool.{Kept, PoolRose}
+use Rattle.build_pool.specs.declared.builders.Builder.{Ghosts as Builder}
+use Rattle.dep_atom.specs.declared.package.PackageId.{PackageId}
+use Rattle.emerge_words.specs.declared.request.WordFault.{WordFault}
+use Rattle.file_tree.specs.Disk.{CountsFault, Map, Rose, Story}
+use Rattle.file_tree.specs.declared.traits.Sink.{Ghosts as Sink}
+use Rattle.file_tree.specs.declared.traits.Tree.{Ghosts as Tree}
+use Rattle.database_law.specs.Packages.{Installed}
+use Rattle.merge_core.specs.Keeping.{Keeping}
+use Rattle.group_run.specs.Applied.{number}
+use Rattle.group_run.specs.Lines.{Wrote}
+use Rattle.group_run.specs.Went.{HaveRun}
+use Rattle.image_build.specs.Images.{IsBuilt, IsPastLimit}
+use Rattle.plan_law.specs.Plans.{Group}
+use Rattle.plan_make.specs.Plans.{orders_at}
+use Rattle.plan_run.specs.Merges.{MergesPlan}
+use Rattle.plan_run.specs.Runs.{upto}
+use Rattle.plan_run.specs.declared.merge.Merged.{Merged}
+use Rattle.plan_run.specs.declared.merge.Task.{Task}
+use Rattle.plan_run.proofs.Whole.{rose_earlier, rose_later}
+use Rattle.plan_sound.specs.Ends.{HasGroups, Images}
+use Rattle.emerge_run.specs.Answers.{Asks}
+use Rattle.emerge_run.specs.Collisions.{ids_with}
+use Rattle.emerge_run.specs.Commands.{RunsCommand}
+use Rattle.emerge_run.specs.Merges.{MergesTask}
+use Rattle.emerge_run.specs.Openings.{AreInstalledAfter, GivesBack, HasPlan, HasTooMuchAfter, IsUnread}
+use Rattle.emerge_run.specs.Outcomes.{EndsEarly, HasRecovered, IsChoice, IsEarly, IsNamed, IsOfMerge, IsOfTree, IsPlanOf, IsRefusal, IsTold, IsToDo}
+use Rattle.emerge_run.specs.Output.{IsSaid}
+use Rattle.emerge_run.specs.Package.{IsTask}
+use Rattle.emerge_run.specs.Refusals.{IsStatusOf}
+use Rattle.emerge_run.specs.Words.{AskForMerge, IsOfWords, IsUsage}
+use Rattle.emerge_run.specs.declared.choosing.Work.{Work}
+use Rattle.emerge_run.specs.declared.choosing.Work.TheVariants as work
+use Rattle.emerge_run.specs.declared.run.Ended.{Ended}
+use Rattle.run_status.specs.Last.{IsEnd}
+use Rattle.run_status.specs.declared.status.Status.{Status}
+use Rattle.run_status.specs.declared.status.Status.TheVariants as status
+use Rattle.emerge_run.proofs.Endings.{Comes, early_no_plan, merge_not_refused, merge_not_unread, outcome_merged, outcome_unfound}
+use Rattle.emerge_run.proofs.Givens.{beside_work, gives_all, is_there, plan_beside, plan_in}
+use Rattle.emerge_run.proofs.Lines.{wrote_all, wrote_lines, wrote_merging, wrote_nothing}
+use Rattle.emerge_run.proofs.Merged.{all_counted, asked_so, builds_end, device_ended, end_of_merge, failed_ended, merged_to, ok_ended, output_ended, told_ended}
+
+-- ---- counts
+
+-- a failure that is told for another one was counted with that
+pub counts_for : (P Q : Type 0) (a b : ℕ) → (Q → P) → CountsFault P a b → CountsFault Q a b
+counts_for P Q a b to counts = record { later = counts.later; rose = λ q. counts.rose (to q) }
+
+-- .. and before other calls
+counts_before : (P : Type 0) (a b d : ℕ) → a ≤ b → CountsFault P b d → CountsFault P a d
+counts_before P a b d le counts = let later = counts.later in record { later = omega (arith, le, later); rose = λ p. rose_earlier a b d le (counts.rose p) }
+
+-- a machine with this history has it as its order
+machine_order : (N : Type 0) (gs history : List ℕ) (n : ℕ) (o : Option Keeping) → MatchOption o N (HaveRun gs n history) → MatchOption o N (λ k. history ≡ map number k.order)
+machine_order N gs history n None none = none
+machine_order N gs history n (Some k) run = run.order
+
+-- ---- the merge of a task, from that of its plan
+
+module _ {T S B : Type 0} (trees : Tree T) (sinks : Sink S) (builders : Builder B) (opening : Vec Installed Global) (plan : List Group) (task : Task) (tree : T) (out : S) (pool new : Kept B) where
+  pub merges_task : IsTask trees.tells (trees.story tree).now.holds opening.items plan task.jobs.items task.book → (r : Merged T S) (s : Status) → IsStatusOf (ids_with opening.items plan) (length plan) r.end s
+      → MergesPlan trees sinks builders opening.items plan task tree out pool new r
+      → MergesTask trees sinks builders opening.items plan task tree out pool
+      (record { status = s; tree = r.tree; out = r.sink; pool = new; opening = opening; plan = Some plan; machine = r.machine; history = r.history; acknowledged = r.acknowledged })
+  merges_task is_task r s is run =
+      let ps = opening.items in
+      let jobs = task.jobs.items in
+      let n = length plan in
+      let ids = ids_with ps plan in
+      let Image : Images = IsBuilt builders.tells builders.told pool.resting in
+      let old = trees.story tree in
+      let last = trees.story r.tree in
+      let history = r.history.items in
+      let Failed = PoolRose builders.faults pool new in
+      let Many = IsPastLimit builders.tells builders.told pool.resting in
+      let a = run.answer in
+      record {
+        answer = record {
+          asked = λ t. asked_so Image ps plan jobs task.book old last (is_task.owners t) history Failed r.end s is (run.tree t) a.merged (builds_end builders.told pool.resting builders.tells Failed jobs history r.end a.build);
+          of = end_of_merge ids n r.end s is;
+          ok = λ k ok. (all_counted r.end n k history a.merged (ok_ended ids n r.end s is k ok), told_ended ids n r.end s is a.all_told a.so_far (subst IsTold (sym ok) tt));
+          kept = a.kept;
+          told = told_ended ids n r.end s is a.all_told a.so_far;
+          build = λ id built. failed_ended ids n r.end s is Many Failed (orders_at jobs (length history)) id a.build built;
+          device = counts_for _ (s ≡ status.DeviceFault) (trees.faults tree) (trees.faults r.tree) (device_ended ids n r.end s is) a.device;
+          output = counts_for _ (s ≡ status.OutputFault) (sinks.faults out) (sinks.faults r.sink) (output_ended ids n r.end s is) a.output;
+        };
+        tree = λ t. merged_to Image ps plan jobs task.book old last (is_task.owners t) history r.end s is (run.tree t);
+        written = λ t. wrote_lines jobs plan history r.acknowledged.items (sinks.written out) (sinks.written r.sink) is_task.lines (run.written t);
+        back = record {
+          opening = refl;
+          plan = refl;
+          machine = machine_order (history ≡ []) (upto n) history (n + 1) r.machine run.back.machine;
+          unasked = run.back.unasked;
+          ids = run.back.ids;
+          lent = run.back.lent;
+        };
+      }
+
+-- ---- a command, from its parts
+
+module _ {T S B : Type 0} (trees : Tree T) (sinks : Sink S) (builders : Builder B) (words : List (List ℕ)) (tree : T) (out : S) (pool : Kept B) where
+  abbrev old : Story
+  old = trees.story tree
+
+  abbrev before : Map
+  before = old.now.holds
+
+  abbrev Image : Images
+  Image = IsBuilt builders.tells builders.told pool.resting
+
+  -- a command that merges its plan
+  pub runs_merging : (mid : T) (ps : List Installed) (plan : List Group) (task : Task) (run : Ended T S (Kept B)) → (IsTrue trees.tells → HasRecovered old (trees.story mid)) → (IsTrue trees.tells → IsToDo words (trees.story mid).now.holds ps (work.Merge plan task))
+      → IsNamed words trees.tells before plan → trees.faults tree ≤ trees.faults mid
+      → MergesTask trees sinks builders ps plan task mid out pool run → RunsCommand trees sinks builders false words tree out pool run
+  runs_merging mid ps plan task run recovered todo named later merges =
+      let a = merges.answer in
+      let s = run.status in
+      let new = trees.story mid in
+      let w = work.Merge plan task in
+      let comes : IsTrue trees.tells → Comes words Image old (trees.story run.tree) run.history.items s = λ t.
+          outcome_merged words Image old new (trees.story run.tree) ps plan task.jobs.items run.history.items s (recovered t) (todo t) (a.asked t) a.of (merges.tree t) in
+      let beside : IsTrue trees.tells → AreInstalledAfter before run.opening.items = λ t. beside_work words old new ps run.opening.items w (recovered t) (todo t) merges.back.opening in
+      let there = is_there (λ p. p ≡ plan) run.plan merges.back.plan in
+      record {
+        answer = record {
+          asked = λ t. (comes t).0;
+          ok = a.ok;
+          refused = λ of. absurd (merge_not_refused s a.of of);
+          kept = a.kept;
+          told = a.told;
+          usage = λ f e. absurd (subst IsOfMerge e a.of);
+          no_merge = λ none. absurd (none (named.asked, named.is));
+          build = a.build;
+          device = counts_before (s ≡ status.DeviceFault) (trees.faults tree) (trees.faults mid) (trees.faults run.tree) later a.device;
+          output = a.output;
+        };
+        tree = λ t. (comes t).1;
+        written = λ t. wrote_merging words trees.tells before plan run.history.items run.acknowledged.items s (sinks.written out) (sinks.written run.out) named (merges.written t);
+        back = record {
+          begun = λ t. inr (beside t);
+          opening = λ t. gives_all (AreInstalledAfter before) (HasTooMuchAfter before) s run.opening.items (beside t);
+          unread = λ of. absurd (merge_not_unread s a.of of);
+          plan = λ t. plan_beside words old new ps w run.plan (recovered t) (todo t) merges.back.plan;
+          planned = λ of. there;
+          merging = inr there;
+          machine = merges.back.machine;
+          asked = inr (named.asked, named.is, named.done);
+          unasked = merges.back.unasked;
+          ids = merges.back.ids;
+          lent = merges.back.lent;
+        };
+      }
+
+  -- a command that merges nothing
+  module _ (mid : T) (said : S) (opening : Vec Installed Global) (plan : Option (List Group)) (history acknowledged : Vec ℕ Global) (s : Status) (none : history.items ≡ []) (untold : acknowledged.items ≡ []) where
+    abbrev idle : Ended T S (Kept B)
+    idle = record { status = s; tree = mid; out = said; pool = pool; opening = opening; plan = plan; machine = None; history = history; acknowledged = acknowledged }
+
+    runs_idle : (IsTrue trees.tells → Comes words Image old (trees.story mid) history.items s) → ((n : ℕ) → s ≡ status.Ok n → n ≡ 0) → ((f : WordFault) → s ≡ status.Usage f → IsUsage words f)
+        → (¬ AskForMerge words → IsOfWords s ⊎ (s ≡ status.Memory)) → ((id : PackageId) → ¬ (s ≡ status.BuildFailed id)) → CountsFault (s ≡ status.DeviceFault) (trees.faults tree) (trees.faults mid)
+        → CountsFault (s ≡ status.OutputFault) (sinks.faults out) (sinks.faults said) → (IsTrue sinks.tells → Wrote (IsSaid words trees.tells before history.items acknowledged.items s) (sinks.written out) (sinks.written said))
+        → (IsTrue trees.tells → GivesBack (AreInstalledAfter before) (HasTooMuchAfter before) s opening.items) → (IsUnread s → opening.items ≡ []) → (IsTrue trees.tells → IfSome plan (IsPlanOf words before)) → (HasPlan s → ¬ (plan ≡ None))
+        → RunsCommand trees sinks builders false words tree out pool idle
+    runs_idle comes zero usage no_merge not_built device output written gives unread is_plan planned = record {
+      answer = record {
+        asked = λ t. (comes t).0;
+        ok = λ n e. (zero n e ∙ sym (ap length none), untold ∙ sym none);
+        refused = λ of. none;
+        kept = inl (untold ∙ sym none);
+        told = λ of. untold ∙ sym none;
+        usage = usage;
+        no_merge = λ other. elim (no_merge other) [ inl of ↦ inl of | inr memory ↦ inr (inl memory) ];
+        build = λ id e. absurd (not_built id e);
+        device = device;
+        output = output;
+      };
+      tree = λ t. (comes t).1;
+      written = written;
+      back = record {
+        begun = λ t. inl refl;
+        opening = gives;
+        unread = unread;
+        plan = is_plan;
+        planned = planned;
+        merging = inl refl;
+        machine = none;
+        asked = inl refl;
+        unasked = λ e. refl;
+        ids = λ n. refl;
+        lent = refl;
+      };
+    }
+
+    -- .. since its plan has no group, or is only shown
+    pub runs_resting : (w : Work) → MatchOption plan ⊥ (λ p. p ≡ plan_in w) → AskForMerge words → (s ≡ status.Ok 0) ⊎ (s ≡ status.OutputFault) → (IsTrue trees.tells → HasRecovered old (trees.story mid))
+        → (IsTrue trees.tells → IsToDo words (trees.story mid).now.holds opening.items w) → (IsTrue trees.tells → Comes words Image old (trees.story mid) history.items s)
+        → trees.faults tree ≤ trees.faults mid → CountsFault (s ≡ status.OutputFault) (sinks.faults out) (sinks.faults said)
+        → (IsTrue sinks.tells → Wrote (IsSaid words trees.tells before history.items acknowledged.items s) (sinks.written out) (sinks.written said)) → RunsCommand trees sinks builders false words tree out pool idle
+    runs_resting w is_plan asks ends recovered todo comes later output written =
+        runs_idle comes (λ n e. elim ends [ inl ok ↦ (let q : 0 ≡ n = cc (ok, e) in sym q) | inr fault ↦ absurd (cc (fault, e)) ]) (λ f e. absurd (elim ends [ inl ok ↦ cc (ok, e) | inr fault ↦ cc (fault, e) ]))
+        (λ other. absurd (other asks)) (λ id e. elim ends [ inl ok ↦ cc (ok, e) | inr fault ↦ cc (fault, e) ])
+        (record { later = later; rose = λ e. absurd (elim ends [ inl ok ↦ cc (ok, e) | inr fault ↦ cc (fault, e) ]) }) output written
+        (λ t. gives_all (AreInstalledAfter before) (HasTooMuchAfter before) s opening.items (beside_work words old (trees.story mid) opening.items opening.items w (recovered t) (todo t) refl))
+        (λ of. absurd (elim ends [ inl ok ↦ subst IsUnread ok of | inr fault ↦ subst IsUnread fault of ]))
+        (λ t. plan_beside words old (trees.story mid) opening.items w plan (recovered t) (todo t) is_plan) (λ of. is_there (λ p. p ≡ plan_in w) plan is_plan)
+
+  -- a command that finds no plan
+  pub runs_unfound : (mid : T) (opening : Vec Installed Global) (history acknowledged : Vec ℕ Global) (s : Status) (none : history.items ≡ []) (untold : acknowledged.items ≡ []) → IsEarly s
+      → (IsTrue trees.tells → EndsEarly words old (trees.story mid) s) → (IsTrue trees.tells → IsOfWords s → trees.story mid ≡ old) → ((f : WordFault) → s ≡ status.Usage f → IsUsage words f)
+      → (¬ AskForMerge words → IsOfWords s ⊎ (s ≡ status.Memory)) → CountsFault (s ≡ status.DeviceFault) (trees.faults tree) (trees.faults mid)
+      → (IsTrue trees.tells → GivesBack (AreInstalledAfter before) (HasTooMuchAfter before) s opening.items) → (IsUnread s → opening.items ≡ []) → RunsCommand trees sinks builders false words tree out pool (idle mid out opening None history acknowledged s none untold)
+  runs_unfound mid opening history acknowledged s none untold early ends unchanged usage no_merge device gives unread =
+      let not : (x : Status) → s ≡ x → IsEarly x = λ x e. subst IsEarly e early in
+      runs_idle mid out opening None history acknowledged s none untold
+      (λ t. outcome_unfound words Image old (trees.story mid) history.items none s (ends t) early (unchanged t)) (λ n e. absurd (not (status.Ok n) e)) usage no_merge (λ id e. not (status.BuildFailed id) e) device
+      (record { later = omega arith; rose = λ e. absurd (not status.OutputFault e) }) (λ t. wrote_nothing words trees.tells before history.items acknowledged.items s (sinks.written out) (sinks.written out) early none refl)
+      gives unread (λ t. tt) (λ of. absurd (early_no_plan s early of))
+
+  -- the last line of a command
+  module _ (run : Ended T S (Kept B)) (s : Status) (said : S) (ends : (s ≡ run.status) ⊎ ((s ≡ status.Memory) ⊎ ((s ≡ status.OutputFault) × Rose (sinks.faults run.out) (sinks.faults said)))) where
+    keeps : (P : Status → Type 0) → P run.status → P status.Memory → P status.OutputFault → P s
+    keeps P came memory output = elim ends [ inl same ↦ subst P (sym same) came | inr (inl no_memory) ↦ subst P (sym no_memory) memory | inr (inr (failed, rose)) ↦ subst P (sym failed) output ]
+
+    output_counted : CountsFault (run.status ≡ status.OutputFault) (sinks.faults out) (sinks.faults run.out) → sinks.faults run.out ≤ sinks.faults said → CountsFault (s ≡ status.OutputFault) (sinks.faults out) (sinks.faults said)
+    output_counted counts le = let later = counts.later in record {
+      later = omega (arith, later, le);
+      rose = λ e. elim ends [
+        | inl same ↦ rose_later (sinks.faults out) (sinks.faults run.out) (sinks.faults said) (counts.rose (sym same ∙ e)) le
+        | inr (inl no_memory) ↦ absurd (cc (no_memory, e))
+        | inr (inr (failed, rose)) ↦ rose_earlier (sinks.faults out) (sinks.faults run.out) (sinks.faults said) later rose
+      ];
+    }
+
+    pub runs_finished : (run.status ≡ status.DeviceFault → s ≡ status.DeviceFault) → sinks.faults run.out ≤ sinks.faults said → (IsTrue sinks.tells → Wrote (IsEnd run.status s) (sinks.written run.out) (sinks.written said))
+        → RunsCommand trees sinks builders false words tree out pool run → RunsCommand trees sinks builders true words tree out pool (record run { status = s; out = said })
+    runs_finished stays le line runs =
+        let a = runs.answer in
+        let b = runs.back in
+        let history = run.history.items in
+        let told = run.acknowledged.items in
+        record {
+          answer = record {
+            asked = λ t. keeps (Asks words before Image history) (a.asked t) tt tt;
+            ok = keeps (λ x. (n : ℕ) → x ≡ status.Ok n → (n ≡ length history) × (told ≡ history)) a.ok (λ n e. absurd (cc e)) (λ n e. absurd (cc e));
+            refused = keeps (λ x. IsRefusal x → history ≡ []) a.refused (λ of. absurd of) (λ of. absurd of);
+            kept = a.kept;
+            told = keeps (λ x. IsTold x → told ≡ history) a.told (λ of. absurd of) (λ of. absurd of);
+            usage = keeps (λ x. (f : WordFault) → x ≡ status.Usage f → IsUsage words f) a.usage (λ f e. absurd (cc e)) (λ f e. absurd (cc e));
+            no_merge = λ other. keeps (λ x. IsOfWords x ⊎ ((x ≡ status.Memory) ⊎ ((true ≡ true) × (x ≡ status.OutputFault))))
+                (elim (a.no_merge other) [ inl of ↦ inl of | inr (inl memory) ↦ inr (inl memory) | inr (inr (wrong, e)) ↦ absurd (cc wrong) ]) (inr (inl refl)) (inr (inr (refl, refl)));
+            build = keeps (λ x. (id : PackageId) → x ≡ status.BuildFailed id → PoolRose builders.faults pool run.pool) a.build (λ id e. absurd (cc e)) (λ id e. absurd (cc e));
+            device = record {
+              later = a.device.later;
+              rose = keeps (λ x. x ≡ status.DeviceFault → Rose (trees.faults tree) (trees.faults run.tree)) a.device.rose (λ e. absurd (cc e)) (λ e. absurd (cc e));
+            };
+            output = output_counted a.output le;
+          };
+          tree = λ t.
+              let o = runs.tree t in
+              let new = trees.story run.tree in
+              record {
+                moments = o.moments;
+                crash = o.crash;
+                left = λ healthy. o.left (λ e. healthy (stays e));
+                tree = keeps (λ x. IsOfTree x → HasGroups (IsChoice words) Image history old.now new.now) o.tree (λ of. absurd of) (λ of. absurd of);
+                unchanged = keeps (λ x. IsOfWords x → new ≡ old) o.unchanged (λ of. absurd of) (λ of. absurd of);
+              };
+          written = λ t. wrote_all words trees.tells before (λ x. IsTrue trees.tells → Asks words before Image history x) history told run.status s (sinks.written out) (sinks.written run.out) (sinks.written said)
+              a.asked (λ u. tt) (runs.written t) (line t);
+          back = record {
+            begun = b.begun;
+            opening = λ t.
+                let gives = b.opening t in
+                keeps (λ x. GivesBack (AreInstalledAfter before) (HasTooMuchAfter before) x run.opening.items) gives
+                (record { read = λ of. absurd of; paths = λ e. absurd (cc e); whole = gives.whole }) (record { read = λ of. absurd of; paths = λ e. absurd (cc e); whole = gives.whole });
+            unread = keeps (λ x. IsUnread x → run.opening.items ≡ []) b.unread (λ of. absurd of) (λ of. absurd of);
+            plan = b.plan;
+            planned = keeps (λ x. HasPlan x → ¬ (run.plan ≡ None)) b.planned (λ of. absurd of) (λ of. absurd of);
+            merging = b.merging;
+            machine = b.machine;
+            asked = b.asked;
+            unasked = b.unasked;
+            ids = b.ids;
+            lent = b.lent;
+          };
+        }
