@@ -14,6 +14,7 @@ use Rattle.merge_core.specs.Trail.{IsAtRest}
 use Rattle.journal.specs.Names.{jobs}
 use Rattle.journal.specs.Recovered.{IsRecovered}
 use Rattle.owner_book.specs.declared.fault.ImageBad.{ImageBad}
+use Rattle.recovery.specs.Promise as promises
 use Rattle.recovery.specs.Promise.{IsFaultOf}
 use Rattle.file_tree.specs.declared.fault.TreeFault.TheVariants as trees
 use Rattle.recovery.specs.declared.fault.RecoverFault.{RecoverFault}
@@ -26,7 +27,7 @@ use Rattle.plan_make.specs.declared.job.Job.{Job}
 use Rattle.plan_run.specs.Runs.{upto}
 use Rattle.plan_sound.specs.Ends.{Course, Images, IsReached, IsRunOf}
 use Rattle.emerge_run.specs.Answers.{Asks, AsksEarly, AsksMerge, AsksPlan}
-use Rattle.emerge_run.specs.Outcomes.{EndsEarly, HasRecovered, IsChoice, IsChosenFor, IsEarly, IsOfMerge, IsOfTree, IsRefusal, IsToShow, MergedTo, Outcome}
+use Rattle.emerge_run.specs.Outcomes.{EndsEarly, HasRecovered, IsChoice, IsChosenFor, IsEarly, IsOfMerge, IsOfTree, IsRefusal, IsToShow, KeepsJournal, MergedTo, Outcome}
 use Rattle.emerge_run.specs.Openings.{HasPlan, IsUnread}
 use Rattle.emerge_run.specs.Package.{AreMade, Making}
 use Rattle.emerge_run.specs.Words.{AskForMerge, AskForOther, EndsAtWords, IsOfWords, IsRequest, IsUsage}
@@ -71,6 +72,9 @@ asks_words words m = at_words words (AsksEarly words m) (λ f h. h) (λ h. h) tt
 words_not_of_tree : (words : List (List ℕ)) (s : Status) → EndsAtWords words s → IsOfTree s → ⊥
 words_not_of_tree words = at_words words (λ s. IsOfTree s → ⊥) (λ f h of. of) (λ h of. of) (λ of. of)
 
+words_keep : (words : List (List ℕ)) (old new : Story) (s : Status) → EndsAtWords words s → KeepsJournal old new s
+words_keep words old new = at_words words (KeepsJournal old new) (λ f h. tt) (λ h. tt) tt
+
 -- ---- what a merge answers
 
 module _ (P : Status → Type 0) (ok : (n : ℕ) → P (status.Ok n)) (collision : (c : Collision) → P (status.Collision c)) (image : (b : ImageBad) → P (status.BadImage b)) (build : (id : PackageId) → P (status.BuildFailed id))
@@ -106,6 +110,9 @@ merge_not_of_words = at_merge (λ s. IsOfWords s → ⊥) (λ n e. e) (λ c e. e
 pub merge_not_refused : (s : Status) → IsOfMerge s → IsRefusal s → ⊥
 merge_not_refused = at_merge (λ s. IsRefusal s → ⊥) (λ n e. e) (λ c e. e) (λ b e. e) (λ id e. e) (λ e. e) (λ e. e) (λ e. e) (λ e. e) (λ e. e)
 
+merge_keeps : (old new : Story) (s : Status) → IsOfMerge s → KeepsJournal old new s
+merge_keeps old new = at_merge (KeepsJournal old new) (λ n. tt) (λ c. tt) (λ b. tt) (λ id. tt) tt tt tt tt tt
+
 pub merge_not_unread : (s : Status) → IsOfMerge s → IsUnread s → ⊥
 merge_not_unread = at_merge (λ s. IsUnread s → ⊥) (λ n e. e) (λ c e. e) (λ b e. e) (λ id e. e) (λ e. e) (λ e. e) (λ e. e) (λ e. e) (λ e. e)
 
@@ -139,6 +146,14 @@ recovery_not_of_words recovery.Limit of = of
 recovery_not_of_words (recovery.Tree trees.Failed) of = of
 recovery_not_of_words (recovery.Tree trees.Memory) of = of
 
+-- a refusal of the journal leaves the tree as it read
+recovery_keeps : (old new : Story) (f : RecoverFault) → (promises.IsRefusal f → new.now.holds ≡ old.now.holds) → KeepsJournal old new (status_of_recovery f)
+recovery_keeps old new (recovery.BadRecord g) same = same tt
+recovery_keeps old new (recovery.BadStage g i) same = same tt
+recovery_keeps old new recovery.Limit same = inl (same tt)
+recovery_keeps old new (recovery.Tree trees.Failed) same = tt
+recovery_keeps old new (recovery.Tree trees.Memory) same = tt
+
 pub usage_recovery : (r : RecoverFault) (f : WordFault) → status_of_recovery r ≡ status.Usage f → ⊥
 usage_recovery r f is = recovery_not_of_words r (subst IsOfWords (sym is) tt)
 
@@ -152,18 +167,19 @@ pub at_rest : (opening : Map) (s : Story) → IsRecovered opening s.now.holds ×
 at_rest opening s h = record { untouched = h.1; reads = λ q. refl; empty = h.0.cleared }
 
 pub ends_at_words : (words : List (List ℕ)) (old : Story) (s : Status) → EndsAtWords words s → EndsEarly words old old s
-ends_at_words words old s ends = record { answer = asks_words words old.now.holds s ends; moments = kept_same old old refl; tree = λ of. absurd (words_not_of_tree words s ends of) }
+ends_at_words words old s ends = record { answer = asks_words words old.now.holds s ends; moments = kept_same old old refl; tree = λ of. absurd (words_not_of_tree words s ends of); journal = words_keep words old old s ends }
 
-pub ends_at_recovery : (words : List (List ℕ)) (old new : Story) (f : RecoverFault) → AskForMerge words → IsFaultOf f old.now.holds → Since (IsImageOrAlike old.now) old new → EndsEarly words old new (status_of_recovery f)
-ends_at_recovery words old new f command is since = record { answer = recovery_asks words old.now.holds f command is; moments = since; tree = λ of. absurd (recovery_not_of_tree f of) }
+pub ends_at_recovery : (words : List (List ℕ)) (old new : Story) (f : RecoverFault) → AskForMerge words → IsFaultOf f old.now.holds → (promises.IsRefusal f → new.now.holds ≡ old.now.holds) → Since (IsImageOrAlike old.now) old new → EndsEarly words old new (status_of_recovery f)
+ends_at_recovery words old new f command is same since =
+    record { answer = recovery_asks words old.now.holds f command is; moments = since; tree = λ of. absurd (recovery_not_of_tree f of); journal = recovery_keeps old new f same }
 
 pub recovered_same : (old mid new : Story) → new ≡ mid → HasRecovered old mid → HasRecovered old new
 recovered_same old mid new same has = subst (HasRecovered old) (sym same) has
 
-pub early_kept : (words : List (List ℕ)) (old mid new : Story) (s : Status) → new ≡ mid → HasRecovered old mid → AsksEarly words old.now.holds s → EndsEarly words old new s
-early_kept words old mid new s same has asks =
+pub early_kept : (words : List (List ℕ)) (old mid new : Story) (s : Status) → new ≡ mid → HasRecovered old mid → AsksEarly words old.now.holds s → (HasRecovered old new → KeepsJournal old new s) → EndsEarly words old new s
+early_kept words old mid new s same has asks keeps =
     let here = recovered_same old mid new same has in
-    record { answer = asks; moments = here.moments; tree = λ of. here }
+    record { answer = asks; moments = here.moments; tree = λ of. here; journal = keeps here }
 
 pub early_no_plan : (s : Status) → IsEarly s → HasPlan s → ⊥
 early_no_plan (status.Ok groups) early of = early
@@ -221,8 +237,8 @@ Comes words Image old new history s = Asks words old.now.holds Image history s �
 
 module _ (words : List (List ℕ)) (Image : Images) (old new : Story) (s : Status) where
   -- a run that merged nothing
-  outcome_kept : Asks words old.now.holds Image [] s → Since (IsImageOrAlike old.now) old new → (IsOfTree s → HasRecovered old new) → (IsOfWords s → new ≡ old) → Comes words Image old new [] s
-  outcome_kept asks since tree unchanged = (
+  outcome_kept : Asks words old.now.holds Image [] s → Since (IsImageOrAlike old.now) old new → (IsOfTree s → HasRecovered old new) → (IsOfWords s → new ≡ old) → KeepsJournal old new s → Comes words Image old new [] s
+  outcome_kept asks since tree unchanged journal = (
     asks,
     record {
       moments = since_weaker (IsImageOrAlike old.now) (IsReached (IsChoice words) Image [] old.now) (λ c h. inl (refl, h)) old new since;
@@ -235,14 +251,15 @@ module _ (words : List (List ℕ)) (Image : Images) (old new : Story) (s : Statu
             (None, record { groups = []; of = λ x there. absurd there; are = refl; reads = rest_reads new.now.holds has.rest.empty; untouched = has.rest.untouched }),
           );
       unchanged = unchanged;
+      journal = journal;
     },
   )
 
   outcome_early : IsEarly s → (IsOfWords s → new ≡ old) → EndsEarly words old new s → Comes words Image old new [] s
-  outcome_early of unchanged ends = outcome_kept (early_asks words old.now.holds Image s of ends.answer) ends.moments ends.tree unchanged
+  outcome_early of unchanged ends = outcome_kept (early_asks words old.now.holds Image s of ends.answer) ends.moments ends.tree unchanged ends.journal
 
-  outcome_over : HasRecovered old new → (IsOfWords s → ⊥) → Asks words old.now.holds Image [] s → Comes words Image old new [] s
-  outcome_over has other asks = outcome_kept asks has.moments (λ of. has) (λ of. absurd (other of))
+  outcome_over : HasRecovered old new → (IsOfWords s → ⊥) → KeepsJournal old new s → Asks words old.now.holds Image [] s → Comes words Image old new [] s
+  outcome_over has other journal asks = outcome_kept asks has.moments (λ of. has) (λ of. absurd (other of)) journal
 
 -- a run that merged nothing has no history
 outcome_none : (words : List (List ℕ)) (Image : Images) (old new : Story) (history : List ℕ) (s : Status) → history ≡ [] → Comes words Image old new [] s → Comes words Image old new history s
@@ -267,15 +284,19 @@ shown_not_of_words : (s : Status) → (s ≡ status.Ok 0) ⊎ (s ≡ status.Outp
 shown_not_of_words s (inl ok) of = subst IsOfWords ok of
 shown_not_of_words s (inr fault) of = subst IsOfWords fault of
 
+shown_keeps : (old new : Story) (s : Status) → (s ≡ status.Ok 0) ⊎ (s ≡ status.OutputFault) → KeepsJournal old new s
+shown_keeps old new s (inl ok) = subst (KeepsJournal old new) (sym ok) tt
+shown_keeps old new s (inr fault) = subst (KeepsJournal old new) (sym fault) tt
+
 module _ (words : List (List ℕ)) (Image : Images) (old mid : Story) (history : List ℕ) (none : history ≡ []) where
   pub outcome_shown : (ps : List Installed) (text : List ℕ) (plan : List Group) (s : Status) → HasRecovered old mid → IsToShow words mid.now.holds ps text plan → (s ≡ status.Ok 0) ⊎ (s ≡ status.OutputFault) → Comes words Image old mid history s
   outcome_shown ps text plan s has is ends =
-      outcome_none words Image old mid history s none (outcome_over words Image old mid s has (shown_not_of_words s ends)
+      outcome_none words Image old mid history s none (outcome_over words Image old mid s has (shown_not_of_words s ends) (shown_keeps old mid s ends)
       (shown_asks words old.now.holds mid.now.holds Image ps text plan s has.recovered is ends))
 
   pub outcome_rest : (ps : List Installed) (plan : List Group) → HasRecovered old mid → IsChoice words mid.now.holds ps plan [] → plan ≡ [] → Comes words Image old mid history (status.Ok 0)
   outcome_rest ps plan has choice empty =
-      outcome_none words Image old mid history (status.Ok 0) none (outcome_over words Image old mid (status.Ok 0) has (λ of. of)
+      outcome_none words Image old mid history (status.Ok 0) none (outcome_over words Image old mid (status.Ok 0) has (λ of. of) tt
       (rest_asks words old.now.holds mid.now.holds Image ps plan has.recovered choice empty))
 
   pub outcome_unfound : (s : Status) → EndsEarly words old mid s → IsEarly s → (IsOfWords s → mid ≡ old) → Comes words Image old mid history s
@@ -350,6 +371,7 @@ module _ (words : List (List ℕ)) (Image : Images) (old mid new : Story) (ps : 
       left = λ healthy. inr (m, has.recovered, (course merged.made, same_run merged.made (λ Run. LeavesWith Run m history new.now) (merged.left healthy)));
       tree = λ of_tree. (m, has.recovered, (course merged.made, same_run merged.made (λ Run. ReadsWith Run m history new.now) (merged.tree (λ e. subst IsOfTree e of_tree) (λ e. subst IsOfTree e of_tree))));
       unchanged = λ of_words. absurd (merge_not_of_words s of of_words);
+      journal = merge_keeps old new s of;
     },
   )
 

@@ -9,7 +9,7 @@ use Rattle.plan_find.specs.declared.asked.Asked.{Asked}
 use Rattle.plan_find.specs.declared.ends.NoPlan.{NoPlan}
 use Rattle.plan_find.specs.declared.ends.NoPlan.TheVariants as ends
 use Rattle.emerge_run.specs.Answers.{AsksEarly, IsRefused, IsRefusedAfter}
-use Rattle.emerge_run.specs.Outcomes.{EndsEarly, HasRecovered, IsToDo, IsWork}
+use Rattle.emerge_run.specs.Outcomes.{EndsEarly, HasRecovered, IsToDo, IsWork, KeepsJournal}
 use Rattle.emerge_run.specs.Refusals.{status_of}
 use Rattle.emerge_run.specs.Tasks.{IsAsked, IsWanted}
 use Rattle.emerge_run.specs.Words.{IsOfWords, IsRequest}
@@ -53,6 +53,24 @@ words_plan (ends.NotPlanned packages) of = of
 words_plan ends.Failed of = of
 words_plan ends.Memory of = of
 
+-- nor of the journal: a plan's file with too many groups is read behind recovery
+plan_keeps : (old new : Story) (e : NoPlan) → HasRecovered old new → KeepsJournal old new (status_of e)
+plan_keeps old new (ends.Text path line) has = tt
+plan_keeps old new (ends.Limit Groups) has = inr has
+plan_keeps old new (ends.Limit Packages) has = tt
+plan_keeps old new (ends.Limit Candidates) has = tt
+plan_keeps old new (ends.Limit Paths) has = tt
+plan_keeps old new (ends.Limit RecordBytes) has = tt
+plan_keeps old new (ends.BadDatabase fault) has = tt
+plan_keeps old new (ends.Inconsistent fault packages) has = tt
+plan_keeps old new (ends.NoCandidate atom reasons packages) has = tt
+plan_keeps old new (ends.NoSolution packages) has = tt
+plan_keeps old new (ends.BacktrackLimit refuted packages) has = tt
+plan_keeps old new (ends.Refused fault packages) has = tt
+plan_keeps old new (ends.NotPlanned packages) has = tt
+plan_keeps old new ends.Failed has = tt
+plan_keeps old new ends.Memory has = tt
+
 -- ---- over the tree that recovery made
 
 module _ (words : List (List ℕ)) (asked : Asked) (old mid new : Story) (is : IsRequest words asked) (has : HasRecovered old mid) (same : new ≡ mid) where
@@ -60,6 +78,7 @@ module _ (words : List (List ℕ)) (asked : Asked) (old mid new : Story) (is : I
   refused_over s (e, refuses, told) =
       let asks = refused_asks words old.now.holds e (asked, is, (mid.now.holds, has.recovered, (e, refuses, refl))) in
       early_kept words old mid new s same has (subst (AsksEarly words old.now.holds) (sym told) asks)
+      (λ here. subst (KeepsJournal old new) (sym told) (plan_keeps old new e here))
 
   pub ended_after : {X : Type 0} (r : Result X Status) → IfErr r (IsRefused mid.now.holds asked) → IfErr r (EndsEarly words old new)
   ended_after (Ok x) h = tt

@@ -28,7 +28,7 @@ use Rattle.emerge_run.specs.Collisions.{ids_with}
 use Rattle.emerge_run.specs.Commands.{RunsCommand}
 use Rattle.emerge_run.specs.Merges.{MergesTask}
 use Rattle.emerge_run.specs.Openings.{AreInstalledAfter, GivesBack, HasPlan, HasTooMuchAfter, IsUnread}
-use Rattle.emerge_run.specs.Outcomes.{EndsEarly, HasRecovered, IsChoice, IsEarly, IsNamed, IsOfMerge, IsOfTree, IsPlanOf, IsRefusal, IsTold, IsToDo}
+use Rattle.emerge_run.specs.Outcomes.{EndsEarly, HasRecovered, IsChoice, IsEarly, IsNamed, IsOfMerge, IsOfTree, IsPlanOf, IsRefusal, IsTold, IsToDo, KeepsJournal}
 use Rattle.emerge_run.specs.Output.{IsSaid}
 use Rattle.emerge_run.specs.Package.{IsTask}
 use Rattle.emerge_run.specs.Refusals.{IsStatusOf}
@@ -269,6 +269,7 @@ module _ {T S B : Type 0} (trees : Tree T) (sinks : Sink S) (builders : Builder 
                 left = λ healthy. o.left (λ e. healthy (stays e));
                 tree = keeps (λ x. IsOfTree x → HasGroups (IsChoice words) Image history old.now new.now) o.tree (λ of. absurd of) (λ of. absurd of);
                 unchanged = keeps (λ x. IsOfWords x → new ≡ old) o.unchanged (λ of. absurd of) (λ of. absurd of);
+                journal = keeps (KeepsJournal old new) o.journal tt tt;
               };
           written = λ t. wrote_all words trees.tells before (λ x. IsTrue trees.tells → Asks words before Image history x) history told run.status s (sinks.written out) (sinks.written run.out) (sinks.written said)
               a.asked (λ u. tt) (runs.written t) (line t);

@@ -1,5 +1,5 @@
 -- What a run leaves: its tree, and its groups.
-use Rattle.std.specs.Prelude.{◌≡◌, ◌≢◌, true, false, ℕ, Bool, List, [], IsTrue, Option, string_bytes, ⊤}
+use Rattle.std.specs.Prelude.{◌≡◌, ◌≢◌, ◌⊎◌, true, false, ℕ, Bool, List, [], IsTrue, Option, string_bytes, ⊤}
 use Rattle.file_tree.specs.Disk.{Map, Story}
 use Rattle.file_tree.specs.Moments.{Leaves, Since}
 use Rattle.file_tree.specs.declared.limits.Quantity.TheVariants.{Groups, Paths, RecordBytes}
@@ -70,10 +70,25 @@ IsOfTree status.OutputFault = ⊥
 IsOfTree status.Memory = ⊥
 IsOfTree s = ⊤
 
+-- a run has recovered its tree, which is at rest
+pub record HasRecovered (old new : Story) : Type 0 where
+  pub moments : Since (IsImageOrAlike old.now) old new
+  pub recovered : IsRecovered old.now.holds new.now.holds
+  pub rest : IsAtRest new.now.holds new.now
+
+-- what the tree holds where a run ended for its journal: what it held; with too many groups that,
+-- or what recovery made of it, since a plan's file may have too many of them, too
+abbrev pub KeepsJournal : Story → Story → Status → Type 0
+KeepsJournal old new (status.BadJournal fault) = new.now.holds ≡ old.now.holds
+KeepsJournal old new (status.Limit Groups) =
+    (new.now.holds ≡ old.now.holds) ⊎ HasRecovered old new
+KeepsJournal old new s = ⊤
+
 -- What a run leaves of this tree. Each crash image of each moment is one of the beginning, or
 -- recovers to what the tree recovered to, with first groups of the run, at the end with all of the
 -- history; unless the device failed with just these; a run that tells how it went leaves a tree
--- that reads so; and one that ends at its words leaves it as it was.
+-- that reads so; one that ends at its words leaves it as it was, and one that refuses its journal
+-- as it read.
 pub record Outcome (words : List (List ℕ)) (Image : Images) (old new : Story) (history : List ℕ)
     (s : Status) : Type 0 where
   pub moments : Since (IsReached (IsChoice words) Image [] old.now) old new
@@ -82,20 +97,17 @@ pub record Outcome (words : List (List ℕ)) (Image : Images) (old new : Story) 
       LeavesGroups (IsChoice words) Image history old.now new.now
   pub tree : IsOfTree s → HasGroups (IsChoice words) Image history old.now new.now
   pub unchanged : IsOfWords s → new ≡ old
-
--- a run has recovered its tree, which is at rest
-pub record HasRecovered (old new : Story) : Type 0 where
-  pub moments : Since (IsImageOrAlike old.now) old new
-  pub recovered : IsRecovered old.now.holds new.now.holds
-  pub rest : IsAtRest new.now.holds new.now
+  pub journal : KeepsJournal old new s
 
 -- How a run over this tree ended that found no plan: with the answer that it asks for. Each crash
--- image of each moment is one of the beginning, or recovers to what the tree recovered to; and a
--- run that tells how it went leaves what recovery made of the tree.
+-- image of each moment is one of the beginning, or recovers to what the tree recovered to; a run
+-- that tells how it went leaves what recovery made of the tree; and one that refuses its journal
+-- leaves it as it read.
 pub record EndsEarly (words : List (List ℕ)) (old new : Story) (s : Status) : Type 0 where
   pub answer : AsksEarly words old.now.holds s
   pub moments : Since (IsImageOrAlike old.now) old new
   pub tree : IsOfTree s → HasRecovered old new
+  pub journal : KeepsJournal old new s
 
 -- this text is that of what is chosen
 abbrev pub IsTextOf : Chosen → List ℕ → Type 0

@@ -72,7 +72,7 @@ returns-in-Err-recover-clause-ended g c t =
     let old = g.T.Tree.story c.args.tree.now in
     let mid = g.T.Tree.story c.recover.new.tree in
     let words = map string_bytes c.args.words.now in
-    let one = ends_at_recovery words old mid c.in-Err-recover.fault (c.in-Ok.asked, c.in-Ok.ensures.found) (c.in-Err-recover.ensures.refused t) (c.recover.ensures.moments t) in
+    let one = ends_at_recovery words old mid c.in-Err-recover.fault (c.in-Ok.asked, c.in-Ok.ensures.found) (c.in-Err-recover.ensures.refused t) (c.in-Err-recover.ensures.unchanged t) (c.recover.ensures.moments t) in
     rw c.ended.ensures.answer (subst (λ (s : Status). EndsEarly words old mid s) (sym c.from.ensures) one)
 
 pub returns-in-Err-recover-clause-opening : goal.returns-in-Err-recover-clause-opening
