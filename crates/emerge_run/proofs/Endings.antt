@@ -374,4 +374,3 @@ module _ (words : List (List ℕ)) (Image : Images) (old mid new : Story) (ps : 
       journal = merge_keeps old new s of;
     },
   )
-

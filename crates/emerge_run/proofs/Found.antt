@@ -130,5 +130,3 @@ module _ (words : List (List ℕ)) (asked : Asked) (tells : Bool) (opening m : M
   pub named_after : (ps : List Installed) (r : Result Work Status) → IfOk r (IsAsked asked) → (IsTrue tells → IfOk r (IsWanted m asked ps)) → IfOk r (IsWork words tells opening)
   named_after ps (Ok w) asks wanted = named ps w asks wanted
   named_after ps (Err s) asks wanted = tt
-
--- ---- what was prepared

@@ -123,7 +123,7 @@ module _ {T S B : Type 0} (trees : Tree T) (sinks : Sink S) (builders : Builder 
       let new = trees.story mid in
       let w = work.Merge plan task in
       let comes : IsTrue trees.tells → Comes words Image old (trees.story run.tree) run.history.items s = λ t.
-          outcome_merged words Image old new (trees.story run.tree) ps plan task.jobs.items run.history.items s (recovered t) (todo t) (a.asked t) a.of (merges.tree t) in
+      outcome_merged words Image old new (trees.story run.tree) ps plan task.jobs.items run.history.items s (recovered t) (todo t) (a.asked t) a.of (merges.tree t) in
       let beside : IsTrue trees.tells → AreInstalledAfter before run.opening.items = λ t. beside_work words old new ps run.opening.items w (recovered t) (todo t) merges.back.opening in
       let there = is_there (λ p. p ≡ plan) run.plan merges.back.plan in
       record {

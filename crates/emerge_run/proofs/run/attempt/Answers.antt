@@ -44,8 +44,8 @@ returns-in-Ok-Show g c =
     let history = u.result.history in
     let text = string_bytes arm.text in
     let written : IsTrue S.tells → Wrote (IsSaid words T.tells old.now.holds history.items u.result.acknowledged.items show.result) (S.written c.args.out) (S.written show.new.out) = λ t.
-        wrote_showing words T.tells old.now.holds text history.items u.result.acknowledged.items show.result (S.written c.args.out) (S.written show.new.out) shown u.ensures.history
-        (subst (λ (b : List ℕ). Wrote (IsCut b show.result) (S.written c.args.out) (S.written show.new.out)) c.as_str.ensures.value (show.ensures.written t)) in
+    wrote_showing words T.tells old.now.holds text history.items u.result.acknowledged.items show.result (S.written c.args.out) (S.written show.new.out) shown u.ensures.history
+    (subst (λ (b : List ℕ). Wrote (IsCut b show.result) (S.written c.args.out) (S.written show.new.out)) c.as_str.ensures.value (show.ensures.written t)) in
     subst (λ x. RunsCommand T S B false words c.args.tree c.args.out c.args.pool x) (sym u.ensures.ended)
     (runs_resting T S B words c.args.tree c.args.out c.args.pool mid show.new.out opening (Some arm.plan) history u.result.acknowledged show.result u.ensures.history u.ensures.acknowledged
     (work.Show arm.text arm.plan) refl (shown.asked, shown.is) show.ensures.status has todo

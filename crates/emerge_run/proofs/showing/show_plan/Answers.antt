@@ -1,4 +1,4 @@
-use Rattle.std.proofs.Common.{◌≡◌, ◌∙◌, ◌++◌, List, ℕ, ap, length, refl, sym}
+use Rattle.std.proofs.Common.{◌∙◌, ◌++◌, List, ℕ, ap, length, refl, sym}
 use Rattle.emerge_run.proofs.Lines.{all_of_it}
 use Rattle.emerge_run.proofs.showing.show_plan.Goals as goal
 
