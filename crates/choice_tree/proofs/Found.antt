@@ -1,5 +1,5 @@
 -- The first that is open, of a line and of all.
-use Rattle.std.proofs.Common.{◌≡◌, ◌∙◌, ◌<◌, ◌+◌, ◌-◌, ◌++◌, ℕ, Bool, false, cond, List, Option, None, Some, ap, length, map, sym}
+use Rattle.std.proofs.Common.{◌≡◌, ◌∙◌, ◌<◌, ◌≤◌, ◌+◌, ◌-◌, ◌++◌, ℕ, zero, suc, Bool, false, cond, List, Option, None, Some, add-one, ap, arith, length, map, refl, sym}
 use Rattle.std.specs.List.{find, flat_map}
 use Rattle.std.specs.Option.{option_map, option_or}
 use Rattle.std.proofs.lemmas.List.Folds.{find-append}
@@ -13,7 +13,7 @@ use Rattle.choice_tree.specs.Open.{classes, first_open, is_open_of, obligations,
 use Rattle.choice_tree.specs.Places.{Place, numbers, place_at, places}
 use Rattle.choice_tree.specs.Seen.{place_of, places_of}
 use Rattle.choice_tree.specs.declared.place.Place.{Place as ThePlace}
-use Rattle.choice_tree.proofs.Numbers.{length_numbers, numbers_next}
+use Rattle.choice_tree.proofs.Numbers.{length_numbers, numbers_done, numbers_next}
 
 module _ (test : ℕ → Bool) (n l : ℕ) (less : l < n) where
   -- this one passes not, so the first is further on
@@ -52,6 +52,23 @@ module _ (test : Obligation → Bool) where
     pub hit_line : (r : Option Obligation) (o : Obligation) → Some o ≡ find test (obligations_of n l) → ahead (numbers (n - l) l) ≡ r → Some o ≡ r
     hit_line r o is before =
         sym (ahead_is ∙ ap (λ (x : Option Obligation). option_or x (ahead (numbers (n - (l + 1)) (l + 1)))) (sym is)) ∙ before
+
+module _ (test : Obligation → Bool) (n : ℕ) where
+  abbrev of_all : Option Obligation
+  of_all = find test (flat_map (λ k. obligations_of n k) (numbers n 0))
+
+  -- where nothing is open of the first lines, the first that is open is further on
+  from_line : (l : ℕ) → l ≤ n → ((k : ℕ) → k < l → find test (obligations_of n k) ≡ None) → find test (flat_map (λ k. obligations_of n k) (numbers (n - l) l)) ≡ of_all
+  from_line zero within shut = let all : n - 0 ≡ n = omega arith in ap (λ (m : ℕ). find test (flat_map (λ k. obligations_of n k) (numbers m 0))) all
+  from_line (suc l) within shut =
+      ap (λ (m : ℕ). find test (flat_map (λ k. obligations_of n k) (numbers (n - m) m))) (sym (add-one l))
+      ∙ skip_line test n l (omega (arith, within)) of_all None refl (sym (shut l (omega arith))) (from_line l (omega (arith, within)) (λ k less. shut k (omega (arith, less))))
+
+  pub first_at : (l : ℕ) (o : Obligation) → l < n → ((k : ℕ) → k < l → find test (obligations_of n k) ≡ None) → Some o ≡ find test (obligations_of n l) → Some o ≡ of_all
+  first_at l o within shut is = hit_line test n l within of_all o is (from_line l (omega (arith, within)) shut)
+
+  pub first_none : ((k : ℕ) → k < n → find test (obligations_of n k) ≡ None) → None ≡ of_all
+  first_none shut = ap (λ (ls : List ℕ). find test (flat_map (λ k. obligations_of n k) ls)) (sym (numbers_done n n (omega arith))) ∙ from_line n (omega arith) shut
 
 pub same_first : (u : Universe) (c : Choice) (ps : List ThePlace) → places_of ps ≡ places u c → find (is_open_of (places_of ps)) (obligations u.wanted (length ps)) ≡ first_open u c
 same_first u c ps is =

@@ -14,4 +14,5 @@ pub mod Smaller
 pub mod SameLeaves
 pub mod Unseen
 pub mod Shut
-pub mod Cleared
+pub mod Unsettled
+pub mod Way

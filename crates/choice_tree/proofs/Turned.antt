@@ -1,17 +1,16 @@
 -- Places whose decisions change, one line after the other.
-use Rattle.std.proofs.Common.{◌≡◌, ◌≢◌, ◌⊎◌, ◌∙◌, ◌<◌, ◌+◌, ℕ, zero, suc, true, false, List, [], ◌∷◌, None, Option, ap, arith, get_or, inl, inr, length, map, nat_eq, refl, set, sym}
+use Rattle.std.proofs.Common.{◌≡◌, ◌≢◌, ◌∙◌, ◌<◌, ◌≤◌, ◌+◌, ℕ, zero, suc, List, [], ◌∷◌, Option, ap, arith, get_or, inl, inr, length, map, refl, set, sym}
 use Rattle.std.specs.Option.{option_map}
 use Rattle.std.proofs.lemmas.Bool.Decides.{eqb_tells}
-use Rattle.std.proofs.lemmas.List.{get_or-set_other, get_or-set_same, length-map}
+use Rattle.std.proofs.lemmas.List.{get_or-set_other, get_or-set_same, length-map, set_past}
 use Rattle.choice_law.specs.Tree.{Choice, decided}
 use Rattle.choice_law.specs.Universe.{Offer, Universe, Value, lines, no_offer, offer_at}
 use Rattle.choice_tree.specs.Keys.{offers_in}
-use Rattle.choice_tree.specs.Marks.{AreMarks}
 use Rattle.choice_tree.specs.Places.{Place, no_place, numbers, place_at, places, with_decided}
 use Rattle.choice_tree.specs.Seen.{place_of, places_of}
 use Rattle.choice_tree.specs.Views.{offer_of, value_of}
 use Rattle.choice_tree.specs.declared.place.Place.{Place as ThePlace}
-use Rattle.choice_tree.specs.declared.value.Value.{Value as TheValue}
+use Rattle.choice_tree.proofs.Numbers.{get_numbered, length_numbers}
 use Rattle.choice_tree.proofs.Placed.{same_place}
 
 -- what is offered stays as it is
@@ -25,24 +24,6 @@ pub same_line : (ss : List Place) (l : ℕ) (d : Option Value) → (get_or ss l 
 same_line [] l d e = refl
 same_line (s ∷ ss) zero d e = ap (λ (x : Place). x ∷ ss) (same_place (sym e) refl)
 same_line (s ∷ ss) (suc l) d e = ap (λ (xs : List Place). s ∷ xs) (same_line ss l d e)
-
--- one line more has its decision
-pub decided_more : (old new : List Place) (marks : List (Option TheValue)) (i : ℕ) → i < length old → new ≡ with_decided old i (option_map value_of (get_or marks i None))
-    → ((k : ℕ) → k < i → (get_or old k no_place).decided ≡ option_map value_of (get_or marks k None))
-    → (k : ℕ) → k < i + 1 → (get_or new k no_place).decided ≡ option_map value_of (get_or marks k None)
-decided_more old new marks i within is before k less =
-    ap (λ (ss : List Place). (get_or ss k no_place).decided) is ∙ at_line (eqb_tells k i)
-  where
-    here : Place
-    here = record { decided = option_map value_of (get_or marks i None); offer = (get_or old i no_place).offer }
-
-    at_line : ((nat_eq k i ≡ true) × (k ≡ i)) ⊎ ((nat_eq k i ≡ false) × (k ≢ i)) → (get_or (set old i here) k no_place).decided ≡ option_map value_of (get_or marks k None)
-    at_line (inl (e, same)) =
-        ap (λ (n : ℕ). (get_or (set old i here) n no_place).decided) same
-        ∙ (ap (λ (s : Place). s.decided) (get_or-set_same old i here no_place within)
-        ∙ ap (λ (n : ℕ). option_map value_of (get_or marks n None)) (sym same))
-    at_line (inr (e, other)) =
-        ap (λ (s : Place). s.decided) (get_or-set_other old i k here no_place other) ∙ before k (omega (arith, less, other))
 
 list_is : {A : Type 0} (d : A) (xs : List A) (k : ℕ) (f : ℕ → A) → ((l : ℕ) → l < length xs → get_or xs l d ≡ f (k + l)) → xs ≡ map f (numbers (length xs) k)
 list_is d [] k f each = refl
@@ -82,9 +63,22 @@ placed_line [] l x s d less is offer e = absurd (omega (arith, less))
 placed_line (p ∷ ps) zero x s d less is offer e = ap (λ (t : Place). t ∷ places_of ps) (same_place e (ap offer_of (offer ∙ ap (λ (t : ThePlace). t.offer.now) is)))
 placed_line (p ∷ ps) (suc l) x s d less is offer e = ap (λ (ts : List Place). place_of p ∷ ts) (placed_line ps l x s d (omega (arith, less)) is offer e)
 
--- where each line has the mark of the choice, these are its places
-pub turned : (u : Universe) (c : Choice) (old new : List ThePlace) (marks : List (Option TheValue)) (count : ℕ) → offers_in (places_of old) ≡ u.offers → offers_in (places_of new) ≡ offers_in (places_of old)
-    → count ≡ length old → AreMarks count c marks → ((l : ℕ) → l < length old → (get_or (places_of new) l no_place).decided ≡ option_map value_of (get_or marks l None)) → places_of new ≡ places u c
-turned u c old new marks count are same counted marked each =
-    let long : length old ≡ lines u = sym (length-map old place_of) ∙ (sym (length-map (places_of old) (λ (s : Place). s.offer)) ∙ ap length are) in
-    all_placed u c (places_of new) (same ∙ are) (λ l less. each l (omega (arith, less, long)) ∙ marked.each l (omega (arith, less, long, counted)))
+-- a line that isn't there changes nothing
+pub past_line : (ss : List Place) (l : ℕ) (d : Option Value) → length ss ≤ l → with_decided ss l d ≡ ss
+past_line ss l d past = set_past ss l _ past
+
+-- where another choice decides one line so and the others alike, these are its places
+pub placed_after : (u : Universe) (c e : Choice) (l : ℕ) (d : Option Value) → (l < lines u → d ≡ decided e l) → ((k : ℕ) → k ≢ l → decided c k ≡ decided e k) → with_decided (places u c) l d ≡ places u e
+placed_after u c e l d here others =
+    let ss = places u c in
+    let now : Place = record { decided = d; offer = (get_or ss l no_place).offer } in
+    let long : length ss ≡ lines u = length-map (numbers (lines u) 0) (place_at u c) ∙ length_numbers (lines u) 0 in
+    all_placed u e (with_decided ss l d) (same_offers ss l d ∙ offers_placed u c) (λ k less. elim (eqb_tells k l) [
+      | inl r ↦
+          ap (λ (n : ℕ). (get_or (set ss l now) n no_place).decided) r.1
+          ∙ (ap (λ (s : Place). s.decided) (get_or-set_same ss l now no_place (let same = r.1 in omega (arith, less, long, same)))
+          ∙ (here (let same = r.1 in omega (arith, less, same)) ∙ ap (decided e) (sym r.1)))
+      | inr r ↦
+          ap (λ (s : Place). s.decided) (get_or-set_other ss l k now no_place r.1)
+          ∙ (ap (λ (s : Place). s.decided) (get_numbered (place_at u c) no_place (lines u) 0 k less) ∙ (let same : 0 + k ≡ k = omega arith in ap (decided c) same ∙ others k r.1))
+    ])

@@ -10,5 +10,6 @@ pub mod Candidates
 pub mod Options
 pub mod Tree
 pub mod Settled
+pub mod Steps
 pub mod Shown
 pub mod Keys

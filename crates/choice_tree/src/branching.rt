@@ -1,11 +1,12 @@
 ghost use Rattle.std.specs.Prelude.{◌≡◌, ◌++◌, ◌∷◌, IfOk, OnOk, map};
 ghost use Rattle.std.specs.Option.{option_map};
-ghost use Rattle.choice_law.specs.Tree.{held};
+ghost use Rattle.choice_law.specs.Tree.{Choice as Decisions, decided, held};
 ghost use Rattle.choice_law.specs.Universe.{as_is};
 ghost use Rattle.choice_tree.specs.Open.{obligation_of};
 ghost use Rattle.choice_tree.specs.Options.{options, second_part};
 ghost use Rattle.choice_tree.specs.Places.{places};
 ghost use Rattle.choice_tree.specs.Seen.{places_of};
+ghost use Rattle.choice_tree.specs.Steps.{Holds, after, held_on};
 ghost use Rattle.choice_tree.specs.Tree.{tree_options};
 ghost use Rattle.choice_tree.specs.Views.{decisions_of, universe_of, value_of};
 
@@ -14,23 +15,24 @@ use crate::choice::Choice;
 use crate::choosing::{beside, decisions};
 use crate::obligation::Obligation;
 use crate::place::Place;
+use crate::step::Step;
 use crate::universe::Universe;
 use crate::value::{Decision, Value};
 use crate::walk::Walk;
 use std::alloc::{AllocError, Global};
 
-fn push_choices(
-    alloc: Global,
-    choice: &Choice,
+fn push_steps(
+    held: Option<Decision>,
     decisions: &[Decision],
-    out: &mut Vec<Choice>,
+    out: &mut Vec<Step>,
 ) -> Result<(), AllocError>
-    ensures { OnOk result (out.new.items ≡
-        out.old.items ++ map (λ d. d ∷ choice.now) (decisions_of decisions.now)) }
+    ensures { OnOk result ((c : Decisions) → map (after c) out.new.items ≡
+        map (after c) out.old.items
+        ++ map (λ d. d ∷ held_on held c) (decisions_of decisions.now)) }
 {
     for decision in decisions {
-        let more = choice.with(alloc, decision.line, decision.value)?;
-        out.push(more)?;
+        let decision = *decision;
+        out.push(Step { held, decision })?;
     }
     Ok(())
 }
@@ -44,17 +46,17 @@ fn as_is(universe: &Universe, line: usize) -> Value
     }
 }
 
-fn hold(
-    alloc: Global,
-    universe: &Universe,
-    choice: &Choice,
-    line: usize,
-) -> Result<Choice, AllocError>
-    ensures { IfOk result (λ more. more ≡ held (universe_of universe.now) choice.now line) }
+/// What holds a line as it is, of which this is decided.
+pub(crate) fn held_line(universe: &Universe, value: Option<Value>, line: usize) -> Option<Decision>
+    ensures { (c : Decisions) → option_map value_of value ≡ decided c line →
+        held_on result c ≡ held (universe_of universe.now) c line }
 {
-    match choice.decided(line) {
-        Some(_) => choice.try_clone(alloc),
-        None => choice.with(alloc, line, as_is(universe, line)),
+    match value {
+        Some(_) => None,
+        None => {
+            let value = as_is(universe, line);
+            Some(Decision { line, value })
+        }
     }
 }
 
@@ -62,41 +64,58 @@ fn hold(
 fn push_second(
     alloc: Global,
     universe: &Universe,
-    choice: &Choice,
     seen: &[Place<'_>],
+    held: Option<Decision>,
     obligation: &Obligation<'_>,
-    out: &mut Vec<Choice>,
+    out: &mut Vec<Step>,
 ) -> Result<(), AllocError>
-    requires { places_of seen.now ≡ places (universe_of universe.now) choice.now }
-    ensures { OnOk result (out.new.items ≡ out.old.items ++ second_part universe.now.update
-        (universe_of universe.now) choice.now (obligation_of obligation.now)) }
+    ensures { OnOk result ((c : Decisions) →
+        places_of seen.now ≡ places (universe_of universe.now) c →
+        Holds (universe_of universe.now) c (obligation_of obligation.now) held →
+        map (after c) out.new.items ≡ map (after c) out.old.items
+        ++ second_part universe.now.update (universe_of universe.now) c
+        (obligation_of obligation.now)) }
 {
     match *obligation {
         Obligation::Conflict(line, other) => {
             let second = beside(alloc, universe.update, seen, line, other)?;
-            let held = hold(alloc, universe, choice, line)?;
-            push_choices(alloc, &held, &second, out)
+            push_steps(held, &second, out)?;
+            Ok(())
         }
         _ => Ok(()),
     }
 }
 
-/// The options, where all lines are at hand.
-pub(crate) fn options_of(
+/// The steps to the options of a choice, where all lines are at hand, and what holds the first line
+/// of a conflict.
+pub(crate) fn steps_of(
     alloc: Global,
     universe: &Universe,
-    choice: &Choice,
     around: &Around<'_, '_>,
+    held: Option<Decision>,
     obligation: &Obligation<'_>,
-) -> Result<Vec<Choice>, AllocError>
-    requires { places_of around.now.places.now ≡ places (universe_of universe.now) choice.now }
-    ensures { IfOk result (λ v. v.items ≡ options universe.now.update
-        (universe_of universe.now) choice.now (obligation_of obligation.now)) }
+) -> Result<Vec<Step>, AllocError>
+    ensures { IfOk result (λ v. (c : Decisions) →
+        places_of around.now.places.now ≡ places (universe_of universe.now) c →
+        Holds (universe_of universe.now) c (obligation_of obligation.now) held →
+        map (after c) v.items ≡ options universe.now.update (universe_of universe.now) c
+        (obligation_of obligation.now)) }
 {
     let mut out = Vec::new(alloc);
     let first = decisions(alloc, universe.update, around, obligation)?;
-    push_choices(alloc, choice, &first, &mut out)?;
-    push_second(alloc, universe, choice, around.places, obligation, &mut out)?;
+    push_steps(None, &first, &mut out)?;
+    push_second(alloc, universe, around.places, held, obligation, &mut out)?;
+    Ok(out)
+}
+
+fn options_by(alloc: Global, choice: &Choice, steps: &[Step]) -> Result<Vec<Choice>, AllocError>
+    ensures { IfOk result (λ v. v.items ≡ map (after choice.now) steps.now) }
+{
+    let mut out = Vec::new(alloc);
+    for step in steps {
+        let option = choice.after(alloc, *step)?;
+        out.push(option)?;
+    }
     Ok(out)
 }
 
@@ -113,8 +132,10 @@ pub fn options(
     ensures { IfOk result (λ v. v.items ≡ options universe.now.update
         (universe_of universe.now) choice.now (obligation_of obligation.now)) }
 {
-    let mut walk = Walk::new(alloc, universe)?;
-    walk.options(alloc, choice, obligation)
+    let walk = Walk::to(alloc, universe, choice)?;
+    let steps = walk.steps(alloc, obligation)?;
+    let found = options_by(alloc, choice, &steps)?;
+    Ok(found)
 }
 
 /// The options of a choice for what is first open of it, if anything is: those of [`options`] for
@@ -127,6 +148,12 @@ pub fn next_options(
     ensures { IfOk result (λ found. option_map (λ v. v.items) found ≡
         tree_options universe.now.update (universe_of universe.now) choice.now) }
 {
-    let mut walk = Walk::new(alloc, universe)?;
-    walk.next_options(alloc, choice)
+    let mut walk = Walk::to(alloc, universe, choice)?;
+    match walk.next_steps(alloc)? {
+        Some(steps) => {
+            let found = options_by(alloc, choice, &steps)?;
+            Ok(Some(found))
+        }
+        None => Ok(None),
+    }
 }

@@ -1,8 +1,10 @@
-ghost use Rattle.std.specs.Prelude.{◌≡◌, ◌∷◌, IfOk, []};
+ghost use Rattle.std.specs.Prelude.{◌≡◌, ◌∷◌, IfOk, [], reverse};
 ghost use Rattle.std.specs.Option.{option_map};
 ghost use Rattle.choice_law.specs.Tree.{decided};
+ghost use Rattle.choice_tree.specs.Steps.{after};
 ghost use Rattle.choice_tree.specs.Views.{decisions_of, value_of};
 
+use crate::step::Step;
 use crate::value::{Decision, Value};
 use std::alloc::{AllocError, Global};
 use std::marker::Model;
@@ -35,6 +37,14 @@ impl Choice {
         }
     }
 
+    /// These decisions, of which the newest comes last.
+    pub(crate) fn of(mut decisions: Vec<Decision>) -> Choice
+        ensures { result ≡ decisions_of (reverse decisions.items) }
+    {
+        decisions.reverse();
+        Choice { decisions }
+    }
+
     /// What is decided of a line, if anything is.
     pub fn decided(&self, line: usize) -> Option<Value>
         ensures { option_map value_of result ≡ decided self.now line }
@@ -48,6 +58,20 @@ impl Choice {
     {
         let decisions = with_more(alloc, Decision { line, value }, &self.decisions)?;
         Ok(Choice { decisions })
+    }
+
+    /// The option to which a step leads from here.
+    pub(crate) fn after(&self, alloc: Global, step: Step) -> Result<Choice, AllocError>
+        ensures { IfOk result (λ more. more ≡ after self.now step) }
+    {
+        let (line, value) = (step.decision.line, step.decision.value);
+        match step.held {
+            None => self.with(alloc, line, value),
+            Some(held) => {
+                let beside = self.with(alloc, held.line, held.value)?;
+                beside.with(alloc, line, value)
+            }
+        }
     }
 
     /// A copy.

@@ -16,12 +16,13 @@
 //! **Only tested**: whole trees of small universes, written out by hand, and that with ample memory
 //! each call answers.
 //!
-//! A [`Walk`] keeps what it knows of the lines from one choice to the next, and makes anew only
-//! those of which something else is decided. A line of whose package nothing is open is marked, and
-//! is judged again only where a package that it names, or one of its text, has come or gone
-//! (`AreSettled` of `specs/Settled.antt`). What meets a need, what serves it, and what may
-//! conflict is found by its name or its text among the lines that may have such a package; only
-//! where a conflict may be is each two of the lines looked at.
+//! A [`Walk`] is at a choice, goes on to an option by a [`Step`], and goes back. It keeps what it
+//! knows of the lines, and makes anew only those of which something else is decided. The lines that
+//! may have something open are a set; one of whose package nothing is open leaves it, and comes
+//! back only where a package that it names, or one of its text, has come or gone (`AreSettled` of
+//! `specs/Settled.antt`). What meets a need, what serves it, and what may conflict is found by its
+//! name or its text among the lines that may have such a package; only where a conflict may be is
+//! each two of the lines looked at.
 //!
 //! ```
 //! let choice = Choice::new(alloc);
@@ -53,7 +54,10 @@ mod reasons;
 mod repeats;
 mod settling;
 mod standing;
+mod step;
 mod taking_up;
+mod trail;
+mod turn;
 mod turning;
 mod universe;
 mod value;
@@ -64,6 +68,7 @@ pub use choice::Choice;
 pub use laws::{first_open_is_a_pick, options_are_those, options_decide_more};
 pub use obligation::Obligation;
 pub use reasons::next_reason;
+pub use step::Step;
 pub use taking_up::first_open;
 pub use universe::{Offer, Universe};
 pub use value::{Decision, Value};

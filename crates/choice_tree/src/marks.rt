@@ -1,10 +1,39 @@
-ghost use Rattle.std.specs.Prelude.{◌++◌, ◌+◌, ◌∷◌, [], ℕ, IfOk, OnOk};
-ghost use Rattle.choice_law.specs.Tree.{Choice as Decisions};
+ghost use Rattle.std.specs.Prelude.{◌≡◌, ◌++◌, ◌+◌, ◌∷◌, [], ℕ, IfOk, OnOk, length};
+ghost use Rattle.std.specs.Option.{option_map};
+ghost use Rattle.choice_law.specs.Tree.{Choice as Decisions, decided};
 ghost use Rattle.choice_tree.specs.Marks.{AreMarks};
 ghost use Rattle.choice_tree.specs.Views.{decisions_of, value_of};
 
+use crate::choice::Choice;
 use crate::value::{Decision, Value};
 use std::alloc::{AllocError, Global};
+
+/// A choice with what is decided of each of so many lines, so that it is looked up.
+#[derive(Drop)]
+pub(crate) struct Marked {
+    pub(crate) choice: Choice,
+    marks: Vec<Option<Value>>,
+    ghost are_marks: { AreMarks (length marks.items) choice marks.items },
+}
+
+impl Marked {
+    pub(crate) fn new(alloc: Global, choice: Choice, lines: usize) -> Result<Marked, AllocError>
+        ensures { IfOk result (λ marked. marked.choice ≡ choice) }
+    {
+        let marks = marks(alloc, choice.decisions(), lines)?;
+        Ok(Marked { choice, marks })
+    }
+
+    /// What is decided of a line, if anything is.
+    pub(crate) fn decided(&self, line: usize) -> Option<Value>
+        ensures { option_map value_of result ≡ decided self.now.choice line }
+    {
+        if line < self.marks.len() {
+            return self.marks[line];
+        }
+        self.choice.decided(line)
+    }
+}
 
 /// What is decided of each of so many lines, if anything is, with one look at each decision. They
 /// stand the newest first, and the newest of a line counts.

@@ -15,11 +15,12 @@ ghost use Rattle.choice_tree.specs.Tree.{tree_reason};
 ghost use Rattle.choice_tree.specs.Views.{offer_of, universe_of};
 
 use crate::choice::Choice;
+use crate::marks::Marked;
 use crate::obligation::Obligation;
 use crate::opposing::conflict;
 use crate::standing::Standing;
-use crate::taking_up::first_open;
 use crate::universe::{Offer, Universe};
+use crate::walk::Walk;
 use dep_atom::Atom;
 use dep_tree::is_block;
 use pkg_state::{Class, Pkg};
@@ -140,10 +141,10 @@ fn offers_against(alloc: Global, gone: &Pkg, offer: &Offer) -> Result<bool, Allo
 }
 
 /// The package that stands on a line, if there is one.
-fn package_at<'a>(universe: &'a Universe, choice: &Choice, line: usize) -> Option<&'a Pkg>
+fn package_at<'a>(universe: &'a Universe, choice: &Marked, line: usize) -> Option<&'a Pkg>
     ensures { option_map (λ p. p.now) result ≡
         package_of (offer_at (universe_of universe.now) line)
-        (filling (universe_of universe.now) choice.now line) }
+        (filling (universe_of universe.now) choice.now.choice line) }
 {
     match universe.offers.get(line) {
         None => None,
@@ -203,12 +204,12 @@ fn offer_at(universe: &Universe, line: usize) -> &Offer
 fn rests_on(
     alloc: Global,
     universe: &Universe,
-    choice: &Choice,
+    choice: &Marked,
     obligation: &Obligation<'_>,
     line: usize,
 ) -> Result<bool, AllocError>
     requires { line < length universe.now.offers.items }
-    ensures { IfOk result (λ it. it ≡ rests_on (universe_of universe.now) choice.now
+    ensures { IfOk result (λ it. it ≡ rests_on (universe_of universe.now) choice.now.choice
         (obligation_of obligation.now) line) }
 {
     let offer = offer_at(universe, line);
@@ -234,13 +235,13 @@ fn rests_on(
 fn is_part(
     alloc: Global,
     universe: &Universe,
-    choice: &Choice,
+    choice: &Marked,
     obligation: &Obligation<'_>,
     line: usize,
 ) -> Result<bool, AllocError>
     requires { line < length universe.now.offers.items }
-    ensures { IfOk result (λ it. it ≡ (is_some (decided choice.now line) &&
-        rests_on (universe_of universe.now) choice.now (obligation_of obligation.now) line)) }
+    ensures { IfOk result (λ it. it ≡ (is_some (decided choice.now.choice line) &&
+        rests_on (universe_of universe.now) choice.now.choice (obligation_of obligation.now) line)) }
 {
     match choice.decided(line) {
         None => Ok(false),
@@ -249,13 +250,13 @@ fn is_part(
 }
 
 /// The decided lines on which it rests that the obligation is open, in their order.
-fn reason_of(
+pub(crate) fn reason_of(
     alloc: Global,
     universe: &Universe,
-    choice: &Choice,
+    choice: &Marked,
     obligation: &Obligation<'_>,
 ) -> Result<Vec<usize>, AllocError>
-    ensures { IfOk result (λ v. v.items ≡ reason (universe_of universe.now) choice.now
+    ensures { IfOk result (λ v. v.items ≡ reason (universe_of universe.now) choice.now.choice
         (obligation_of obligation.now)) }
 {
     let mut lines = Vec::new(alloc);
@@ -268,7 +269,7 @@ fn reason_of(
 }
 
 /// The decided lines on which it rests that something is first open of a choice, in their order;
-/// none where nothing is open. It looks at all lines once, as a search needs it at dead ends alone.
+/// none where nothing is open. It looks at all lines once.
 pub fn next_reason(
     alloc: Global,
     universe: &Universe,
@@ -276,8 +277,7 @@ pub fn next_reason(
 ) -> Result<Vec<usize>, AllocError>
     ensures { IfOk result (λ v. v.items ≡ tree_reason (universe_of universe.now) choice.now) }
 {
-    match first_open(alloc, universe, choice)? {
-        None => Ok(Vec::new(alloc)),
-        Some(obligation) => reason_of(alloc, universe, choice, &obligation),
-    }
+    let mut walk = Walk::to(alloc, universe, choice)?;
+    let lines = walk.reason(alloc)?;
+    Ok(lines)
 }

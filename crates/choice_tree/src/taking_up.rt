@@ -18,6 +18,7 @@ use crate::choice::Choice;
 use crate::obligation::Obligation;
 use crate::place::Place;
 use crate::places::{any_decides, any_opposes, opposes};
+use crate::settling::first_of;
 use crate::universe::Universe;
 use crate::value::Value;
 use crate::walk::Walk;
@@ -25,6 +26,7 @@ use dep_atom::Atom;
 use pkg_state::Class;
 use pms_names::Flags;
 use std::alloc::{AllocError, Global};
+use std::collections::BTreeSet;
 
 /// Whether a decided line has a package that the atom matches.
 fn is_served(around: &Around<'_, '_>, atom: &Atom, nobody: &Flags) -> bool
@@ -158,45 +160,27 @@ fn first_of_line<'a>(around: &Around<'_, '_>, line: usize) -> Option<Obligation<
     }
 }
 
-/// What is first open of the package on a line. Where nothing is, the line is marked; one that is
-/// marked already isn't judged.
-fn first_unsettled<'a>(
+/// What is first open of the packages, line by line. Only lines that may have something open are
+/// judged, and one of which nothing is open is none of them any more.
+fn first_of_packages<'a>(
     around: &Around<'_, '_>,
-    settled: &mut Vec<bool>,
-    line: usize,
+    unsettled: &mut BTreeSet<usize>,
 ) -> Option<Obligation<'a>>
-    requires line { line < length around.now.places.now }
-    requires settled { AreSettled around.now.places.now settled.old.items }
-    ensures settled { AreSettled around.now.places.now settled.new.items }
-    ensures found { option_map obligation_of result ≡
-        find (is_open_of (places_of around.now.places.now))
-        (obligations_of (length around.now.places.now) line) }
-{
-    if settled[line] {
-        return None;
-    }
-    match first_of_line(around, line) {
-        Some(found) => Some(found),
-        None => {
-            settled[line] = true;
-            None
-        }
-    }
-}
-
-/// What is first open of the packages, line by line.
-fn first_of_packages<'a>(around: &Around<'_, '_>, settled: &mut Vec<bool>) -> Option<Obligation<'a>>
-    requires { AreSettled around.now.places.now settled.old.items }
-    ensures settled { AreSettled around.now.places.now settled.new.items }
+    requires { AreSettled around.now.places.now unsettled.old }
+    ensures settled { AreSettled around.now.places.now unsettled.new }
     ensures found { option_map obligation_of result ≡
         find (is_open_of (places_of around.now.places.now))
         (flat_map (obligations_of (length around.now.places.now))
         (numbers (length around.now.places.now) 0)) }
 {
-    for line in 0..around.places.len() {
-        if let Some(found) = first_unsettled(around, settled, line) {
+    while let Some(line) = first_of(unsettled) {
+        if line >= around.places.len() {
+            return None;
+        }
+        if let Some(found) = first_of_line(around, line) {
             return Some(found);
         }
+        unsettled.remove(&line);
     }
     None
 }
@@ -233,10 +217,10 @@ pub(crate) fn first_of_all<'a>(
     alloc: Global,
     atoms: &'a [Atom],
     around: &Around<'_, '_>,
-    settled: &mut Vec<bool>,
+    unsettled: &mut BTreeSet<usize>,
 ) -> Result<Option<Obligation<'a>>, AllocError>
-    requires { AreSettled around.now.places.now settled.old.items }
-    ensures settled { AreSettled around.now.places.now settled.new.items }
+    requires { AreSettled around.now.places.now unsettled.old }
+    ensures settled { AreSettled around.now.places.now unsettled.new }
     ensures found { IfOk result (λ found. option_map obligation_of found ≡
         find (is_open_of (places_of around.now.places.now))
         (obligations (map atom_value atoms.now) (length around.now.places.now))) }
@@ -244,7 +228,7 @@ pub(crate) fn first_of_all<'a>(
     if let Some(atom) = first_wanted(alloc, atoms, around) {
         return Ok(Some(Obligation::Wanted(atom)));
     }
-    if let Some(found) = first_of_packages(around, settled) {
+    if let Some(found) = first_of_packages(around, unsettled) {
         return Ok(Some(found));
     }
     match first_forsaken(alloc, around.places)? {
@@ -263,6 +247,7 @@ pub fn first_open<'a>(
     ensures { IfOk result (λ found. option_map obligation_of found ≡
         first_open (universe_of universe.now) choice.now) }
 {
-    let mut walk = Walk::new(alloc, universe)?;
-    walk.first_open(alloc, choice)
+    let mut walk = Walk::to(alloc, universe, choice)?;
+    let found = walk.first_open(alloc)?;
+    Ok(found)
 }

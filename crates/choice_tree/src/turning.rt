@@ -1,7 +1,7 @@
-ghost use Rattle.std.specs.Prelude.{◌≡◌, ◌<◌, ℕ, IsTrue, None, OnErr, OnOk, get_or, length};
+ghost use Rattle.std.specs.Prelude.{◌≡◌, IsTrue, OnErr, OnOk};
 ghost use Rattle.std.specs.Option.{option_map};
 ghost use Rattle.choice_tree.specs.Keys.{AreKeyed, offers_in};
-ghost use Rattle.choice_tree.specs.Places.{no_place, with_decided};
+ghost use Rattle.choice_tree.specs.Places.{with_decided};
 ghost use Rattle.choice_tree.specs.Seen.{places_of};
 ghost use Rattle.choice_tree.specs.Settled.{AreSettled};
 ghost use Rattle.choice_tree.specs.declared.key.Key.TheVariants.{Leaf, Whole};
@@ -12,6 +12,7 @@ use crate::place::Place;
 use crate::settling::unsettle;
 use crate::value::Value;
 use std::alloc::{AllocError, Global};
+use std::collections::BTreeSet;
 
 fn is_value(one: Value, other: Value) -> bool
     ensures { IsTrue result → value_of one ≡ value_of other }
@@ -33,57 +34,33 @@ fn is_decided(one: Option<Value>, other: Option<Value>) -> bool
     }
 }
 
-/// Puts another decision on a line. The lines that this may concern lose their marks.
-fn turn_line(
+/// Puts another decision on a line, if there is such a line. Those that this may concern come to
+/// the lines that may have something open.
+pub(crate) fn turn(
     alloc: Global,
     places: &mut Vec<Place<'_>>,
-    settled: &mut Vec<bool>,
+    unsettled: &mut BTreeSet<usize>,
     leaves: &Keyed,
     texts: &Keyed,
     line: usize,
     decided: Option<Value>,
 ) -> Result<(), AllocError>
-    requires line { line < length places.old.items }
     requires leaves { AreKeyed Leaf (offers_in (places_of places.old.items)) leaves.now.lists }
     requires texts { AreKeyed Whole (offers_in (places_of places.old.items)) texts.now.lists }
-    requires settled { AreSettled places.old.items settled.old.items }
-    ensures settled { AreSettled places.new.items settled.new.items }
+    requires settled { AreSettled places.old.items unsettled.old }
+    ensures settled { AreSettled places.new.items unsettled.new }
+    ensures offers { offers_in (places_of places.new.items) ≡
+        offers_in (places_of places.old.items) }
     ensures done { OnOk result (places_of places.new.items ≡
         with_decided (places_of places.old.items) line (option_map value_of decided)) }
     ensures kept { OnErr result (places.new.items ≡ places.old.items) }
 {
-    if is_decided(places[line].decided, decided) {
+    if line >= places.len() || is_decided(places[line].decided, decided) {
         return Ok(());
     }
     let offer = places[line].offer;
     let place = Place::new(alloc, offer, decided)?;
-    unsettle(settled, leaves, texts, line, &places[line], &place);
+    unsettle(unsettled, leaves, texts, line, &places[line], &place)?;
     places[line] = place;
-    Ok(())
-}
-
-/// Puts these decisions on the lines. Those that have theirs stay as they are.
-pub(crate) fn turn(
-    alloc: Global,
-    places: &mut Vec<Place<'_>>,
-    settled: &mut Vec<bool>,
-    leaves: &Keyed,
-    texts: &Keyed,
-    marks: &[Option<Value>],
-) -> Result<(), AllocError>
-    requires lines { length marks.now ≡ length places.old.items }
-    requires leaves { AreKeyed Leaf (offers_in (places_of places.old.items)) leaves.now.lists }
-    requires texts { AreKeyed Whole (offers_in (places_of places.old.items)) texts.now.lists }
-    requires settled { AreSettled places.old.items settled.old.items }
-    ensures settled { AreSettled places.new.items settled.new.items }
-    ensures offers { offers_in (places_of places.new.items) ≡
-        offers_in (places_of places.old.items) }
-    ensures decided { OnOk result ((l : ℕ) → l < length places.old.items →
-        (get_or (places_of places.new.items) l no_place).decided ≡
-        option_map value_of (get_or marks.now l None)) }
-{
-    for line in 0..marks.len() {
-        turn_line(alloc, places, settled, leaves, texts, line, marks[line])?;
-    }
     Ok(())
 }

@@ -39,7 +39,7 @@ fn search(
     let walk = Walk::new(alloc, universe)?;
     let mut choices = Choices { walk };
     no_jump_loses(&choices);
-    let outcome = first_good(alloc, &mut choices, Choice::new(alloc), backtrack)?;
+    let outcome = first_good(alloc, &mut choices, backtrack)?;
     Ok(outcome)
 }
 

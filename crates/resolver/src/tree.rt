@@ -1,4 +1,4 @@
-use choice_tree::{Choice, Walk, next_reason};
+use choice_tree::{Choice, Step, Walk};
 use std::alloc::{AllocError, Global};
 use tree_search::{Deciding, Tree};
 
@@ -8,33 +8,49 @@ pub(crate) struct Choices<'a> {
     pub(crate) walk: Walk<'a>,
 }
 
-impl<'a> Tree<Choice> for Choices<'a> {
+impl<'a> Tree<Choice, Step> for Choices<'a> {
+    ghost use Rattle.choice_tree.specs.Steps.{above, after, here};
     ghost use Rattle.choice_tree.specs.Views.{universe_of};
     ghost use Rattle.choice_tree.proofs.Smaller.{smaller};
     ghost use Rattle.resolver.specs.Tree.{tree_shape};
 
     ghost shape = { λ t. tree_shape t.walk.universe.now.update (universe_of t.walk.universe.now) };
 
-    fn options(
-        &mut self,
-        alloc: Global,
-        choice: &Choice,
-    ) -> Result<Option<Vec<Choice>>, AllocError> {
-        self.walk.next_options(alloc, choice)
+    ghost path = { λ t. record {
+      here = here t.walk.trail.items;
+      above = above t.walk.trail.items;
+    } };
+
+    ghost option_by = { after };
+
+    fn options(&mut self, alloc: Global) -> Result<Option<Vec<Step>>, AllocError> {
+        self.walk.next_steps(alloc)
     }
 
-    fn reason(&mut self, alloc: Global, choice: &Choice) -> Result<Vec<usize>, AllocError> {
-        next_reason(alloc, self.walk.universe, choice)
+    fn go(&mut self, alloc: Global, step: Step) -> Result<(), AllocError> {
+        self.walk.go(alloc, step)
     }
 
-    fn knows(&self, choice: &Choice, line: usize) -> bool {
-        choice.decided(line).is_some()
+    fn back(&mut self, alloc: Global) -> Result<(), AllocError> {
+        self.walk.back(alloc)
+    }
+
+    fn reason(&mut self, alloc: Global) -> Result<Vec<usize>, AllocError> {
+        self.walk.reason(alloc)
+    }
+
+    fn knows(&self, line: usize) -> bool {
+        self.walk.decided(line).is_some()
+    }
+
+    fn choice(&self, alloc: Global) -> Result<Choice, AllocError> {
+        self.walk.choice(alloc)
     }
 
     ghost smaller = { λ t. smaller t.walk.universe.now.update (universe_of t.walk.universe.now) };
 }
 
-impl<'a> Deciding<Choice> for Choices<'a> {
+impl<'a> Deciding<Choice, Step> for Choices<'a> {
     ghost use Rattle.choice_law.specs.Solutions.{IsSolution};
     ghost use Rattle.choice_law.specs.Tree.{decided};
     ghost use Rattle.choice_law.specs.Universe.{Value as LineValue};

@@ -4,4 +4,6 @@ pub mod Causes
 pub mod Parts
 pub mod Jumps
 pub mod Resuming
+pub mod Backing
 pub mod Searching
+pub mod Going

@@ -1,11 +1,11 @@
 -- A walk goes down, and back up.
-use Rattle.std.proofs.Common.{◌≡◌, ◌∙◌, ◌++◌, ℕ, Bool, true, false, cond, List, [], ◌∷◌, Some, length, map, reverse, inl, inr, refl, sym, ap, arith, subst}
+use Rattle.std.proofs.Common.{◌≡◌, ◌≤◌, ◌∙◌, ◌++◌, ℕ, Bool, true, false, cond, List, [], ◌∷◌, length, map, reverse, inl, inr, refl, sym, ap, arith, subst}
 use Rattle.std.specs.List.{list_all}
-use Rattle.std.proofs.lemmas.List.{append-nil, append_assoc, reverse-append}
-use Rattle.std.proofs.lemmas.Grind.{flat_map-append}
+use Rattle.std.proofs.lemmas.List.{append_assoc, length-append, reverse-append}
 use Rattle.basics.specs.Members.{Has}
-use Rattle.basics.proofs.Membership.{has-append_cases, has-append_left, has-append_right}
-use Rattle.tree_search.specs.Frames.{AreAmong, left_over, resumed, to_try}
+use Rattle.basics.proofs.Membership.{has-append_right}
+use Rattle.tree_search.specs.Frames.{AreAmong, Level, left_over, level, levels, levels_at, resumed}
+use Rattle.tree_search.specs.Path.{Path, down}
 use Rattle.tree_search.specs.Shape.{Shape}
 use Rattle.tree_search.specs.Visit.{End, Visit, after, barren, behind, joined, over, reached, seen_as, visit}
 use Rattle.tree_search.specs.declared.frame.Frame.{Frame}
@@ -17,6 +17,37 @@ popped old rest x is = ap reverse is ∙ reverse-append rest (x ∷ [])
 pub nothing_left : {A : Type 0} {n : ℕ} (xs : List A) → n ≡ length xs → n ≡ 0 → xs ≡ []
 nothing_left [] e z = refl
 nothing_left (x ∷ xs) e z = absurd (omega (arith, e, z))
+
+module _ {C S : Type 0} (by : C → S → C) where
+  -- a step down from a choice whose frame is kept
+  pub levels_down : (p q : Path C) (old new : List (Frame S)) (f : Frame S) (c : C) → q ≡ down c p → new ≡ old ++ f ∷ [] → levels_at by q new ≡ level by p.here f ∷ levels_at by p old
+  levels_down p q old new f c is pushed =
+      ap (λ (x : Path C). levels by x.above (reverse new)) is
+      ∙ ap (levels by (p.here ∷ p.above)) (popped new old f pushed)
+
+  -- where one comes out by a step back, and what is kept there
+  pub record IsBack (p : Path C) (old rest : List (Frame S)) (f : Frame S) : Type 0 where
+    pub before : Path C
+    pub from : p ≡ down p.here before
+    pub levels_are : levels_at by p old ≡ level by before.here f ∷ levels_at by before rest
+    pub enough : length rest ≤ length before.above
+
+  back_by : (here : C) (above : List C) (old rest : List (Frame S)) (f : Frame S) → old ≡ rest ++ f ∷ [] → length old ≤ length above → IsBack (record { here = here; above = above }) old rest f
+  back_by here [] old rest f is enough =
+      let longer = ap length is ∙ length-append rest (f ∷ []) in absurd (omega (arith, longer, enough))
+  back_by here (c ∷ cs) old rest f is enough = record {
+    before = record { here = c; above = cs };
+    from = refl;
+    levels_are = ap (levels by (c ∷ cs)) (popped old rest f is);
+    enough = let longer = ap length is ∙ length-append rest (f ∷ []) in omega (arith, longer, enough);
+  }
+
+  pub levels_back : (p : Path C) (old rest : List (Frame S)) (f : Frame S) → old ≡ rest ++ f ∷ [] → length old ≤ length p.above → IsBack p old rest f
+  levels_back p old rest f is enough = back_by p.here p.above old rest f is enough
+
+  -- what is left of the options, where one more is tried
+  pub rest_next : (c : C) (old rest : List S) (s : S) → old ≡ rest ++ s ∷ [] → map (by c) (reverse old) ≡ by c s ∷ map (by c) (reverse rest)
+  rest_next c old rest s is = ap (map (by c)) (popped old rest s is)
 
 module _ {C : Type 0} (shape : Shape C) where
   abbrev pub knows : C → ℕ → Bool
@@ -30,18 +61,18 @@ module _ {C : Type 0} (shape : Shape C) where
   after_behind c cause others met ms (reached g) = refl
   after_behind c cause others met ms (barren why) = behind_test (list_all (knows c) why) met ms why (others (joined (knows c) cause why))
 
-  abbrev pub rest_of : Frame C → List ℕ → Visit C
-  rest_of f w = over shape f.choice w (map (visit shape) (reverse f.rest.items))
+  abbrev pub rest_of : Level C → List ℕ → Visit C
+  rest_of f w = over shape f.choice w (map (visit shape) f.rest)
 
   -- what was met before stays before
-  pub resumed_behind : (fs : List (Frame C)) (met : List C) (v : Visit C) → resumed shape fs (behind met v) ≡ behind met (resumed shape fs v)
+  pub resumed_behind : (fs : List (Level C)) (met : List C) (v : Visit C) → resumed shape fs (behind met v) ≡ behind met (resumed shape fs v)
   resumed_behind [] met v = refl
   resumed_behind (f ∷ fs) met v =
-      ap (resumed shape fs) (after_behind f.choice f.cause.items (rest_of f) met v.met v.end)
-      ∙ resumed_behind fs met (after shape f.choice f.cause.items (rest_of f) v.met v.end)
+      ap (resumed shape fs) (after_behind f.choice f.cause (rest_of f) met v.met v.end)
+      ∙ resumed_behind fs met (after shape f.choice f.cause (rest_of f) v.met v.end)
 
   -- a good leaf is the end
-  pub resumed_reached : (fs : List (Frame C)) (g : C) → resumed shape fs (seen_as [] (reached g)) ≡ seen_as [] (reached g)
+  pub resumed_reached : (fs : List (Level C)) (g : C) → resumed shape fs (seen_as [] (reached g)) ≡ seen_as [] (reached g)
   resumed_reached [] g = refl
   resumed_reached (f ∷ fs) g = resumed_reached fs g
 
@@ -54,48 +85,42 @@ module _ {C : Type 0} (shape : Shape C) where
   no_jump false why v e = refl
 
   -- where a choice knows the whole cause, it is barren with that
-  pub back_jump : (fs gs : List (Frame C)) (f : Frame C) (why : List ℕ) → fs ≡ gs ++ f ∷ [] → list_all (knows f.choice) why ≡ true → resumed shape (reverse fs) (seen_as [] (barren why)) ≡ resumed shape (reverse gs) (seen_as [] (barren why))
-  back_jump fs gs f why is known =
-      ap (λ (xs : List (Frame C)). resumed shape xs (seen_as [] (barren why))) (popped fs gs f is)
-      ∙ ap (resumed shape (reverse gs)) (by_jump (list_all (knows f.choice) why) why (rest_of f (joined (knows f.choice) f.cause.items why)) known)
+  pub back_jump : (ls ms : List (Level C)) (l : Level C) (why : List ℕ) → ls ≡ l ∷ ms → list_all (knows l.choice) why ≡ true → resumed shape ls (seen_as [] (barren why)) ≡ resumed shape ms (seen_as [] (barren why))
+  back_jump ls ms l why is known =
+      ap (λ (xs : List (Level C)). resumed shape xs (seen_as [] (barren why))) is
+      ∙ ap (resumed shape ms) (by_jump (list_all (knows l.choice) why) why (rest_of l (joined (knows l.choice) l.cause why)) known)
 
-  back_on : (fs gs : List (Frame C)) (f : Frame C) (why : List ℕ) → fs ≡ gs ++ f ∷ [] → list_all (knows f.choice) why ≡ false → resumed shape (reverse fs) (seen_as [] (barren why)) ≡ resumed shape (reverse gs) (rest_of f (joined (knows f.choice) f.cause.items why))
-  back_on fs gs f why is known =
-      ap (λ (xs : List (Frame C)). resumed shape xs (seen_as [] (barren why))) (popped fs gs f is)
-      ∙ ap (resumed shape (reverse gs)) (no_jump (list_all (knows f.choice) why) why (rest_of f (joined (knows f.choice) f.cause.items why)) known)
+  back_on : (ls ms : List (Level C)) (l : Level C) (why : List ℕ) → ls ≡ l ∷ ms → list_all (knows l.choice) why ≡ false → resumed shape ls (seen_as [] (barren why)) ≡ resumed shape ms (rest_of l (joined (knows l.choice) l.cause why))
+  back_on ls ms l why is known =
+      ap (λ (xs : List (Level C)). resumed shape xs (seen_as [] (barren why))) is
+      ∙ ap (resumed shape ms) (no_jump (list_all (knows l.choice) why) why (rest_of l (joined (knows l.choice) l.cause why)) known)
 
   -- .. where no option is left, with its reason, too
-  pub back_last : (fs gs : List (Frame C)) (f : Frame C) (why whole cause : List ℕ) → fs ≡ gs ++ f ∷ [] → list_all (knows f.choice) why ≡ false → f.rest.items ≡ [] → whole ≡ joined (knows f.choice) f.cause.items why → cause ≡ joined (knows f.choice) whole (shape.reason f.choice) → resumed shape (reverse fs) (seen_as [] (barren why)) ≡ resumed shape (reverse gs) (seen_as [] (barren cause))
-  back_last fs gs f why whole cause is known none whole_is cause_is =
-      back_on fs gs f why is known
-      ∙ ap (λ (ds : List C). resumed shape (reverse gs) (over shape f.choice (joined (knows f.choice) f.cause.items why) (map (visit shape) (reverse ds)))) none
-      ∙ ap (λ (w : List ℕ). resumed shape (reverse gs) (seen_as [] (barren (joined (knows f.choice) w (shape.reason f.choice))))) (sym whole_is)
-      ∙ ap (λ (w : List ℕ). resumed shape (reverse gs) (seen_as [] (barren w))) (sym cause_is)
+  pub back_last : (ls ms : List (Level C)) (l : Level C) (why whole cause : List ℕ) → ls ≡ l ∷ ms → list_all (knows l.choice) why ≡ false → l.rest ≡ [] → whole ≡ joined (knows l.choice) l.cause why → cause ≡ joined (knows l.choice) whole (shape.reason l.choice) → resumed shape ls (seen_as [] (barren why)) ≡ resumed shape ms (seen_as [] (barren cause))
+  back_last ls ms l why whole cause is known none whole_is cause_is =
+      back_on ls ms l why is known
+      ∙ ap (λ (ds : List C). resumed shape ms (over shape l.choice (joined (knows l.choice) l.cause why) (map (visit shape) ds))) none
+      ∙ ap (λ (w : List ℕ). resumed shape ms (seen_as [] (barren (joined (knows l.choice) w (shape.reason l.choice))))) (sym whole_is)
+      ∙ ap (λ (w : List ℕ). resumed shape ms (seen_as [] (barren w))) (sym cause_is)
 
   -- .. else its next option is visited
-  pub back_next : (fs gs : List (Frame C)) (f g : Frame C) (d : C) (why : List ℕ) → fs ≡ gs ++ f ∷ [] → list_all (knows f.choice) why ≡ false → f.rest.items ≡ g.rest.items ++ d ∷ [] → g.choice ≡ f.choice → g.cause.items ≡ joined (knows f.choice) f.cause.items why → resumed shape (reverse fs) (seen_as [] (barren why)) ≡ resumed shape (g ∷ reverse gs) (visit shape d)
-  back_next fs gs f g d why is known some choice_is cause_is =
-      back_on fs gs f why is known
-      ∙ ap (λ (ds : List C). resumed shape (reverse gs) (over shape f.choice (joined (knows f.choice) f.cause.items why) (map (visit shape) ds))) (popped f.rest.items g.rest.items d some)
-      ∙ ap (λ (w : List ℕ). resumed shape (reverse gs) (over shape f.choice w (map (visit shape) (d ∷ reverse g.rest.items)))) (sym cause_is)
-      ∙ ap (λ (c : C). resumed shape (reverse gs) (over shape c g.cause.items (map (visit shape) (d ∷ reverse g.rest.items)))) (sym choice_is)
-
--- the options of the nearest choice come last
-pub left_split : {C : Type 0} (gs : List (Frame C)) (f : Frame C) → left_over (gs ++ f ∷ []) ≡ left_over gs ++ f.rest.items
-left_split gs f = flat_map-append (λ x. x.rest.items) gs (f ∷ []) ∙ ap (λ cs. left_over gs ++ cs) (append-nil f.rest.items)
+  pub back_next : (ls ms : List (Level C)) (l m : Level C) (d : C) (why : List ℕ) → ls ≡ l ∷ ms → list_all (knows l.choice) why ≡ false → l.rest ≡ d ∷ m.rest → m.choice ≡ l.choice → m.cause ≡ joined (knows l.choice) l.cause why → resumed shape ls (seen_as [] (barren why)) ≡ resumed shape (m ∷ ms) (visit shape d)
+  back_next ls ms l m d why is known some choice_is cause_is =
+      back_on ls ms l why is known
+      ∙ ap (λ (ds : List C). resumed shape ms (over shape l.choice (joined (knows l.choice) l.cause why) (map (visit shape) ds))) some
+      ∙ ap (λ (w : List ℕ). resumed shape ms (over shape l.choice w (map (visit shape) (d ∷ m.rest)))) (sym cause_is)
+      ∙ ap (λ (c : C). resumed shape ms (over shape c m.cause (map (visit shape) (d ∷ m.rest)))) (sym choice_is)
 
 -- those without the nearest are among all
-pub among_rest : {C : Type 0} (fs gs : List (Frame C)) (f : Frame C) → fs ≡ gs ++ f ∷ [] → AreAmong (left_over gs) (left_over fs)
-among_rest fs gs f is c h = subst (λ (cs : List _). Has cs c) (sym (ap left_over is ∙ left_split gs f)) (has-append_left (left_over gs) f.rest.items c h)
+pub among_rest : {C : Type 0} (ls ms : List (Level C)) (l : Level C) → ls ≡ l ∷ ms → AreAmong (left_over ms) (left_over ls)
+among_rest ls ms l is c h = subst (λ (xs : List _). Has (left_over xs) c) (sym is) (has-append_right l.rest (left_over ms) c h)
 
 -- so are those where one more is tried
-pub among_next : {C : Type 0} (fs gs hs : List (Frame C)) (f g : Frame C) (d : C) → fs ≡ gs ++ f ∷ [] → hs ≡ gs ++ g ∷ [] → f.rest.items ≡ g.rest.items ++ d ∷ [] → AreAmong (to_try hs (Some d)) (left_over fs)
-among_next fs gs hs f g d is now_is some c h =
-    subst (λ (cs : List _). Has cs c) (sym (ap left_over is ∙ left_split gs f))
+pub among_next : {C : Type 0} (ls ms ns : List (Level C)) (l m : Level C) (d : C) → ls ≡ l ∷ ms → ns ≡ m ∷ ms → l.rest ≡ d ∷ m.rest → AreAmong (d ∷ left_over ns) (left_over ls)
+among_next ls ms ns l m d is now_is some c h =
+    subst (λ (xs : List _). Has (left_over xs) c) (sym is)
+    (subst (λ (ds : List _). Has (ds ++ left_over ms) c) (sym some)
     (elim h [
-      | inl here ↦ has-append_right (left_over gs) f.rest.items c (subst (λ (cs : List _). Has cs c) (sym some) (has-append_right g.rest.items (d ∷ []) c (inl here)))
-      | inr later ↦ elim (has-append_cases (left_over gs) g.rest.items c (subst (λ (cs : List _). Has cs c) (ap left_over now_is ∙ left_split gs g) later)) [
-        | inl above ↦ has-append_left (left_over gs) f.rest.items c above
-        | inr its ↦ has-append_right (left_over gs) f.rest.items c (subst (λ (cs : List _). Has cs c) (sym some) (has-append_left g.rest.items (d ∷ []) c its))
-      ]
-    ])
+      | inl here ↦ inl here
+      | inr later ↦ inr (subst (λ (xs : List _). Has (left_over xs) c) now_is later)
+    ]))

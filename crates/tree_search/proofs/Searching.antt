@@ -1,22 +1,16 @@
 -- What a search keeps: the dead leaves that it met, and what is still ahead of it.
-use Rattle.std.proofs.Common.{◌≡◌, ◌<◌, ◌≤◌, ◌+◌, ◌-◌, ◌*◌, ◌∙◌, ◌++◌, ℕ, suc, List, [], ◌∷◌, Option, None, Some, length, map, reverse, take, inl, inr, refl, sym, ap, arith, subst}
+use Rattle.std.proofs.Common.{◌≡◌, ◌<◌, ◌≤◌, ◌+◌, ◌-◌, ◌*◌, ◌∙◌, ◌++◌, ℕ, suc, List, [], ◌∷◌, Option, None, Some, length, map, take, inl, inr, refl, sym, ap, arith, subst}
 use Rattle.std.proofs.Math.Nat.{suc-mul}
 use Rattle.std.proofs.Math.Seq.{take-append_seam}
-use Rattle.std.proofs.lemmas.List.{append-nil, append_assoc, length-append, reverse-append, reverse-reverse}
+use Rattle.std.proofs.lemmas.List.{append-nil, append_assoc, length-append}
 use Rattle.basics.specs.Members.{Has}
-use Rattle.basics.proofs.Membership.{has-append_cases, has-append_left, has-append_right}
-use Rattle.tree_search.specs.Frames.{AreAmong, IsAhead, left_over, resumed, to_try}
+use Rattle.basics.proofs.Membership.{has-append_cases}
+use Rattle.tree_search.specs.Frames.{AreAmong, IsAhead, Level, left_over, resumed, to_try}
 use Rattle.tree_search.specs.Laws.{IsDeep}
 use Rattle.tree_search.specs.Shape.{Shape}
 use Rattle.tree_search.specs.Visit.{Visit, barren, behind, ending, joined, over, reached, seen_as, visit, visit_by}
-use Rattle.tree_search.specs.declared.frame.Frame.{Frame}
-use Rattle.tree_search.proofs.Resuming.{left_split, popped, resumed_behind, resumed_reached}
+use Rattle.tree_search.proofs.Resuming.{resumed_behind, resumed_reached}
 use Rattle.tree_search.proofs.Walk.{unfolds}
-
-has-reverse : {A : Type 0} (xs : List A) (x : A) → Has xs x → Has (reverse xs) x
-has-reverse [] x h = h
-has-reverse (y ∷ ys) x (inl e) = subst (λ (l : List _). Has l x) (sym (reverse-append (y ∷ []) ys)) (has-append_right (reverse ys) (y ∷ []) x (inl e))
-has-reverse (y ∷ ys) x (inr h) = subst (λ (l : List _). Has l x) (sym (reverse-append (y ∷ []) ys)) (has-append_left (reverse ys) (y ∷ []) x (has-reverse ys x h))
 
 -- how high the tree of the next one is
 abbrev pub high : {C : Type 0} → Shape C → Option C → ℕ
@@ -29,12 +23,12 @@ steps_left shape top left next = left * suc (suc top) + high shape next
 
 module _ {C : Type 0} (shape : Shape C) (root : C) (limit : ℕ) where
   -- these dead leaves were met, and what is ahead makes it the whole visit
-  pub record IsSearching (met : List C) (frames : List (Frame C)) (next : Option C) : Type 0 where
+  pub record IsSearching (met : List C) (levels : List (Level C)) (next : Option C) : Type 0 where
     pub fewer : length met < limit
     pub view : Visit C
-    pub ahead : IsAhead shape (reverse frames) view next
+    pub ahead : IsAhead shape levels view next
     pub whole : behind met view ≡ visit shape root
-    pub low : (c : C) → Has (to_try frames next) c → shape.room c ≤ shape.room root
+    pub low : (c : C) → Has (to_try levels next) c → shape.room c ≤ shape.room root
 
   pub begun : 0 < limit → IsSearching [] [] (Some root)
   begun some = record {
@@ -48,9 +42,9 @@ module _ {C : Type 0} (shape : Shape C) (root : C) (limit : ℕ) where
     ];
   }
 
-  whole_of : (met : List C) (frames : List (Frame C)) (c : C) (v : Visit C) → IsSearching met frames (Some c) → visit shape c ≡ v → behind met (resumed shape (reverse frames) v) ≡ visit shape root
-  whole_of met frames c v s e =
-      ap (λ (w : Visit C). behind met (resumed shape (reverse frames) w)) (sym e)
+  whole_of : (met : List C) (levels : List (Level C)) (c : C) (v : Visit C) → IsSearching met levels (Some c) → visit shape c ≡ v → behind met (resumed shape levels v) ≡ visit shape root
+  whole_of met levels c v s e =
+      ap (λ (w : Visit C). behind met (resumed shape levels w)) (sym e)
       ∙ ap (λ (w : Visit C). behind met w) (sym s.ahead)
       ∙ s.whole
 
@@ -60,8 +54,8 @@ module _ {C : Type 0} (shape : Shape C) (root : C) (limit : ℕ) where
     subst (λ (xs : List C). length xs < limit) (sym (append-nil met) ∙ ap (λ (xs : List C). met ++ xs) (sym none) ∙ ap (λ (w : Visit C). w.met) e) fewer,
   )
 
-  pub none_good : (met : List C) (frames : List (Frame C)) → IsSearching met frames None → (ending (visit shape root).end ≡ None) × (length (visit shape root).met < limit)
-  none_good met frames s =
+  pub none_good : (met : List C) (levels : List (Level C)) → IsSearching met levels None → (ending (visit shape root).end ≡ None) × (length (visit shape root).met < limit)
+  none_good met levels s =
       let r = ends_at met (seen_as [] (barren s.ahead.0)) (ap (λ (w : Visit C). behind met w) (sym s.ahead.1) ∙ s.whole) refl s.fewer in
       (r.0, r.1)
 
@@ -69,85 +63,81 @@ module _ {C : Type 0} (shape : Shape C) (root : C) (limit : ℕ) where
     seen : (c : C) (x : Option (List C)) → shape.options c ≡ x → visit shape c ≡ visit_by shape (visit shape) c x
     seen c x is = unfolds shape deep c ∙ ap (λ (y : Option (List C)). visit_by shape (visit shape) c y) is
 
-    pub found_good : (met : List C) (frames : List (Frame C)) (c : C) → IsSearching met frames (Some c) → shape.options c ≡ None → (ending (visit shape root).end ≡ Some c) × (length (visit shape root).met < limit)
-    found_good met frames c s is =
-        let same = ap (λ (w : Visit C). behind met w) (sym (resumed_reached shape (reverse frames) c)) ∙ whole_of met frames c (seen_as [] (reached c)) s (seen c None is) in
+    pub found_good : (met : List C) (levels : List (Level C)) (c : C) → IsSearching met levels (Some c) → shape.options c ≡ None → (ending (visit shape root).end ≡ Some c) × (length (visit shape root).met < limit)
+    found_good met levels c s is =
+        let same = ap (λ (w : Visit C). behind met w) (sym (resumed_reached shape levels c)) ∙ whole_of met levels c (seen_as [] (reached c)) s (seen c None is) in
         ends_at met (seen_as [] (reached c)) same refl s.fewer
 
     -- of the dead leaf that is met, and what comes after it
-    one_more : (met now : List C) (frames : List (Frame C)) (c : C) (cause : List ℕ) → IsSearching met frames (Some c) → shape.options c ≡ Some [] → cause ≡ joined (shape.knows c) [] (shape.reason c) → now ≡ met ++ c ∷ [] → behind now (resumed shape (reverse frames) (seen_as [] (barren cause))) ≡ visit shape root
-    one_more met now frames c cause s is cause_is now_is =
-        let rest = resumed shape (reverse frames) (seen_as [] (barren cause)) in
+    one_more : (met now : List C) (levels : List (Level C)) (c : C) (cause : List ℕ) → IsSearching met levels (Some c) → shape.options c ≡ Some [] → cause ≡ joined (shape.knows c) [] (shape.reason c) → now ≡ met ++ c ∷ [] → behind now (resumed shape levels (seen_as [] (barren cause))) ≡ visit shape root
+    one_more met now levels c cause s is cause_is now_is =
+        let rest = resumed shape levels (seen_as [] (barren cause)) in
         let here : visit shape c ≡ behind (c ∷ []) (seen_as [] (barren cause)) = seen c (Some []) is ∙ ap (λ (w : List ℕ). behind (c ∷ []) (seen_as [] (barren w))) (sym cause_is) in
         ap (λ (cs : List C). behind cs rest) now_is
         ∙ ap (λ (cs : List C). seen_as cs rest.end) (append_assoc met (c ∷ []) rest.met)
-        ∙ ap (λ (w : Visit C). behind met w) (sym (resumed_behind shape (reverse frames) (c ∷ []) (seen_as [] (barren cause))))
-        ∙ whole_of met frames c (behind (c ∷ []) (seen_as [] (barren cause))) s here
+        ∙ ap (λ (w : Visit C). behind met w) (sym (resumed_behind shape levels (c ∷ []) (seen_as [] (barren cause))))
+        ∙ whole_of met levels c (behind (c ∷ []) (seen_as [] (barren cause))) s here
 
-    pub at_limit : (met now : List C) (frames : List (Frame C)) (c : C) (cause : List ℕ) → IsSearching met frames (Some c) → shape.options c ≡ Some [] → cause ≡ joined (shape.knows c) [] (shape.reason c) → now ≡ met ++ c ∷ [] → length now ≡ limit → (now ≡ take limit (visit shape root).met) × (limit ≤ length (visit shape root).met)
-    at_limit met now frames c cause s is cause_is now_is full =
-        let rest = (resumed shape (reverse frames) (seen_as [] (barren cause))).met in
-        let same : now ++ rest ≡ (visit shape root).met = ap (λ (w : Visit C). w.met) (one_more met now frames c cause s is cause_is now_is) in
+    pub at_limit : (met now : List C) (levels : List (Level C)) (c : C) (cause : List ℕ) → IsSearching met levels (Some c) → shape.options c ≡ Some [] → cause ≡ joined (shape.knows c) [] (shape.reason c) → now ≡ met ++ c ∷ [] → length now ≡ limit → (now ≡ take limit (visit shape root).met) × (limit ≤ length (visit shape root).met)
+    at_limit met now levels c cause s is cause_is now_is full =
+        let rest = (resumed shape levels (seen_as [] (barren cause))).met in
+        let same : now ++ rest ≡ (visit shape root).met = ap (λ (w : Visit C). w.met) (one_more met now levels c cause s is cause_is now_is) in
         let taken : take limit (visit shape root).met ≡ now = ap (take limit) (sym same) ∙ ap (λ (n : ℕ). take n (now ++ rest)) (sym full) ∙ take-append_seam now rest in
         let long : length (visit shape root).met ≡ length now + length rest = ap length (sym same) ∙ length-append now rest in
         (sym taken, omega (arith, long, full))
 
-    pub back : (met now : List C) (frames frames' : List (Frame C)) (c : C) (cause : List ℕ) (next : Option C) → IsSearching met frames (Some c) → shape.options c ≡ Some [] → cause ≡ joined (shape.knows c) [] (shape.reason c) → now ≡ met ++ c ∷ [] → ¬ (length now ≡ limit) → IsAhead shape (reverse frames') (resumed shape (reverse frames) (seen_as [] (barren cause))) next → AreAmong (to_try frames' next) (to_try frames None) → IsSearching now frames' next
-    back met now frames frames' c cause next s is cause_is now_is more ahead among =
+    pub back : (met now : List C) (levels levels' : List (Level C)) (c : C) (cause : List ℕ) (next : Option C) → IsSearching met levels (Some c) → shape.options c ≡ Some [] → cause ≡ joined (shape.knows c) [] (shape.reason c) → now ≡ met ++ c ∷ [] → ¬ (length now ≡ limit) → IsAhead shape levels' (resumed shape levels (seen_as [] (barren cause))) next → AreAmong (to_try levels' next) (to_try levels None) → IsSearching now levels' next
+    back met now levels levels' c cause next s is cause_is now_is more ahead among =
         let longer : length now ≡ length met + 1 = ap length now_is ∙ length-append met (c ∷ []) in
         let few = s.fewer in
         record {
           fewer = omega (arith, longer, few, more);
-          view = resumed shape (reverse frames) (seen_as [] (barren cause));
+          view = resumed shape levels (seen_as [] (barren cause));
           ahead = ahead;
-          whole = one_more met now frames c cause s is cause_is now_is;
+          whole = one_more met now levels c cause s is cause_is now_is;
           low = λ x h. s.low x (inr (among x h));
         }
 
-    opened : (opts back rest : List C) (d : C) → back ≡ reverse opts → back ≡ rest ++ d ∷ [] → opts ≡ d ∷ reverse rest
-    opened opts back rest d turned is = sym (reverse-reverse opts) ∙ ap reverse (sym turned) ∙ popped back rest d is
-
-    pub down : (met : List C) (frames frames' : List (Frame C)) (c d : C) (opts back : List C) (f : Frame C) → IsSearching met frames (Some c) → shape.options c ≡ Some opts → back ≡ reverse opts → back ≡ f.rest.items ++ d ∷ [] → frames' ≡ frames ++ f ∷ [] → f.choice ≡ c → f.cause.items ≡ [] → IsSearching met frames' (Some d)
-    down met frames frames' c d opts back f s is turned popped_is pushed choice_is cause_is =
-        let these : opts ≡ d ∷ reverse f.rest.items = opened opts back f.rest.items d turned popped_is in
-        let here : visit shape c ≡ over shape c [] (map (visit shape) (d ∷ reverse f.rest.items)) = seen c (Some (d ∷ reverse f.rest.items)) (is ∙ ap (λ (ds : List C). Some ds) these) in
-        let framed : over shape c [] (map (visit shape) (d ∷ reverse f.rest.items)) ≡ over shape f.choice f.cause.items (map (visit shape) (d ∷ reverse f.rest.items)) =
-        ap (λ (x : C). over shape x [] (map (visit shape) (d ∷ reverse f.rest.items))) (sym choice_is)
-        ∙ ap (λ (w : List ℕ). over shape f.choice w (map (visit shape) (d ∷ reverse f.rest.items))) (sym cause_is) in
+    pub searched_down : (met : List C) (levels levels' : List (Level C)) (c d : C) (opts : List C) (l : Level C) → IsSearching met levels (Some c) → shape.options c ≡ Some opts → opts ≡ d ∷ l.rest → levels' ≡ l ∷ levels → l.choice ≡ c → l.cause ≡ [] → IsSearching met levels' (Some d)
+    searched_down met levels levels' c d opts l s is these pushed choice_is cause_is =
+        let here : visit shape c ≡ over shape c [] (map (visit shape) (d ∷ l.rest)) = seen c (Some (d ∷ l.rest)) (is ∙ ap (λ (ds : List C). Some ds) these) in
+        let framed : over shape c [] (map (visit shape) (d ∷ l.rest)) ≡ over shape l.choice l.cause (map (visit shape) (d ∷ l.rest)) =
+        ap (λ (x : C). over shape x [] (map (visit shape) (d ∷ l.rest))) (sym choice_is)
+        ∙ ap (λ (w : List ℕ). over shape l.choice w (map (visit shape) (d ∷ l.rest))) (sym cause_is) in
         let high_c = s.low c (inl refl) in
-        let option_low : (x : C) → Has opts x → shape.room x ≤ shape.room root = λ x h. (let less = deep c x opts is h in omega (arith, less, high_c)) in
+        let option_low : (x : C) → Has (d ∷ l.rest) x → shape.room x ≤ shape.room root = λ x h. (let less = deep c x opts is (subst (λ (xs : List C). Has xs x) (sym these) h) in omega (arith, less, high_c)) in
         record {
           fewer = s.fewer;
           view = s.view;
           ahead =
               s.ahead
-              ∙ ap (resumed shape (reverse frames)) (here ∙ framed)
-              ∙ ap (λ (fs : List (Frame C)). resumed shape fs (visit shape d)) (sym (popped frames' frames f pushed));
+              ∙ ap (resumed shape levels) (here ∙ framed)
+              ∙ ap (λ (xs : List (Level C)). resumed shape xs (visit shape d)) (sym pushed);
           whole = s.whole;
           low = λ x h. elim h [
-            | inl first ↦ option_low x (subst (λ (xs : List C). Has xs x) (sym these) (inl first))
-            | inr later ↦ elim (has-append_cases (left_over frames) f.rest.items x (subst (λ (xs : List C). Has xs x) (ap left_over pushed ∙ left_split frames f) later)) [
-              | inl above ↦ s.low x (inr above)
-              | inr its ↦ option_low x (subst (λ (xs : List C). Has xs x) (sym these) (inr (has-reverse f.rest.items x its)))
+            | inl first ↦ option_low x (inl first)
+            | inr later ↦ elim (has-append_cases l.rest (left_over levels) x (subst (λ (xs : List (Level C)). Has (left_over xs) x) pushed later)) [
+              | inl its ↦ option_low x (inr its)
+              | inr above ↦ s.low x (inr above)
             ]
           ];
         }
 
-    pub lower : (left : ℕ) (c d : C) (opts back rest : List C) → shape.options c ≡ Some opts → back ≡ reverse opts → back ≡ rest ++ d ∷ [] → steps_left shape (shape.room root) left (Some d) < steps_left shape (shape.room root) left (Some c)
-    lower left c d opts back rest is turned popped_is =
-        let less = deep c d opts is (subst (λ (xs : List C). Has xs d) (sym (opened opts back rest d turned popped_is)) (inl refl)) in
+    pub lower : (left : ℕ) (c d : C) (opts rest : List C) → shape.options c ≡ Some opts → opts ≡ d ∷ rest → steps_left shape (shape.room root) left (Some d) < steps_left shape (shape.room root) left (Some c)
+    lower left c d opts rest is these =
+        let less = deep c d opts is (subst (λ (xs : List C). Has xs d) (sym these) (inl refl)) in
         omega (arith, less)
 
-    high_low : (frames : List (Frame C)) (next : Option C) → ((x : C) → Has (to_try frames next) x → shape.room x ≤ shape.room root) → high shape next ≤ suc (shape.room root)
-    high_low frames None low = omega arith
-    high_low frames (Some c) low = let here = low c (inl refl) in omega (arith, here)
+    high_low : (levels : List (Level C)) (next : Option C) → ((x : C) → Has (to_try levels next) x → shape.room x ≤ shape.room root) → high shape next ≤ suc (shape.room root)
+    high_low levels None low = omega arith
+    high_low levels (Some c) low = let here = low c (inl refl) in omega (arith, here)
 
-    pub fewer_left : (met now : List C) (frames : List (Frame C)) (c : C) (next : Option C) → length met < limit → now ≡ met ++ c ∷ [] → IsSearching now frames next → steps_left shape (shape.room root) (limit - length now) next < steps_left shape (shape.room root) (limit - length met) (Some c)
-    fewer_left met now frames c next few now_is s =
+    pub fewer_left : (met now : List C) (levels : List (Level C)) (c : C) (next : Option C) → length met < limit → now ≡ met ++ c ∷ [] → IsSearching now levels next → steps_left shape (shape.room root) (limit - length now) next < steps_left shape (shape.room root) (limit - length met) (Some c)
+    fewer_left met now levels c next few now_is s =
         let top = shape.room root in
         let longer : length now ≡ length met + 1 = ap length now_is ∙ length-append met (c ∷ []) in
         let k = limit - length now in
         let one_more : limit - length met ≡ suc k = omega (arith, longer, few) in
         let times : (limit - length met) * suc (suc top) ≡ k * suc (suc top) + suc (suc top) = ap (λ (n : ℕ). n * suc (suc top)) one_more ∙ suc-mul k (suc (suc top)) in
-        let rest = high_low frames next s.low in
+        let rest = high_low levels next s.low in
         omega (arith, times, rest)

@@ -4,7 +4,7 @@ ghost use Rattle.tree_search.specs.Jumping.{IsJumping};
 use crate::tree::Tree;
 
 /// A tree of choices that decide values of lines. Solutions have a value of each line.
-pub trait Deciding<C>: Tree<C> {
+pub trait Deciding<C, S>: Tree<C, S> {
     ghost Value: { Type 0 };
 
     /// What a choice decides of a line.

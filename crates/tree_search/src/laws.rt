@@ -10,7 +10,7 @@ pub fn depth_is_of_no_account<C>()
 
 /// A law: a walk that jumps back ends at the first good leaf of all; what it meets are dead leaves
 /// before that, and where a choice is barren, no solution agrees with it on the cause.
-pub fn jumps_lose_nothing<C, T: Deciding<C>>(_tree: &T)
+pub fn jumps_lose_nothing<C, S, T: Deciding<C, S>>(_tree: &T)
     ensures { (c : C) → T.fits _tree.now c →
         LosesNothing (T.shape _tree.now) (T.decided _tree.now) (T.is_solution _tree.now) c }
 {}

@@ -1,12 +1,21 @@
-use Rattle.std.proofs.Common.{◌≡◌, subst}
-use Rattle.std.specs.Prelude.{IfOk}
-use Rattle.std.specs.Option.{option_map}
+use Rattle.std.proofs.Common.{◌≡◌, ◌∙◌, List, Some, ap, map, option_map, sym}
+use Rattle.choice_law.specs.Tree.{Choice}
+use Rattle.choice_tree.specs.Steps.{after, here}
 use Rattle.choice_tree.specs.Tree.{tree_options}
 use Rattle.choice_tree.specs.Views.{universe_of}
 use Rattle.choice_tree.specs.declared.universe.Universe.{Universe}
 use Rattle.choice_tree.proofs.branching.next_options.Goals as goal
 
-pub returns : goal.returns
-returns c =
-    subst (λ (u : Universe). IfOk c.next_options.result (λ found. option_map (λ v. v.items) found ≡ tree_options u.update (universe_of u) c.args.choice.now))
-    c.in_ok-walk.ensures c.next_options.ensures.found
+pub returns-in-Some : goal.returns-in-Some
+returns-in-Some c =
+    let walk = c.in_ok-walk.walk in
+    let u = c.args.universe.now in
+    let way = here walk.trail.items in
+    let steps = c.in-Some.steps.items in
+    let there = c.in_ok-walk.ensures.here in
+    let first : Some (map (after way) steps) ≡ tree_options walk.universe.now.update (universe_of walk.universe.now) way =
+    ap (option_map (λ v. map (after way) v.items)) (sym c.in-Some.is) ∙ c.in_ok-steps.ensures.found in
+    ap (λ (xs : List Choice). Some xs) (c.in_ok-found-in-Some.ensures ∙ (ap (map (after c.args.choice.now)) c.deref.ensures.value ∙ ap (λ (e : Choice). map (after e) steps) (sym there)))
+    ∙ (first
+    ∙ (ap (λ (v : Universe). tree_options v.update (universe_of v) way) c.in_ok-walk.ensures.over
+    ∙ ap (tree_options u.update (universe_of u)) there))

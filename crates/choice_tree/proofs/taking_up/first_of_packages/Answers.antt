@@ -1,24 +1,29 @@
-use Rattle.std.proofs.Common.{None, length, refl}
-use Rattle.std.specs.List.{find, flat_map}
-use Rattle.choice_tree.specs.Open.{is_open_of, obligation_of, obligations_of}
-use Rattle.choice_tree.specs.Places.{numbers}
+use Rattle.std.proofs.Common.{◌<◌, arith, length, sym}
+use Rattle.choice_tree.specs.Open.{is_open_of, obligation_of}
 use Rattle.choice_tree.specs.Seen.{places_of}
-use Rattle.choice_tree.proofs.Found.{hit_line, skip_line}
+use Rattle.choice_tree.proofs.Found.{first_at, first_none}
+use Rattle.choice_tree.proofs.Unsettled.{settled_more}
 use Rattle.choice_tree.proofs.taking_up.first_of_packages.Goals as goal
 
-pub returns-in-Some-clause-found : goal.returns-in-Some-clause-found
-returns-in-Some-clause-found c =
+pub returns-then-line-around-clause-found : goal.returns-then-line-around-clause-found
+returns-then-line-around-clause-found c =
     let ps = c.args.around.now.places.now in
-    hit_line (is_open_of (places_of ps)) (length ps) c.loop-line.line c.loop-line-test.true
-    (find (is_open_of (places_of ps)) (flat_map (obligations_of (length ps)) (numbers (length ps) 0)))
-    (obligation_of c.in-Some.found) c.in-Some.ensures.found c.loop-line.invariant.found
+    let past = c.if-line-around.true in
+    first_none (is_open_of (places_of ps)) (length ps) (λ k less. c.loop-line.invariant.each k less (c.in-Some.ensures.first k (omega (arith, less, past))))
+
+pub returns-in-Some-first_of_line-clause-found : goal.returns-in-Some-first_of_line-clause-found
+returns-in-Some-first_of_line-clause-found c =
+    let ps = c.args.around.now.places.now in
+    let test = c.if-line-around.false in
+    let within : c.in-Some.line < length ps = omega (arith, test) in
+    first_at (is_open_of (places_of ps)) (length ps) c.in-Some.line (obligation_of c.in-Some-first_of_line.found) within
+    (λ k less. c.loop-line.invariant.each k (omega (arith, less, within)) (c.in-Some.ensures.first k less)) c.in-Some-first_of_line.ensures
 
 pub loop-line-preserved : goal.loop-line-preserved
 loop-line-preserved c =
+    settled_more c.args.around.now.places.now c.in-Some.line c.loop-line.unsettled c.remove.new.self c.loop-line.invariant c.remove.ensures.updates.0 (sym c.in_default-first_of_line.ensures)
+
+pub returns-clause-found : goal.returns-clause-found
+returns-clause-found c =
     let ps = c.args.around.now.places.now in
-    record {
-      settled = c.in_default.ensures.settled;
-      found = skip_line (is_open_of (places_of ps)) (length ps) c.loop-line.line c.loop-line-test.true
-          (find (is_open_of (places_of ps)) (flat_map (obligations_of (length ps)) (numbers (length ps) 0)))
-          None refl c.in_default.ensures.found c.loop-line.invariant.found;
-    }
+    first_none (is_open_of (places_of ps)) (length ps) (λ k less. c.loop-line.invariant.each k less (c.in_default.ensures.none k))

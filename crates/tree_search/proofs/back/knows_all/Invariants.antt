@@ -4,5 +4,5 @@ use Rattle.tree_search.proofs.back.knows_all.Given as goal
 
 abbrev pub invariant-loop-line : goal.invariant-loop-line
 invariant-loop-line g l =
-    let known = (g.T.Tree.shape l.tree).knows l.choice in
+    let known = (g.T.Tree.shape l.tree).knows (g.T.Tree.path l.tree).here in
     list_all known (drop l.line-index l.lines) ≡ list_all known l.lines
