@@ -5,6 +5,7 @@ use Rattle.std.proofs.lemmas.List.{length-append}
 use Rattle.build_pool.specs.declared.orders.Order.{Order}
 use Rattle.dep_atom.specs.declared.package.PackageId.{PackageId}
 use Rattle.file_tree.specs.Disk.{Map, Story}
+use Rattle.file_tree.specs.declared.fault.TreeFault.TheVariants as trees
 use Rattle.file_tree.specs.declared.limits.Quantity.{Quantity}
 use Rattle.file_tree.specs.declared.limits.Quantity.TheVariants.{Paths, RecordBytes}
 use Rattle.file_tree.specs.declared.objects.Entry.{Entry}
@@ -137,21 +138,20 @@ module _ (Image : Images) (ps : List Installed) (plan : List Group) (jobs : List
   collision_asks (met.Unowned path) h = (met.Unowned path, refl, h)
 
   claim_asks : (s : ClaimStop) → Stops (stops.Claim s) → Asked (status_of_claim ids s)
-  claim_asks claims.Device h = tt
   claim_asks (claims.Collision c) h = collision_asks c h
   claim_asks (claims.Image b) h = inr h
   claim_asks (claims.Removal p) h = tt
   claim_asks claims.Overlap h = tt
   claim_asks claims.Limit h = inr h
-  claim_asks claims.Memory h = tt
+  claim_asks (claims.Tree of) h = tt
 
   stop_asks : (s : Stop) → Goes (Err s) → Asked (status_of_stop ids s)
-  stop_asks stops.Device went = tt
   stop_asks stops.Output went = tt
   stop_asks (stops.Image b) went = inl (stopped (stops.Image b) tt went)
   stop_asks (stops.Claim s) went = claim_asks s (stopped (stops.Claim s) tt went)
   stop_asks stops.Limit went = stopped stops.Limit tt went
-  stop_asks stops.Memory went = tt
+  stop_asks (stops.Tree trees.Failed) went = tt
+  stop_asks (stops.Tree trees.Memory) went = tt
 
   module _ (Failed : Type 0) where
     ended_asks : (end : Result ⊤ PlanStop) → Goes (merge_end tt end) → OnOk end (history ≡ upto (length plan)) → IfErr end (Builds Image Failed jobs history) → Asked (status_of_end ids (length plan) end)
@@ -164,12 +164,12 @@ module _ (Image : Images) (ps : List Installed) (plan : List Group) (jobs : List
     asked_so end s (inl is) went all builds = subst Asked (sym is) (ended_asks end went all builds)
     asked_so end s (inr (memory, collides)) went all builds = subst Asked (sym memory) tt
 
-  healthy : (end : Result ⊤ PlanStop) (s : Status) → IsStatusOf ids (length plan) end s → s ≢ status.DeviceFault → IsErrOf (merge_end tt end) stops.Device → ⊥
-  healthy end s (inl is) h e = h (is ∙ ap (status_of_end ids (length plan)) (stop_in end stops.Device e))
-  healthy end s (inr (memory, collides)) h e = subst EndsAtCollision (stop_in end stops.Device e) collides
+  healthy : (end : Result ⊤ PlanStop) (s : Status) → IsStatusOf ids (length plan) end s → s ≢ status.DeviceFault → IsErrOf (merge_end tt end) (stops.Tree trees.Failed) → ⊥
+  healthy end s (inl is) h e = h (is ∙ ap (status_of_end ids (length plan)) (stop_in end (stops.Tree trees.Failed) e))
+  healthy end s (inr (memory, collides)) h e = subst EndsAtCollision (stop_in end (stops.Tree trees.Failed) e) collides
 
-  fed : (end : Result ⊤ PlanStop) (s : Status) → IsStatusOf ids (length plan) end s → s ≢ status.Memory → IsErrOf (merge_end tt end) stops.Memory → ⊥
-  fed end s (inl is) h e = h (is ∙ ap (status_of_end ids (length plan)) (stop_in end stops.Memory e))
+  fed : (end : Result ⊤ PlanStop) (s : Status) → IsStatusOf ids (length plan) end s → s ≢ status.Memory → IsErrOf (merge_end tt end) (stops.Tree trees.Memory) → ⊥
+  fed end s (inl is) h e = h (is ∙ ap (status_of_end ids (length plan)) (stop_in end (stops.Tree trees.Memory) e))
   fed end s (inr (memory, collides)) h e = h memory
 
   pub merged_to : (end : Result ⊤ PlanStop) (s : Status) → IsStatusOf ids (length plan) end s → Goes (merge_end tt end) → MergedTo Image ps plan jobs old new history s
@@ -188,22 +188,21 @@ module _ (Image : Images) (ps : List Installed) (plan : List Group) (jobs : List
 
 module _ (ids : List PackageId) (n : ℕ) where
   claim_of_merge : (s : ClaimStop) → IsOfMerge (status_of_claim ids s)
-  claim_of_merge claims.Device = tt
   claim_of_merge (claims.Collision c) = collision_kind IsOfMerge tt (λ k. tt) ids c
   claim_of_merge (claims.Image b) = tt
   claim_of_merge (claims.Removal p) = tt
   claim_of_merge claims.Overlap = tt
   claim_of_merge claims.Limit = tt
-  claim_of_merge claims.Memory = tt
+  claim_of_merge (claims.Tree of) = tt
 
   all_of_merge : (end : Result ⊤ PlanStop) → IsOfMerge (status_of_end ids n end)
   all_of_merge (Ok x) = tt
-  all_of_merge (Err (plans.Merge stops.Device)) = tt
   all_of_merge (Err (plans.Merge stops.Output)) = tt
   all_of_merge (Err (plans.Merge (stops.Image b))) = tt
   all_of_merge (Err (plans.Merge (stops.Claim s))) = claim_of_merge s
   all_of_merge (Err (plans.Merge stops.Limit)) = tt
-  all_of_merge (Err (plans.Merge stops.Memory)) = tt
+  all_of_merge (Err (plans.Merge (stops.Tree trees.Failed))) = tt
+  all_of_merge (Err (plans.Merge (stops.Tree trees.Memory))) = tt
   all_of_merge (Err (plans.Build id)) = tt
   all_of_merge (Err (plans.Image id)) = tt
 
@@ -212,26 +211,25 @@ module _ (ids : List PackageId) (n : ℕ) where
   end_of_merge end s (inr (memory, collides)) = subst IsOfMerge (sym memory) tt
 
 module _ (ids : List PackageId) (n : ℕ) (this : Status) (P : Result ⊤ PlanStop → Type 0)
-    (ok : status.Ok n ≡ this → P (Ok tt)) (device : status.DeviceFault ≡ this → P (Err (plans.Merge stops.Device))) (output : status.OutputFault ≡ this → P (Err (plans.Merge stops.Output)))
+    (ok : status.Ok n ≡ this → P (Ok tt)) (device : status.DeviceFault ≡ this → P (Err (plans.Merge (stops.Tree trees.Failed)))) (output : status.OutputFault ≡ this → P (Err (plans.Merge stops.Output)))
     (build : (id : PackageId) → status.BuildFailed id ≡ this → P (Err (plans.Build id)))
     (no_memory : status.Memory ≡ this → ⊥) (no_collision : (c : Collision) → status.Collision c ≡ this → ⊥) (no_image : (b : ImageBad) → status.BadImage b ≡ this → ⊥) (no_limit : (q : Quantity) → status.Limit q ≡ this → ⊥) where
   at_claim : (s : ClaimStop) → status_of_claim ids s ≡ this → P (Err (plans.Merge (stops.Claim s)))
-  at_claim claims.Device e = absurd (no_memory e)
   at_claim (claims.Collision c) e = absurd (collision_kind (λ s. s ≡ this → ⊥) no_memory no_collision ids c e)
   at_claim (claims.Image b) e = absurd (no_image b e)
   at_claim (claims.Removal p) e = absurd (no_memory e)
   at_claim claims.Overlap e = absurd (no_memory e)
   at_claim claims.Limit e = absurd (no_limit Paths e)
-  at_claim claims.Memory e = absurd (no_memory e)
+  at_claim (claims.Tree of) e = absurd (no_memory e)
 
   at_end : (end : Result ⊤ PlanStop) → status_of_end ids n end ≡ this → P end
   at_end (Ok x) e = ok e
-  at_end (Err (plans.Merge stops.Device)) e = device e
   at_end (Err (plans.Merge stops.Output)) e = output e
   at_end (Err (plans.Merge (stops.Image b))) e = absurd (no_image b e)
   at_end (Err (plans.Merge (stops.Claim s))) e = at_claim s e
   at_end (Err (plans.Merge stops.Limit)) e = absurd (no_limit RecordBytes e)
-  at_end (Err (plans.Merge stops.Memory)) e = absurd (no_memory e)
+  at_end (Err (plans.Merge (stops.Tree trees.Failed))) e = device e
+  at_end (Err (plans.Merge (stops.Tree trees.Memory))) e = absurd (no_memory e)
   at_end (Err (plans.Build id)) e = build id e
   at_end (Err (plans.Image id)) e = absurd (no_limit Paths e)
 
@@ -244,8 +242,8 @@ module _ (ids : List PackageId) (n : ℕ) (end : Result ⊤ PlanStop) (s : Statu
   pub ok_ended : (k : ℕ) → s ≡ status.Ok k → (end ≡ Ok tt) × (k ≡ n)
   ok_ended k e = told_so ids n (status.Ok k) (λ r. (r ≡ Ok tt) × (k ≡ n)) (λ q. (refl, cc q)) (λ q. absurd (cc q)) (λ q. absurd (cc q)) (λ id q. absurd (cc q)) (λ q. cc q) (λ c q. cc q) (λ b q. cc q) (λ l q. cc q) end s is e
 
-  pub device_ended : s ≡ status.DeviceFault → IsErrOf end (plans.Merge stops.Device)
-  device_ended e = told_so ids n status.DeviceFault (λ r. IsErrOf r (plans.Merge stops.Device)) (λ q. absurd (cc q)) (λ q. refl) (λ q. absurd (cc q)) (λ id q. absurd (cc q)) (λ q. cc q) (λ c q. cc q) (λ b q. cc q) (λ l q. cc q) end s is e
+  pub device_ended : s ≡ status.DeviceFault → IsErrOf end (plans.Merge (stops.Tree trees.Failed))
+  device_ended e = told_so ids n status.DeviceFault (λ r. IsErrOf r (plans.Merge (stops.Tree trees.Failed))) (λ q. absurd (cc q)) (λ q. refl) (λ q. absurd (cc q)) (λ id q. absurd (cc q)) (λ q. cc q) (λ c q. cc q) (λ b q. cc q) (λ l q. cc q) end s is e
 
   pub output_ended : s ≡ status.OutputFault → IsErrOf end (plans.Merge stops.Output)
   output_ended e = told_so ids n status.OutputFault (λ r. IsErrOf r (plans.Merge stops.Output)) (λ q. absurd (cc q)) (λ q. absurd (cc q)) (λ q. refl) (λ id q. absurd (cc q)) (λ q. cc q) (λ c q. cc q) (λ b q. cc q) (λ l q. cc q) end s is e
@@ -262,12 +260,12 @@ module _ (ids : List PackageId) (n : ℕ) (end : Result ⊤ PlanStop) (s : Statu
 -- what holds where no group was stopped, or the stop is one of a group, holds where the status tells
 told_at : {X : Type 0} (owners : List PackageId) (n : ℕ) (end : Result ⊤ PlanStop) → IfErr (merge_end tt end) (λ e. IsOfGroup e → X) → OnOk (merge_end tt end) X → IsTold (status_of_end owners n end) → X
 told_at owners n (Ok x) stop ok of = ok
-told_at owners n (Err (plans.Merge stops.Device)) stop ok of = absurd of
 told_at owners n (Err (plans.Merge stops.Output)) stop ok of = absurd of
 told_at owners n (Err (plans.Merge (stops.Image b))) stop ok of = stop tt
 told_at owners n (Err (plans.Merge (stops.Claim s))) stop ok of = stop tt
 told_at owners n (Err (plans.Merge stops.Limit)) stop ok of = stop tt
-told_at owners n (Err (plans.Merge stops.Memory)) stop ok of = absurd of
+told_at owners n (Err (plans.Merge (stops.Tree trees.Failed))) stop ok of = absurd of
+told_at owners n (Err (plans.Merge (stops.Tree trees.Memory))) stop ok of = absurd of
 told_at owners n (Err (plans.Build id)) stop ok of = ok
 told_at owners n (Err (plans.Image id)) stop ok of = ok
 

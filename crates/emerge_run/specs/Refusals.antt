@@ -11,6 +11,7 @@ use Rattle.plan_find.specs.declared.ends.NoPlan.{NoPlan}
 use Rattle.plan_find.specs.declared.ends.NoPlan.TheVariants as ends
 use Rattle.plan_run.specs.declared.stop.PlanStop.{PlanStop}
 use Rattle.plan_run.specs.declared.stop.PlanStop.TheVariants as plans
+use Rattle.run_status.specs.Faults.{status_of_tree}
 use Rattle.run_status.specs.declared.status.Part.TheVariants.{Result as PlanResult}
 use Rattle.run_status.specs.declared.status.Status.{Status}
 use Rattle.run_status.specs.declared.status.Status.TheVariants as status
@@ -41,7 +42,7 @@ packages_with (ends.NotPlanned packages) = packages.items
 packages_with e = []
 
 -- what the claim of a group is stopped for; that its paths overlap, or that it removes what nobody
--- owns, says nothing: a tree that tells stops none so. A device's fault stops the merge and no
+-- owns, says nothing: a tree that tells stops none so. A fault of the tree stops the merge and no
 -- claim.
 abbrev pub status_of_claim : List PackageId → ClaimStop → Status
 status_of_claim ids (claims.Collision c) = status_of_collision ids c
@@ -50,12 +51,11 @@ status_of_claim ids claims.Limit = status.Limit Paths
 status_of_claim ids s = status.Memory
 
 abbrev pub status_of_stop : List PackageId → Stop → Status
-status_of_stop ids stops.Device = status.DeviceFault
 status_of_stop ids stops.Output = status.OutputFault
 status_of_stop ids (stops.Image b) = status.BadImage b
 status_of_stop ids (stops.Claim s) = status_of_claim ids s
 status_of_stop ids stops.Limit = status.Limit RecordBytes
-status_of_stop ids stops.Memory = status.Memory
+status_of_stop ids (stops.Tree fault) = status_of_tree fault
 
 abbrev pub status_of_plan_stop : List PackageId → PlanStop → Status
 status_of_plan_stop ids (plans.Merge s) = status_of_stop ids s

@@ -91,20 +91,19 @@ fn status_of_stop(packages: &[Installed], plan: &[Group], stop: Stop) -> Status
         (CollidesAt stop) result }
 {
     match stop {
-        Stop::Device => Status::DeviceFault,
         Stop::Output => Status::OutputFault,
         Stop::Image(bad) => Status::BadImage(bad),
         Stop::Claim(claim) => status_of_claim(packages, plan, claim),
         Stop::Limit => Status::Limit {
             quantity: Quantity::RecordBytes,
         },
-        Stop::Memory => Status::Memory,
+        Stop::Tree(fault) => Status::from(fault),
     }
 }
 
 /// The status of a claim that was stopped so. What is removed is owned, and each path comes once, as
 /// far as the tree tells: one that tells otherwise from look to look is told as want of memory. A
-/// device's fault stops the merge, and no claim.
+/// fault of the tree stops the merge, and no claim.
 fn status_of_claim(packages: &[Installed], plan: &[Group], claim: ClaimStop) -> Status
     ensures { IsOrNameless (status_of_claim (ids_with packages.now plan.now) claim)
         (Collides claim) result }
@@ -115,8 +114,7 @@ fn status_of_claim(packages: &[Installed], plan: &[Group], claim: ClaimStop) -> 
         ClaimStop::Limit => Status::Limit {
             quantity: Quantity::Paths,
         },
-        ClaimStop::Device | ClaimStop::Removal { .. } | ClaimStop::Overlap | ClaimStop::Memory =>
-            Status::Memory,
+        ClaimStop::Removal { .. } | ClaimStop::Overlap | ClaimStop::Tree(_) => Status::Memory,
     }
 }
 

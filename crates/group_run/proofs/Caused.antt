@@ -6,8 +6,8 @@ use Rattle.std.proofs.lemmas.Grind.{flat_map-append}
 use Rattle.std.proofs.lemmas.List.{get_or-set_same, length-append, length-map, length-replicate, length-set, length_push, map-append, take_more}
 use Rattle.basics.proofs.Each.{all-append}
 use Rattle.file_tree.specs.Disk.{Map}
+use Rattle.file_tree.specs.Faults.{IsOfMachine}
 use Rattle.file_tree.specs.declared.fault.TreeFault.{TreeFault}
-use Rattle.file_tree.specs.declared.fault.TreeFault.TheVariants as trees
 use Rattle.file_tree.specs.declared.objects.Entry.{Entry}
 use Rattle.image_fit.specs.Images.{IsFirst, is_good}
 use Rattle.image_fit.specs.Misfits.{AreGood, IsBad}
@@ -29,7 +29,7 @@ use Rattle.merge_site.specs.declared.fault.StageFault.TheVariants as stages
 use Rattle.merge_site.specs.declared.group.SiteGroup.{SiteGroup}
 use Rattle.group_run.specs.Causes.{IsPlain, StopsChanges, StopsRecord, StopsStages}
 use Rattle.group_run.specs.Granted.{wishes_for}
-use Rattle.group_run.specs.Stops.{stop_of_site, stop_of_stage, stop_of_tree}
+use Rattle.group_run.specs.Stops.{stop_of_site, stop_of_stage}
 use Rattle.group_run.specs.Working.{Changes, HasStaged, all_in, all_of, object_of, standing_at}
 use Rattle.group_run.specs.declared.files.Files.{Files}
 use Rattle.group_run.specs.declared.stop.Stop.{Stop}
@@ -44,44 +44,36 @@ pub err_weaker : {A : Type 0} (P Q : Stop → Type 0) → ((e : Stop) → P e �
 err_weaker P Q so (Ok a) h = tt
 err_weaker P Q so (Err e) h = so e h
 
-pub tree_plain : (f : TreeFault) → IsPlain (stop_of_tree f)
-tree_plain trees.Failed = tt
-tree_plain trees.Memory = tt
-
 -- a record that the site refused passes a limit
 pub record_stops : {T S : Type 0} (f : SiteFault) (a : Account T S) (c : Changes) (g : ℕ) (removals : List (List ℕ)) → removals ≡ c.removals → HasStaged c.files (standing_at a g)
     → (f ≡ sites.Limit → PassesLimit (put_content (machine_of a.keeping) g removals)) → StopsRecord g c (stop_of_site f)
-record_stops sites.Device a c g removals is has limit = tt
+record_stops (sites.Tree of) a c g removals is has limit = tt
 record_stops sites.Limit a c g removals is has limit =
     subst (λ (l : List (List ℕ)). PassesLimit (record { group = g; removals = l; placements = map placement_of c.files })) is
     (subst (λ (l : List Placement). PassesLimit (record { group = g; removals = removals; placements = l })) has.placements (limit refl))
-record_stops sites.Memory a c g removals is has limit = tt
 
 pub plain_cause : (tells : Bool) (m : Map) (b : Book) (xs : List SiteGroup) (c : Changes) (g : ℕ) (e : Stop) → IsPlain e → StopsChanges tells m b xs c g e
-plain_cause tells m b xs c g stops.Device h = tt
+plain_cause tells m b xs c g (stops.Tree of) h = tt
 plain_cause tells m b xs c g stops.Output h = tt
 plain_cause tells m b xs c g (stops.Image bad) h = absurd h
 plain_cause tells m b xs c g (stops.Claim s) h = absurd h
 plain_cause tells m b xs c g stops.Limit h = absurd h
-plain_cause tells m b xs c g stops.Memory h = tt
 
 pub staged_cause : (tells : Bool) (m : Map) (b : Book) (xs : List SiteGroup) (c : Changes) (g : ℕ) (e : Stop) → StopsStages [] c.files e → StopsChanges tells m b xs c g e
-staged_cause tells m b xs c g stops.Device h = tt
+staged_cause tells m b xs c g (stops.Tree of) h = tt
 staged_cause tells m b xs c g stops.Output h = tt
 staged_cause tells m b xs c g (stops.Image bad) h = h
 staged_cause tells m b xs c g (stops.Claim s) h = absurd h
 staged_cause tells m b xs c g stops.Limit h =
     let n = length-map c.files placement_of in
     inr (inl (omega (arith, h, n)))
-staged_cause tells m b xs c g stops.Memory h = tt
 
 pub record_cause : (tells : Bool) (m : Map) (b : Book) (xs : List SiteGroup) (c : Changes) (g : ℕ) (e : Stop) → StopsRecord g c e → StopsChanges tells m b xs c g e
-record_cause tells m b xs c g stops.Device h = tt
+record_cause tells m b xs c g (stops.Tree of) h = tt
 record_cause tells m b xs c g stops.Output h = tt
 record_cause tells m b xs c g (stops.Image bad) h = absurd h
 record_cause tells m b xs c g (stops.Claim s) h = absurd h
 record_cause tells m b xs c g stops.Limit h = h
-record_cause tells m b xs c g stops.Memory h = tt
 
 -- ---- files that are staged one after the other
 
@@ -94,14 +86,13 @@ front_push all done e front lt at =
 
 pub stage_stops : {T S : Type 0} (f : StageFault) (a : Account T S) (g : ℕ) (before all done : List Entry) (e : Entry) → HasStaged (before ++ done) (standing_at a g) → AreGood done → done ≡ take (length done) all → length done < length all
     → e ≡ get_or all (length done) e → IsStageFault a.keeping g e f → StopsStages before all (stop_of_stage f)
-stage_stops stages.Device a g before all done e has good front lt at h = tt
+stage_stops (stages.Tree of) a g before all done e has good front lt at h = tt
 stage_stops (stages.Image bad) a g before all done e has good front lt at h =
     first_at (λ x. is_good x ≡ true) (IsBad bad) all (length done) e lt at (subst (λ (l : List Entry). AreGood l) front good) h
 stage_stops stages.Limit a g before all done e has good front lt at h =
     let n = ap length has.objects ∙ (length-map (before ++ done) object_of ∙ length-append before done) in
     let whole = length-append before all in
     omega (arith, h.1, n, whole, lt)
-stage_stops stages.Memory a g before all done e has good front lt at h = tt
 
 first_more : {A : Type 0} (P Q : A → Type 0) (xs ys : List A) → IsFirst P Q xs → IsFirst P Q (xs ++ ys)
 first_more P Q xs ys f = record {
@@ -125,7 +116,7 @@ first_behind P Q xs ys all f = record {
 
 -- what stops the first of some files stops all of them
 pub stages_more : (before xs ys : List Entry) (e : Stop) → StopsStages before xs e → StopsStages before (xs ++ ys) e
-stages_more before xs ys stops.Device h = tt
+stages_more before xs ys (stops.Tree of) h = tt
 stages_more before xs ys stops.Output h = absurd h
 stages_more before xs ys (stops.Image b) h = first_more (λ x. is_good x ≡ true) (IsBad b) xs ys h
 stages_more before xs ys (stops.Claim s) h = absurd h
@@ -134,18 +125,16 @@ stages_more before xs ys stops.Limit h =
     let long = length-append before (xs ++ ys) in
     let n = length-append xs ys in
     omega (arith, h, short, long, n)
-stages_more before xs ys stops.Memory h = tt
 
 -- .. and so does what stops those behind good ones
 pub stages_behind : (before xs ys : List Entry) (e : Stop) → AreGood xs → StopsStages (before ++ xs) ys e → StopsStages before (xs ++ ys) e
-stages_behind before xs ys stops.Device all h = tt
+stages_behind before xs ys (stops.Tree of) all h = tt
 stages_behind before xs ys stops.Output all h = absurd h
 stages_behind before xs ys (stops.Image b) all h = first_behind (λ x. is_good x ≡ true) (IsBad b) xs ys all h
 stages_behind before xs ys (stops.Claim s) all h = absurd h
 stages_behind before xs ys stops.Limit all h =
     let same = ap (λ (l : List Entry). length l) (append_assoc before xs ys) in
     omega (arith, h, same)
-stages_behind before xs ys stops.Memory all h = tt
 
 -- .. so what stops a package behind good ones stops all packages
 pub packages_stop : (ps behind all : List Files) (files : Files) (e : Stop) → all ≡ ps ++ files ∷ behind → AreGood (all_of ps) → StopsStages (all_of ps) (all_in files) e → StopsStages [] (all_of all) e
@@ -174,12 +163,11 @@ opened_as a t k groups P opened is h =
     subst (λ x. P x k groups) is (subst (λ (x : Book). P a.tree x groups) opened.opened_book (subst (λ (l : List SiteGroup). P a.tree a.opened_book l) opened.brings h))
 
 -- the journal is cleared behind it
-pub cleared_cause : {A : Type 0} (P : Stop → Type 0) (end end' : Result A Stop) → P stops.Device → P stops.Memory → IfErr end P → IfErr end' (λ e. (e ≡ stops.Device) ⊎ ((e ≡ stops.Memory) ⊎ (end ≡ Err e))) → IfErr end' P
-cleared_cause P end (Ok a) device memory h told = tt
-cleared_cause P end (Err e) device memory h (inl is) = subst P (sym is) device
-cleared_cause P end (Err e) device memory h (inr (inl is)) = subst P (sym is) memory
-cleared_cause P end (Err e) device memory h (inr (inr is)) = subst (λ r. IfErr r P) is h
+pub cleared_cause : {A : Type 0} (P : Stop → Type 0) (end end' : Result A Stop) → ((of : TreeFault) → P (stops.Tree of)) → IfErr end P → IfErr end' (λ e. IsOfMachine stops.Tree e ⊎ (end ≡ Err e)) → IfErr end' P
+cleared_cause P end (Ok a) carried h told = tt
+cleared_cause P end (Err e) carried h (inl (of, is)) = subst P (sym is) (carried of)
+cleared_cause P end (Err e) carried h (inr is) = subst (λ r. IfErr r P) is h
 
-pub end_told : {A : Type 0} (r : Result A Stop) → IfErr r (λ e. (e ≡ stops.Device) ⊎ ((e ≡ stops.Memory) ⊎ (r ≡ Err e)))
+pub end_told : {A : Type 0} (r : Result A Stop) → IfErr r (λ e. IsOfMachine stops.Tree e ⊎ (r ≡ Err e))
 end_told (Ok a) = tt
-end_told (Err e) = inr (inr refl)
+end_told (Err e) = inr refl

@@ -5,6 +5,7 @@ use Rattle.basics.specs.Members.{Has}
 use Rattle.file_tree.specs.Disk.{Disk, IsUntouched, Map, Story}
 use Rattle.file_tree.specs.Moments.{Leaves, Since}
 use Rattle.file_tree.proofs.Moments.{since_same, since_start, since_then, since_weaker}
+use Rattle.file_tree.specs.declared.fault.TreeFault.TheVariants as trees
 use Rattle.journal.specs.Group.{Group, applied, with_groups}
 use Rattle.merge_core.specs.Trail.{IsAtRest}
 use Rattle.journal.specs.Names.{gate_path}
@@ -18,23 +19,23 @@ use Rattle.group_run.specs.Went.{DroveWith, Went, WentWith}
 use Rattle.group_run.specs.declared.stop.Stop.{Stop}
 use Rattle.group_run.specs.declared.stop.Stop.TheVariants as stops
 
-device_or_not : {A : Type 0} (r : Result A Stop) → (IsErrOf r stops.Device) ⊎ (IsErrOf r stops.Device → ⊥)
+device_or_not : {A : Type 0} (r : Result A Stop) → (IsErrOf r (stops.Tree trees.Failed)) ⊎ (IsErrOf r (stops.Tree trees.Failed) → ⊥)
 device_or_not (Ok a) = inr (λ e. cc e)
-device_or_not (Err stops.Device) = inl refl
+device_or_not (Err (stops.Tree trees.Failed)) = inl refl
+device_or_not (Err (stops.Tree trees.Memory)) = inr (λ e. cc e)
 device_or_not (Err stops.Output) = inr (λ e. cc e)
 device_or_not (Err (stops.Image b)) = inr (λ e. cc e)
 device_or_not (Err (stops.Claim s)) = inr (λ e. cc e)
 device_or_not (Err stops.Limit) = inr (λ e. cc e)
-device_or_not (Err stops.Memory) = inr (λ e. cc e)
 
 recovers_of : (Run : List Group → Type 0) (m : Map) (groups : List Group) (among history : List ℕ) (c : Map) → Run groups → map number groups ≡ history → ((n : ℕ) → Has among n → Has history n) → IsRecovered c (applied m groups) → RecoversWith Run m among c
 recovers_of Run m groups among history c of are within is = record { groups = groups; of = of; has = λ n there. subst (λ (l : List ℕ). Has l n) (sym are) (within n there); is = is }
 
 pub went : {A : Type 0} (Run : List Group → Type 0) (old mid new : Story) (history : List ℕ) (end end' : Result A Stop) → DroveWith Run old mid history end
-    → (IsErrOf end stops.Device → new ≡ mid) → (IsErrOf end stops.Device → IsErrOf end' stops.Device)
-    → ((IsErrOf end stops.Device → ⊥) → (m : Map) → IsShut m mid.now → Since (λ c. IsRecovered c (cleared m)) mid new)
-    → ((IsErrOf end' stops.Device → ⊥) → (IsErrOf end' stops.Memory → ⊥) → (m : Map) → IsShut m mid.now → (q : List ℕ) → new.now.holds q ≡ cleared m q)
-    → ((IsErrOf end' stops.Device → ⊥) → (IsErrOf end' stops.Memory → ⊥) → IsUntouched new.now)
+    → (IsErrOf end (stops.Tree trees.Failed) → new ≡ mid) → (IsErrOf end (stops.Tree trees.Failed) → IsErrOf end' (stops.Tree trees.Failed))
+    → ((IsErrOf end (stops.Tree trees.Failed) → ⊥) → (m : Map) → IsShut m mid.now → Since (λ c. IsRecovered c (cleared m)) mid new)
+    → ((IsErrOf end' (stops.Tree trees.Failed) → ⊥) → (IsErrOf end' (stops.Tree trees.Memory) → ⊥) → (m : Map) → IsShut m mid.now → (q : List ℕ) → new.now.holds q ≡ cleared m q)
+    → ((IsErrOf end' (stops.Tree trees.Failed) → ⊥) → (IsErrOf end' (stops.Tree trees.Memory) → ⊥) → IsUntouched new.now)
     → WentWith Run old new history end'
 went Run old mid new history end end' d same stays clears reads settled = elim (device_or_not end) [
   | inl failed ↦ record {
@@ -62,7 +63,7 @@ rest_shut d rest = record {
 }
 
 -- a run that never began
-pub nowhere : {A : Type 0} (Run : List Group → Type 0) (old new : Story) (history : List ℕ) (end : Result A Stop) → Run [] → IsAtRest old.now.holds old.now → new ≡ old → history ≡ [] → end ≡ Err stops.Memory → WentWith Run old new history end
+pub nowhere : {A : Type 0} (Run : List Group → Type 0) (old new : Story) (history : List ℕ) (end : Result A Stop) → Run [] → IsAtRest old.now.holds old.now → new ≡ old → history ≡ [] → end ≡ Err (stops.Tree trees.Memory) → WentWith Run old new history end
 nowhere Run old new history end of rest same none is =
     let each = shut_leaves old.now.holds old.now (rest_shut old.now rest) in
     let stands : (among : List ℕ) → ((n : ℕ) → Has among n → Has history n) → Leaves (RecoversWith Run old.now.holds among) old.now =
@@ -74,5 +75,5 @@ nowhere Run old new history end of rest same none is =
       tree = λ well fed. absurd (fed is);
     }
 
-pub went_nowhere : {A : Type 0} (Of : Group → Type 0) (old new : Story) (history : List ℕ) (end : Result A Stop) → IsAtRest old.now.holds old.now → new ≡ old → history ≡ [] → end ≡ Err stops.Memory → Went Of old new history end
+pub went_nowhere : {A : Type 0} (Of : Group → Type 0) (old new : Story) (history : List ℕ) (end : Result A Stop) → IsAtRest old.now.holds old.now → new ≡ old → history ≡ [] → end ≡ Err (stops.Tree trees.Memory) → Went Of old new history end
 went_nowhere Of old new history end = nowhere (AreOf Of) old new history end (λ x there. absurd there)

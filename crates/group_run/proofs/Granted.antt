@@ -75,8 +75,7 @@ refused tells a c g opening d s is at built booked order stopped met = record {
 
 pub claim_stops : {T S : Type 0} (tells : Bool) (a : Account T S) (c : Changes) (g : ℕ) (opening : Map) (d : Disk) (s : ClaimStop) → IsAt a.keeping g phases.Sealed → HasBuilt c g a → IsBooked a.keeping a.events a.wishes a.opened_book a.book
     → (IsTrue tells → IsInOrder opening (machine_of a.keeping) d) → IsStop a g s → (IsTrue tells → IsUnownedStop d.holds a g s) → StopsChanges tells (stood_at opening a) a.book a.groups c g (stop_of_claim s)
-claim_stops tells a c g opening d claims.Device at built booked order stopped met = tt
-claim_stops tells a c g opening d claims.Memory at built booked order stopped met = tt
+claim_stops tells a c g opening d (claims.Tree of) at built booked order stopped met = tt
 claim_stops tells a c g opening d (claims.Collision x) at built booked order stopped met = refused tells a c g opening d (claims.Collision x) refl at built booked order stopped met
 claim_stops tells a c g opening d (claims.Image bad) at built booked order stopped met = refused tells a c g opening d (claims.Image bad) refl at built booked order stopped met
 claim_stops tells a c g opening d (claims.Removal p) at built booked order stopped met = refused tells a c g opening d (claims.Removal p) refl at built booked order stopped met
@@ -105,7 +104,7 @@ may_same m m' b b' groups c g map owners h = record {
 
 -- .. and so is a cause of a stop one
 pub stops_same : (tells : Bool) (m m' : Map) (b b' : Book) (groups : List SiteGroup) (c : Changes) (g : ℕ) (e : Stop) → IsOutside m' m → HasOwnersOf b' b → StopsChanges tells m b groups c g e → StopsChanges tells m' b' groups c g e
-stops_same tells m m' b b' groups c g stops.Device map owners h = tt
+stops_same tells m m' b b' groups c g (stops.Tree of) map owners h = tt
 stops_same tells m m' b b' groups c g stops.Output map owners h = tt
 stops_same tells m m' b b' groups c g (stops.Image bad) map owners h = h
 stops_same tells m m' b b' groups c g (stops.Claim s) map owners h = record {
@@ -116,7 +115,6 @@ stops_same tells m m' b b' groups c g (stops.Claim s) map owners h = record {
   met = λ t. let k = h.met t in (k.0, outside_same m m' k.0 map k.1, k.2);
 }
 stops_same tells m m' b b' groups c g stops.Limit map owners h = h
-stops_same tells m m' b b' groups c g stops.Memory map owners h = tt
 
 -- the map that a site has, while a group of it goes its way
 stood_same : {T S : Type 0} (opening : T → Map) (g : ℕ) (a b : Account T S) → Works g a b → b.keeping.order ≡ a.keeping.order → IsOutside (stood_at (opening a.opened) a) (stood_at (opening b.opened) b)

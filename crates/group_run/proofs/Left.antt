@@ -155,12 +155,11 @@ first_more m b groups ts us xs h = record {
 -- ---- why a run ended
 
 pub plain_run : (tells : Bool) (m : Map) (b : Book) (groups : List SiteGroup) (c : Changes) (g : ℕ) (e : Stop) → (IsOfGroup e → ⊥) → StopsChanges tells m b groups c g e
-plain_run tells m b groups c g stops.Device h = tt
+plain_run tells m b groups c g (stops.Tree of) h = tt
 plain_run tells m b groups c g stops.Output h = tt
 plain_run tells m b groups c g (stops.Image bad) h = absurd (h tt)
 plain_run tells m b groups c g (stops.Claim s) h = absurd (h tt)
 plain_run tells m b groups c g stops.Limit h = absurd (h tt)
-plain_run tells m b groups c g stops.Memory h = tt
 
 pub plain_behind : (tells : Bool) (m : Map) (b : Book) (groups : List SiteGroup) (ts : List Turn) (n : ℕ) (e : Stop) → (IsOfGroup e → ⊥) → StopsBehind tells m b groups ts n e
 plain_behind tells m b groups [] n e h = h
@@ -173,9 +172,8 @@ stops_behind tells m b groups [] us t e h = h
 stops_behind tells m b groups (u ∷ ts) us t e h = stops_behind tells (applied m (group_for u ∷ [])) (settled (changes_of u) b) groups ts us t e h
 
 pub of_group_or_not : (e : Stop) → IsOfGroup e ⊎ (IsOfGroup e → ⊥)
-of_group_or_not stops.Device = inr (λ h. h)
+of_group_or_not (stops.Tree of) = inr (λ h. h)
 of_group_or_not stops.Output = inr (λ h. h)
 of_group_or_not (stops.Image bad) = inl tt
 of_group_or_not (stops.Claim s) = inl tt
 of_group_or_not stops.Limit = inl tt
-of_group_or_not stops.Memory = inr (λ h. h)

@@ -8,6 +8,7 @@ use Rattle.merge_core.specs.Payloads.{IsAt}
 use Rattle.merge_core.specs.Phase.{was_opened}
 use Rattle.merge_core.specs.declared.phase.Phase.TheVariants as phases
 use Rattle.merge_site.specs.Site.{Account}
+use Rattle.file_tree.specs.declared.fault.TreeFault.TheVariants as trees
 use Rattle.group_run.specs.Applied.{number}
 use Rattle.std.specs.Prelude.{map}
 use Rattle.group_run.specs.Causes.{IsOfGroup, StopsChanges}
@@ -35,7 +36,7 @@ module _ {T S : Type 0} (tells : Bool) (opening : Map) (ts : List Turn) (t : Tur
   }
 
   pub next_stopped : (r : Result (Unit {0}) Stop) → new ≡ map number b.keeping.order → (new ≡ old) ⊎ (new ≡ old ++ t.group ∷ []) → OnErr r (newly ≡ told) → IfErr r (λ e. IsOfGroup e → new ≡ old)
-      → ((IsErrOf r stops.Device → ⊥) → is_shut (standing_at b t.group).phase ≡ true) → IfErr r (StopsChanges tells (stood_at opening a) a.book a.groups (changes_of t) t.group)
+      → ((IsErrOf r (stops.Tree trees.Failed) → ⊥) → is_shut (standing_at b t.group).phase ≡ true) → IfErr r (StopsChanges tells (stood_at opening a) a.book a.groups (changes_of t) t.group)
       → IfErr r (EndsAt tells opening (ts ++ t ∷ []) new newly b)
   next_stopped (Ok x) order one untold early shut cause = tt
   next_stopped (Err e) order one untold early shut cause = record {

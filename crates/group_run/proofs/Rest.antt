@@ -12,6 +12,7 @@ use Rattle.merge_core.specs.declared.phase.Phase.TheVariants as phases
 use Rattle.merge_site.specs.Site.{Account}
 use Rattle.merge_core.proofs.Words.{gate_kept, tree_kept}
 use Rattle.recovery.specs.Phases.{IsShut}
+use Rattle.file_tree.specs.declared.fault.TreeFault.TheVariants as trees
 use Rattle.group_run.specs.Working.{is_shut, standing_at}
 use Rattle.group_run.specs.declared.stop.Stop.{Stop}
 use Rattle.group_run.specs.declared.stop.Stop.TheVariants as stops
@@ -85,6 +86,6 @@ ok_if (Ok a) p = p
 ok_if (Err e) p = tt
 
 -- a group that is done has its gate shut, where nothing but the device could fail
-pub done_shut : {A T S : Type 0} (r : Result A Stop) (a : Account T S) (g : ℕ) → (IsErrOf r stops.Device → ⊥) → IfErr r (λ e. e ≡ stops.Device) → OnOk r (IsAt a.keeping g phases.Done) → is_shut (standing_at a g).phase ≡ true
+pub done_shut : {A T S : Type 0} (r : Result A Stop) (a : Account T S) (g : ℕ) → (IsErrOf r (stops.Tree trees.Failed) → ⊥) → IfErr r (λ e. e ≡ stops.Tree trees.Failed) → OnOk r (IsAt a.keeping g phases.Done) → is_shut (standing_at a g).phase ≡ true
 done_shut (Ok x) a g healthy only at = ap is_shut at.phase
 done_shut (Err e) a g healthy only at = absurd (healthy (ap Err only))

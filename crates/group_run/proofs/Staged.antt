@@ -51,22 +51,22 @@ early_same old new g early kept = record {
 }
 
 pub early_stage : {A T S : Type 0} (r : Result A StageFault) (old new : Account T S) (f : Entry) (w : Wish) (g : ℕ) → IsAt old.keeping g phases.Building → OnOk r (Adds old new (PutStage g (placement_of f) f.object) true)
-    → (IsErrOf r faults.Device → Adds old new (PutStage g (placement_of f) f.object) false) → (¬ IsErrOf r faults.Device → OnErr r (KeepsHistory old new)) → OnOk r (new.wishes ≡ with_wish old.wishes g w) → OnErr r (new.wishes ≡ old.wishes) → Early g old new
+    → (IsErrOf r (faults.Tree trees.Failed) → Adds old new (PutStage g (placement_of f) f.object) false) → (¬ IsErrOf r (faults.Tree trees.Failed) → OnErr r (KeepsHistory old new)) → OnOk r (new.wishes ≡ with_wish old.wishes g w) → OnErr r (new.wishes ≡ old.wishes) → Early g old new
 early_stage (Ok a) old new f w g at adds failed kept more same =
     early_by old new (PutStage g (placement_of f) f.object) true at.phase refl refl adds (worked_stage old new g (placement_of f) f.object w adds at.phase more)
-early_stage (Err faults.Device) old new f w g at adds failed kept more same =
+early_stage (Err (faults.Tree trees.Failed)) old new f w g at adds failed kept more same =
     early_by old new (PutStage g (placement_of f) f.object) false at.phase refl refl (failed refl) (worked_failed old new g (placement_of f) f.object (failed refl) at.phase same)
 early_stage (Err (faults.Image bad)) old new f w g at adds failed kept more same = early_same old new g (ap may_end at.phase) (kept (λ e. cc e))
 early_stage (Err faults.Limit) old new f w g at adds failed kept more same = early_same old new g (ap may_end at.phase) (kept (λ e. cc e))
-early_stage (Err faults.Memory) old new f w g at adds failed kept more same = early_same old new g (ap may_end at.phase) (kept (λ e. cc e))
+early_stage (Err (faults.Tree trees.Memory)) old new f w g at adds failed kept more same = early_same old new g (ap may_end at.phase) (kept (λ e. cc e))
 
 -- the record of a group that is being built
 pub early_record : {A T S : Type 0} (r : Result A SiteFault) (old new : Account T S) (g : ℕ) (removals : List (List ℕ)) → IsAt old.keeping g phases.Building → OnOk r (Adds old new (PutRecord g removals) true)
-    → (IsErrOf r sites.Device → Adds old new (PutRecord g removals) false) → ((IsErrOf r sites.Device → ⊥) → OnErr r (KeepsHistory old new)) → Early g old new
+    → (IsErrOf r (sites.Tree trees.Failed) → Adds old new (PutRecord g removals) false) → ((IsErrOf r (sites.Tree trees.Failed) → ⊥) → OnErr r (KeepsHistory old new)) → Early g old new
 early_record (Ok a) old new g removals at adds failed kept = early_event old new (PutRecord g removals) true at.phase refl refl refl adds
-early_record (Err sites.Device) old new g removals at adds failed kept = early_event old new (PutRecord g removals) false at.phase refl refl refl (failed refl)
+early_record (Err (sites.Tree trees.Failed)) old new g removals at adds failed kept = early_event old new (PutRecord g removals) false at.phase refl refl refl (failed refl)
 early_record (Err sites.Limit) old new g removals at adds failed kept = early_same old new g (ap may_end at.phase) (kept (λ e. cc e))
-early_record (Err sites.Memory) old new g removals at adds failed kept = early_same old new g (ap may_end at.phase) (kept (λ e. cc e))
+early_record (Err (sites.Tree trees.Memory)) old new g removals at adds failed kept = early_same old new g (ap may_end at.phase) (kept (λ e. cc e))
 
 -- the group that has its record
 pub recorded_is : {T S : Type 0} (old new : Account T S) (c : Changes) (g : ℕ) (removals : List (List ℕ)) → removals ≡ c.removals → HasStaged c.files (standing_at old g) → Adds old new (PutRecord g removals) true → group_in new g ≡ changing g c

@@ -1,36 +1,31 @@
 -- A stop that comes of the tree is none of the sink.
 use Rattle.std.proofs.Common.{◌≡◌}
 use Rattle.file_tree.specs.declared.fault.TreeFault.{TreeFault}
-use Rattle.file_tree.specs.declared.fault.TreeFault.TheVariants as trees
 use Rattle.merge_site.specs.declared.fault.ClaimStop.{ClaimStop}
 use Rattle.merge_site.specs.declared.fault.ClaimStop.TheVariants as claims
 use Rattle.merge_site.specs.declared.fault.SiteFault.{SiteFault}
 use Rattle.merge_site.specs.declared.fault.SiteFault.TheVariants as sites
 use Rattle.merge_site.specs.declared.fault.StageFault.{StageFault}
 use Rattle.merge_site.specs.declared.fault.StageFault.TheVariants as stages
-use Rattle.group_run.specs.Stops.{stop_of_claim, stop_of_site, stop_of_stage, stop_of_tree}
+use Rattle.group_run.specs.Stops.{stop_of_claim, stop_of_site, stop_of_stage}
 use Rattle.group_run.specs.declared.stop.Stop.TheVariants as stops
 
-pub tree_quiet : (f : TreeFault) → stop_of_tree f ≡ stops.Output → ⊥
-tree_quiet trees.Failed e = cc e
-tree_quiet trees.Memory e = cc e
+pub tree_quiet : (f : TreeFault) → stops.Tree f ≡ stops.Output → ⊥
+tree_quiet f e = cc e
 
 pub site_quiet : (f : SiteFault) → stop_of_site f ≡ stops.Output → ⊥
-site_quiet sites.Device e = cc e
+site_quiet (sites.Tree of) e = cc e
 site_quiet sites.Limit e = cc e
-site_quiet sites.Memory e = cc e
 
 pub stage_quiet : (f : StageFault) → stop_of_stage f ≡ stops.Output → ⊥
-stage_quiet stages.Device e = cc e
+stage_quiet (stages.Tree of) e = cc e
 stage_quiet (stages.Image bad) e = cc e
 stage_quiet stages.Limit e = cc e
-stage_quiet stages.Memory e = cc e
 
 pub claim_quiet : (s : ClaimStop) → stop_of_claim s ≡ stops.Output → ⊥
-claim_quiet claims.Device e = cc e
+claim_quiet (claims.Tree of) e = cc e
 claim_quiet (claims.Collision c) e = cc e
 claim_quiet (claims.Image bad) e = cc e
 claim_quiet (claims.Removal p) e = cc e
 claim_quiet claims.Overlap e = cc e
 claim_quiet claims.Limit e = cc e
-claim_quiet claims.Memory e = cc e

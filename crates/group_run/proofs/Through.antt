@@ -19,6 +19,7 @@ use Rattle.merge_core.specs.declared.phase.Phase.TheVariants as phases
 use Rattle.merge_core.specs.declared.step.Step.TheVariants as steps
 use Rattle.merge_site.specs.Site.{Account, StoodDuring}
 use Rattle.merge_site.specs.declared.group.SiteGroup.{SiteGroup}
+use Rattle.file_tree.specs.declared.fault.TreeFault.TheVariants as trees
 use Rattle.group_run.specs.Applied.{RecoversWith, number}
 use Rattle.group_run.specs.Causes.{IsOfGroup, StopsChanges}
 use Rattle.group_run.specs.Granted.{IsAdmitted, IsOutside}
@@ -148,7 +149,7 @@ module _ {T S : Type 0} (tells : Bool) (opening : Map) (ts us : List Turn) (t : 
   ]
 
   -- the run ends with this turn
-  pub ended_on : {A : Type 0} (end : Result A Stop) → ((IsErrOf end stops.Device → ⊥) → is_shut (standing_at b g).phase ≡ true) → HasEnded tells opening (ts ++ t ∷ us) b end
+  pub ended_on : {A : Type 0} (end : Result A Stop) → ((IsErrOf end (stops.Tree trees.Failed) → ⊥) → is_shut (standing_at b g).phase ≡ true) → HasEnded tells opening (ts ++ t ∷ us) b end
   ended_on end shut = record {
     stood = stood_on;
     crash = λ tl c stands. record {

@@ -19,8 +19,7 @@ use Rattle.group_run.specs.declared.stop.Stop.TheVariants as stops
 
 -- a stop that says nothing of the group
 abbrev pub IsPlain : Stop → Type 0
-IsPlain stops.Device = ⊤
-IsPlain stops.Memory = ⊤
+IsPlain (stops.Tree of) = ⊤
 IsPlain e = ⊥
 
 -- the record of the group that makes these changes passes a limit
@@ -39,10 +38,9 @@ abbrev pub StopsRecord : ℕ → Changes → Stop → Type 0
 StopsRecord g c stops.Limit = IsTooMuch g c
 StopsRecord g c e = IsPlain e
 
--- a stop that is none of the device and no want of memory
+-- a stop that is no fault of the tree
 abbrev pub is_refusal : ClaimStop → Bool
-is_refusal claims.Device = false
-is_refusal claims.Memory = false
+is_refusal (claims.Tree of) = false
 is_refusal s = true
 
 -- the claim of a group with these changes is refused so, by the book from before the run, and by

@@ -1,4 +1,5 @@
 -- A site on its way through the turns of a run.
+use Rattle.file_tree.specs.declared.fault.TreeFault.TheVariants as trees
 use Rattle.std.specs.Prelude.{◌≡◌, ◌+◌, ◌≤◌, ℕ, Bool, true, false, List, [], ◌∷◌, map}
 use Rattle.std.specs.Prelude.{IsErrOf, IsTrue, Result, Vec, length, vec_capacity, vec_len}
 use Rattle.std.specs.Global.{Global}
@@ -54,4 +55,5 @@ pub record HasEnded {A T S : Type 0} (tells : Bool) (opening : Map) (turns : Lis
       RecoversWith (AreFirst opening a.opened_book a.groups turns) opening
       (map number a.keeping.order) c
   pub order : IsTrue tells → AreFirst opening a.opened_book a.groups turns a.keeping.order
-  pub shut : ¬ IsErrOf end stops.Device → (h : ℕ) → is_shut (standing_at a h).phase ≡ true
+  pub shut : ¬ IsErrOf end (stops.Tree trees.Failed) → (h : ℕ) →
+      is_shut (standing_at a h).phase ≡ true

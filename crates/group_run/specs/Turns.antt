@@ -2,6 +2,7 @@
 use Rattle.std.specs.Prelude.{◌≡◌, ◌++◌, ℕ, zero, suc, Bool, List, [], ◌∷◌, filter, map, not}
 use Rattle.std.specs.Prelude.{Option, Some, None, ⊤}
 use Rattle.file_tree.specs.Disk.{Map}
+use Rattle.file_tree.specs.declared.fault.TreeFault.TheVariants as trees
 use Rattle.journal.specs.Group.{Group, applied}
 use Rattle.journal.specs.Judging.{is_in}
 use Rattle.owner_book.specs.Book.{Book}
@@ -63,4 +64,4 @@ StopsBehind tells m b groups (t ∷ ts) (suc n) e =
 abbrev pub HaveCause : Bool → Map → Book → List SiteGroup → List Turn → ℕ → Option Keeping →
     Stop → Type 0
 HaveCause tells m b groups turns n (Some k) e = StopsBehind tells m b groups turns n e
-HaveCause tells m b groups turns n None e = e ≡ stops.Memory
+HaveCause tells m b groups turns n None e = e ≡ stops.Tree trees.Memory

@@ -3,6 +3,7 @@ use Rattle.std.specs.Prelude.{◌≡◌, ℕ, suc, List, [], IsErrOf, Result, le
 use Rattle.basics.specs.Members.{Has}
 use Rattle.file_tree.specs.Disk.{Story}
 use Rattle.file_tree.specs.Moments.{Leaves, Since}
+use Rattle.file_tree.specs.declared.fault.TreeFault.TheVariants as trees
 use Rattle.journal.specs.Group.{Group, with_groups}
 use Rattle.merge_core.specs.Core.{standing_in}
 use Rattle.merge_core.specs.Keeping.{Keeping}
@@ -19,8 +20,8 @@ pub record WentWith {A : Type 0} (Run : List Group → Type 0) (old new : Story)
     (end : Result A Stop) : Type 0 where
   pub moments : Since (RecoversWith Run old.now.holds []) old new
   pub crash : Leaves (RecoversWith Run old.now.holds history) new.now
-  pub left : ¬ IsErrOf end stops.Device → LeavesWith Run old.now.holds history new.now
-  pub tree : ¬ IsErrOf end stops.Device → ¬ IsErrOf end stops.Memory →
+  pub left : ¬ IsErrOf end (stops.Tree trees.Failed) → LeavesWith Run old.now.holds history new.now
+  pub tree : ¬ IsErrOf end (stops.Tree trees.Failed) → ¬ IsErrOf end (stops.Tree trees.Memory) →
       ReadsWith Run old.now.holds history new.now
 
 -- the same where a run is any list of groups that are all of one kind
@@ -41,5 +42,5 @@ pub record DroveWith {A : Type 0} (Run : List Group → Type 0) (old new : Story
     (history : List ℕ) (end : Result A Stop) : Type 0 where
   pub moments : Since (RecoversWith Run old.now.holds []) old new
   pub crash : Leaves (RecoversWith Run old.now.holds history) new.now
-  pub shut : ¬ IsErrOf end stops.Device → (groups : List Group) × Run groups ×
+  pub shut : ¬ IsErrOf end (stops.Tree trees.Failed) → (groups : List Group) × Run groups ×
       ((map number groups ≡ history) × IsShut (λ q. with_groups groups q (old.now.holds q)) new.now)

@@ -9,7 +9,7 @@ ghost use Rattle.group_run.specs.Working.{Changes, Works, group_in, is_shut, sta
 ghost use Rattle.group_run.specs.Working.{stood_at};
 
 use crate::stop::Stop;
-use file_tree::{Sink, Tree};
+use file_tree::{Sink, Tree, TreeFault};
 use merge_site::Site;
 
 /// Claims the paths of a sealed group. A claim that is stopped leaves it sealed.
@@ -29,8 +29,8 @@ pub(crate) fn claim<T: Tree, S: Sink>(site: &mut Site<T, S>, group: u32) -> Resu
         IfErr result (StopsChanges T.tells (stood_at (T.story site.old.opened).now.holds site.old)
         site.old.book site.old.groups c group) }
     ensures sink { site.new.sink ≡ site.old.sink }
-    ensures faults { CountsFault (IsErrOf result Stop.Device) (T.faults site.old.tree)
-        (T.faults site.new.tree) }
+    ensures faults { CountsFault (IsErrOf result (Stop.Tree TreeFault.Failed))
+        (T.faults site.old.tree) (T.faults site.new.tree) }
 {
     site.promise();
     site.claim(group)?;

@@ -1,6 +1,7 @@
 ghost use Rattle.std.specs.Prelude.{◌≡◌, ◌⊎◌, ◌<◌, ◌≤◌, ◌^◌, [], ℕ, Err, List, length};
 ghost use Rattle.std.specs.Prelude.{IfErr, IfOk, IsErrOf, IsOk, IsTrue, OnOk};
 ghost use Rattle.file_tree.specs.Disk.{Rose};
+ghost use Rattle.file_tree.specs.Faults.{IsOfMachine};
 ghost use Rattle.merge_core.specs.Trail.{IsAtRest};
 ghost use Rattle.group_run.specs.Runs.{IsOver, IsUnderWay};
 ghost use Rattle.group_run.specs.Turns.{AreFirst};
@@ -9,7 +10,7 @@ ghost use Rattle.group_run.specs.declared.turn.Turn.{Turn};
 
 use crate::clearing::clear;
 use crate::stop::Stop;
-use file_tree::{Sink, Tree};
+use file_tree::{Sink, Tree, TreeFault};
 use merge_core::Core;
 use merge_site::{Site, SiteGroup};
 use owner_book::OwnerBook;
@@ -68,11 +69,13 @@ pub fn close_run<T: Tree, S: Sink>(
     ensures machine { result.machine ≡ site.keeping }
     ensures sink { result.sink ≡ site.sink }
     ensures ok { OnOk result.end (IsOk end) }
-    ensures told { IfErr result.end (λ e. (e ≡ Stop.Device) ⊎ ((e ≡ Stop.Memory) ⊎ (end ≡ Err e))) }
+    ensures told { IfErr result.end (λ e. IsOfMachine Stop.Tree e ⊎ (end ≡ Err e)) }
     ensures output { IsErrOf result.end Stop.Output → IsErrOf end Stop.Output }
-    ensures device { IsErrOf end Stop.Device → IsErrOf result.end Stop.Device }
+    ensures device { IsErrOf end (Stop.Tree TreeFault.Failed) →
+        IsErrOf result.end (Stop.Tree TreeFault.Failed) }
     ensures count { T.faults site.tree ≤ T.faults result.tree }
-    ensures rose { IsErrOf result.end Stop.Device → (¬ IsErrOf end Stop.Device) →
+    ensures rose { IsErrOf result.end (Stop.Tree TreeFault.Failed) →
+        (¬ IsErrOf end (Stop.Tree TreeFault.Failed)) →
         Rose (T.faults site.tree) (T.faults result.tree) }
 {
     site.promise();

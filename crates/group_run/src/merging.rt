@@ -18,7 +18,7 @@ use crate::opening::{open, place_paths, remove_paths, settle};
 use crate::sealing::{mark, record};
 use crate::staging::{begin, stage_packages};
 use crate::stop::Stop;
-use file_tree::{Path, Sink, Tree};
+use file_tree::{Path, Sink, Tree, TreeFault};
 use merge_site::Site;
 
 /// Begins a group, makes all that it needs in the journal durable, and claims its paths.
@@ -48,8 +48,8 @@ pub(crate) fn build<T: Tree, S: Sink>(
         (stood_at (T.story site.old.opened).now.holds site.old) site.old.book site.old.groups
         (changes_in removals.items packages.items) group) }
     ensures sink { site.new.sink ≡ site.old.sink }
-    ensures faults { CountsFault (IsErrOf result Stop.Device) (T.faults site.old.tree)
-        (T.faults site.new.tree) }
+    ensures faults { CountsFault (IsErrOf result (Stop.Tree TreeFault.Failed))
+        (T.faults site.old.tree) (T.faults site.new.tree) }
 {
     site.promise();
     begin(site, group);
@@ -69,10 +69,10 @@ pub(crate) fn commit<T: Tree, S: Sink>(site: &mut Site<T, S>, group: u32) -> Res
     ensures order { OnErr result (site.new.keeping.order ≡ site.old.keeping.order) }
     ensures at { OnOk result (IsAt site.new.keeping group phases.Placed) }
     ensures group { group_in site.new group ≡ group_in site.old group }
-    ensures only { IfErr result (λ e. e ≡ Stop.Device) }
+    ensures only { IfErr result (λ e. e ≡ Stop.Tree TreeFault.Failed) }
     ensures sink { site.new.sink ≡ site.old.sink }
-    ensures faults { CountsFault (IsErrOf result Stop.Device) (T.faults site.old.tree)
-        (T.faults site.new.tree) }
+    ensures faults { CountsFault (IsErrOf result (Stop.Tree TreeFault.Failed))
+        (T.faults site.old.tree) (T.faults site.new.tree) }
 {
     open(site, group)?;
     place_paths(site, group)?;

@@ -10,7 +10,7 @@ ghost use Rattle.group_run.specs.declared.turn.Turn.{Turn};
 use crate::running::merge_and_tell;
 use crate::stop::Stop;
 use crate::turn::Turn;
-use file_tree::{Sink, Tree};
+use file_tree::{Sink, Tree, TreeFault};
 use merge_site::Site;
 
 /// Merges the group of the next turn of a run, and writes its line.
@@ -41,8 +41,8 @@ pub fn merge_next<T: Tree, S: Sink>(
         start (S.written site.old.sink) →
         Wrote (AreLines (line_in site.old.groups) history.new.items acknowledged.new.items)
         start (S.written site.new.sink) }
-    ensures device { CountsFault (IsErrOf result Stop.Device) (T.faults site.old.tree)
-        (T.faults site.new.tree) }
+    ensures device { CountsFault (IsErrOf result (Stop.Tree TreeFault.Failed))
+        (T.faults site.old.tree) (T.faults site.new.tree) }
     ensures output { CountsFault (IsErrOf result Stop.Output) (S.faults site.old.sink)
         (S.faults site.new.sink) }
 {

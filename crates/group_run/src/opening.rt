@@ -5,7 +5,7 @@ ghost use Rattle.merge_core.specs.declared.phase.Phase.TheVariants as phases;
 ghost use Rattle.group_run.specs.Working.{Works, group_in, standing_at};
 
 use crate::stop::Stop;
-use file_tree::{Sink, Tree};
+use file_tree::{Sink, Tree, TreeFault};
 use merge_site::Site;
 
 /// Opens the gate of a claimed group: from here on a crash may leave its changes.
@@ -17,10 +17,10 @@ pub(crate) fn open<T: Tree, S: Sink>(site: &mut Site<T, S>, group: u32) -> Resul
     ensures placed { OnOk result ((standing_at site.new group).placed ≡ 0) }
     ensures removed { OnOk result ((standing_at site.new group).removed ≡ 0) }
     ensures group { group_in site.new group ≡ group_in site.old group }
-    ensures only { IfErr result (λ e. e ≡ Stop.Device) }
+    ensures only { IfErr result (λ e. e ≡ Stop.Tree TreeFault.Failed) }
     ensures sink { site.new.sink ≡ site.old.sink }
-    ensures faults { CountsFault (IsErrOf result Stop.Device) (T.faults site.old.tree)
-        (T.faults site.new.tree) }
+    ensures faults { CountsFault (IsErrOf result (Stop.Tree TreeFault.Failed))
+        (T.faults site.old.tree) (T.faults site.new.tree) }
 {
     site.open_gate(group)?;
     site.sync_gate(group)?;
@@ -39,10 +39,10 @@ pub(crate) fn place_paths<T: Tree, S: Sink>(site: &mut Site<T, S>, group: u32) -
         length (standing_at site.new group).placements) }
     ensures removed { (standing_at site.new group).removed ≡ 0 }
     ensures group { group_in site.new group ≡ group_in site.old group }
-    ensures only { IfErr result (λ e. e ≡ Stop.Device) }
+    ensures only { IfErr result (λ e. e ≡ Stop.Tree TreeFault.Failed) }
     ensures sink { site.new.sink ≡ site.old.sink }
-    ensures faults { CountsFault (IsErrOf result Stop.Device) (T.faults site.old.tree)
-        (T.faults site.new.tree) }
+    ensures faults { CountsFault (IsErrOf result (Stop.Tree TreeFault.Failed))
+        (T.faults site.old.tree) (T.faults site.new.tree) }
 {
     let (count, _) = site.left(group);
     for _ in 0..count {
@@ -65,10 +65,10 @@ pub(crate) fn remove_paths<T: Tree, S: Sink>(site: &mut Site<T, S>, group: u32) 
     ensures removed { OnOk result ((standing_at site.new group).removed ≡
         length (standing_at site.new group).removals) }
     ensures group { group_in site.new group ≡ group_in site.old group }
-    ensures only { IfErr result (λ e. e ≡ Stop.Device) }
+    ensures only { IfErr result (λ e. e ≡ Stop.Tree TreeFault.Failed) }
     ensures sink { site.new.sink ≡ site.old.sink }
-    ensures faults { CountsFault (IsErrOf result Stop.Device) (T.faults site.old.tree)
-        (T.faults site.new.tree) }
+    ensures faults { CountsFault (IsErrOf result (Stop.Tree TreeFault.Failed))
+        (T.faults site.old.tree) (T.faults site.new.tree) }
 {
     let (_, count) = site.left(group);
     for _ in 0..count {
@@ -90,10 +90,10 @@ pub(crate) fn settle<T: Tree, S: Sink>(site: &mut Site<T, S>, group: u32) -> Res
     ensures order { OnErr result (site.new.keeping.order ≡ site.old.keeping.order) }
     ensures at { OnOk result (IsAt site.new.keeping group phases.Placed) }
     ensures group { group_in site.new group ≡ group_in site.old group }
-    ensures only { IfErr result (λ e. e ≡ Stop.Device) }
+    ensures only { IfErr result (λ e. e ≡ Stop.Tree TreeFault.Failed) }
     ensures sink { site.new.sink ≡ site.old.sink }
-    ensures faults { CountsFault (IsErrOf result Stop.Device) (T.faults site.old.tree)
-        (T.faults site.new.tree) }
+    ensures faults { CountsFault (IsErrOf result (Stop.Tree TreeFault.Failed))
+        (T.faults site.old.tree) (T.faults site.new.tree) }
 {
     site.sync_placed(group)?;
     Ok(())
@@ -106,10 +106,10 @@ pub(crate) fn close<T: Tree, S: Sink>(site: &mut Site<T, S>, group: u32) -> Resu
     ensures order { site.new.keeping.order ≡ site.old.keeping.order }
     ensures at { OnOk result (IsAt site.new.keeping group phases.Done) }
     ensures group { group_in site.new group ≡ group_in site.old group }
-    ensures only { IfErr result (λ e. e ≡ Stop.Device) }
+    ensures only { IfErr result (λ e. e ≡ Stop.Tree TreeFault.Failed) }
     ensures sink { site.new.sink ≡ site.old.sink }
-    ensures faults { CountsFault (IsErrOf result Stop.Device) (T.faults site.old.tree)
-        (T.faults site.new.tree) }
+    ensures faults { CountsFault (IsErrOf result (Stop.Tree TreeFault.Failed))
+        (T.faults site.old.tree) (T.faults site.new.tree) }
 {
     site.close_gate(group)?;
     site.sync_closed(group)?;

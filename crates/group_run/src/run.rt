@@ -14,7 +14,7 @@ use crate::clearing::clear;
 use crate::running::drive;
 use crate::stop::Stop;
 use crate::turn::Turn;
-use file_tree::{Sink, Tree};
+use file_tree::{Sink, Tree, TreeFault};
 use merge_core::Core;
 use merge_site::{Site, SiteGroup};
 use owner_book::OwnerBook;
@@ -107,8 +107,8 @@ pub fn merge_groups<T: Tree, S: Sink>(alloc: Global, tree: T, sink: S, batch: Ba
         (S.written sink) (S.written result.sink) }
     ensures cause { IfErr result.end (HaveCause T.tells (T.story tree).now.holds batch.book
         batch.groups.items batch.turns.items (length result.history.items) result.machine) }
-    ensures device { CountsFault (IsErrOf result.end Stop.Device) (T.faults tree)
-        (T.faults result.tree) }
+    ensures device { CountsFault (IsErrOf result.end (Stop.Tree TreeFault.Failed))
+        (T.faults tree) (T.faults result.tree) }
     ensures output { CountsFault (IsErrOf result.end Stop.Output) (S.faults sink)
         (S.faults result.sink) }
 {
@@ -126,7 +126,7 @@ pub fn merge_groups<T: Tree, S: Sink>(alloc: Global, tree: T, sink: S, batch: Ba
                 tree,
                 sink,
                 machine: None,
-                end: Err(Stop::Memory),
+                end: Err(Stop::Tree(TreeFault::Memory)),
                 history,
                 acknowledged,
             };

@@ -29,7 +29,7 @@ use crate::opening::close;
 use crate::stop::Stop;
 use crate::telling::{add, tell};
 use crate::turn::Turn;
-use file_tree::{Path, Sink, Tree};
+use file_tree::{Path, Sink, Tree, TreeFault};
 use merge_site::Site;
 
 /// Brings a group into the tree for good, and notes it in the history.
@@ -60,15 +60,15 @@ fn merge<T: Tree, S: Sink>(
     ensures let_in { IsTrue T.tells → was_opened (standing_at site.new group).phase ≡ true →
         IsAdmitted (stood_at (T.story site.old.opened).now.holds site.old) site.old.book
         site.old.groups (changes_in removals.items packages.items) group (group_in site.new group) }
-    ensures shut { (¬ IsErrOf result Stop.Device) →
+    ensures shut { (¬ IsErrOf result (Stop.Tree TreeFault.Failed)) →
         is_shut (standing_at site.new group).phase ≡ true }
     ensures quiet { IfErr result (λ e. ¬ (e ≡ Stop.Output)) }
     ensures cause { IfErr result (StopsChanges T.tells
         (stood_at (T.story site.old.opened).now.holds site.old) site.old.book site.old.groups
         (changes_in removals.items packages.items) group) }
     ensures sink { site.new.sink ≡ site.old.sink }
-    ensures faults { CountsFault (IsErrOf result Stop.Device) (T.faults site.old.tree)
-        (T.faults site.new.tree) }
+    ensures faults { CountsFault (IsErrOf result (Stop.Tree TreeFault.Failed))
+        (T.faults site.old.tree) (T.faults site.new.tree) }
 {
     build(site, group, removals, packages)?;
     commit(site, group)?;
@@ -112,7 +112,7 @@ pub(crate) fn merge_and_tell<T: Tree, S: Sink>(
     ensures let_in { IsTrue T.tells → was_opened (standing_at site.new group).phase ≡ true →
         IsAdmitted (stood_at (T.story site.old.opened).now.holds site.old) site.old.book
         site.old.groups (changes_in removals.items packages.items) group (group_in site.new group) }
-    ensures shut { (¬ IsErrOf result Stop.Device) →
+    ensures shut { (¬ IsErrOf result (Stop.Tree TreeFault.Failed)) →
         is_shut (standing_at site.new group).phase ≡ true }
     ensures written { IsTrue S.tells → (start : List ℕ) →
         Wrote (AreLines (line_in site.old.groups) history.old.items acknowledged.old.items)
@@ -122,8 +122,8 @@ pub(crate) fn merge_and_tell<T: Tree, S: Sink>(
     ensures cause { IfErr result (StopsChanges T.tells
         (stood_at (T.story site.old.opened).now.holds site.old) site.old.book site.old.groups
         (changes_in removals.items packages.items) group) }
-    ensures device { CountsFault (IsErrOf result Stop.Device) (T.faults site.old.tree)
-        (T.faults site.new.tree) }
+    ensures device { CountsFault (IsErrOf result (Stop.Tree TreeFault.Failed))
+        (T.faults site.old.tree) (T.faults site.new.tree) }
     ensures output { CountsFault (IsErrOf result Stop.Output) (S.faults site.old.sink)
         (S.faults site.new.sink) }
 {
@@ -168,8 +168,8 @@ fn merge_all<T: Tree, S: Sink>(
         (S.written site.old.sink) (S.written site.new.sink) }
     ensures cause { IfErr result (StopsBehind T.tells (T.story site.new.opened).now.holds
         site.new.opened_book site.new.groups turns.items (length history.new.items)) }
-    ensures device { CountsFault (IsErrOf result Stop.Device) (T.faults site.old.tree)
-        (T.faults site.new.tree) }
+    ensures device { CountsFault (IsErrOf result (Stop.Tree TreeFault.Failed))
+        (T.faults site.old.tree) (T.faults site.new.tree) }
     ensures output { CountsFault (IsErrOf result Stop.Output) (S.faults site.old.sink)
         (S.faults site.new.sink) }
 {
@@ -215,8 +215,8 @@ pub(crate) fn drive<T: Tree, S: Sink>(
         (S.written site.old.sink) (S.written site.new.sink) }
     ensures cause { IfErr result (StopsBehind T.tells (T.story site.old.tree).now.holds
         site.old.opened_book site.old.groups turns.items (length history.new.items)) }
-    ensures device { CountsFault (IsErrOf result Stop.Device) (T.faults site.old.tree)
-        (T.faults site.new.tree) }
+    ensures device { CountsFault (IsErrOf result (Stop.Tree TreeFault.Failed))
+        (T.faults site.old.tree) (T.faults site.new.tree) }
     ensures output { CountsFault (IsErrOf result Stop.Output) (S.faults site.old.sink)
         (S.faults site.new.sink) }
 {

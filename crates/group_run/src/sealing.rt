@@ -8,7 +8,7 @@ ghost use Rattle.group_run.specs.Working.{Changes, HasStaged, Works, changing, g
 ghost use Rattle.group_run.specs.Working.{standing_at};
 
 use crate::stop::Stop;
-use file_tree::{Path, Sink, Tree};
+use file_tree::{Path, Sink, Tree, TreeFault};
 use merge_site::Site;
 
 /// Puts the record of a group that removes these paths.
@@ -29,8 +29,8 @@ pub(crate) fn record<T: Tree, S: Sink>(
         removals.items ≡ c.removals → IfErr result (StopsRecord group c) }
     ensures wishes { OnOk result (site.new.wishes ≡ site.old.wishes) }
     ensures sink { site.new.sink ≡ site.old.sink }
-    ensures faults { CountsFault (IsErrOf result Stop.Device) (T.faults site.old.tree)
-        (T.faults site.new.tree) }
+    ensures faults { CountsFault (IsErrOf result (Stop.Tree TreeFault.Failed))
+        (T.faults site.old.tree) (T.faults site.new.tree) }
 {
     site.put_record(group, removals)?;
     Ok(())
@@ -48,8 +48,8 @@ pub(crate) fn mark<T: Tree, S: Sink>(site: &mut Site<T, S>, group: u32) -> Resul
     ensures plain { IfErr result IsPlain }
     ensures wishes { OnOk result (site.new.wishes ≡ site.old.wishes) }
     ensures sink { site.new.sink ≡ site.old.sink }
-    ensures faults { CountsFault (IsErrOf result Stop.Device) (T.faults site.old.tree)
-        (T.faults site.new.tree) }
+    ensures faults { CountsFault (IsErrOf result (Stop.Tree TreeFault.Failed))
+        (T.faults site.old.tree) (T.faults site.new.tree) }
 {
     site.put_token(group)?;
     site.sync_sealed(group)?;

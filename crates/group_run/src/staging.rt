@@ -13,7 +13,7 @@ ghost use Rattle.group_run.specs.Working.{HasStaged, Works, all_in, all_of, stan
 
 use crate::files::Files;
 use crate::stop::Stop;
-use file_tree::{Entry, Sink, Tree};
+use file_tree::{Entry, Sink, Tree, TreeFault};
 use merge_record::OwnerKey;
 use merge_site::Site;
 
@@ -55,8 +55,8 @@ fn stage_all<T: Tree, S: Sink>(
         wishes_at site.old.wishes group ++ wishes_for owner folder files.items) }
     ensures rows { OnOk result (length site.new.wishes ≡ length site.old.wishes) }
     ensures sink { site.new.sink ≡ site.old.sink }
-    ensures faults { CountsFault (IsErrOf result Stop.Device) (T.faults site.old.tree)
-        (T.faults site.new.tree) }
+    ensures faults { CountsFault (IsErrOf result (Stop.Tree TreeFault.Failed))
+        (T.faults site.old.tree) (T.faults site.new.tree) }
 {
     for file in files {
         site.stage(group, owner, folder, file)?;
@@ -86,8 +86,8 @@ fn stage_files<T: Tree, S: Sink>(
         wishes_at site.old.wishes group ++ wishes_in files) }
     ensures rows { OnOk result (length site.new.wishes ≡ length site.old.wishes) }
     ensures sink { site.new.sink ≡ site.old.sink }
-    ensures faults { CountsFault (IsErrOf result Stop.Device) (T.faults site.old.tree)
-        (T.faults site.new.tree) }
+    ensures faults { CountsFault (IsErrOf result (Stop.Tree TreeFault.Failed))
+        (T.faults site.old.tree) (T.faults site.new.tree) }
 {
     let Files {
         owner,
@@ -120,8 +120,8 @@ pub(crate) fn stage_packages<T: Tree, S: Sink>(
     ensures wishes { OnOk result
         (wishes_at site.new.wishes group ≡ wishes_of packages.items) }
     ensures sink { site.new.sink ≡ site.old.sink }
-    ensures faults { CountsFault (IsErrOf result Stop.Device) (T.faults site.old.tree)
-        (T.faults site.new.tree) }
+    ensures faults { CountsFault (IsErrOf result (Stop.Tree TreeFault.Failed))
+        (T.faults site.old.tree) (T.faults site.new.tree) }
 {
     for files in packages {
         stage_files(site, group, files)?;

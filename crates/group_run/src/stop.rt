@@ -5,39 +5,37 @@ use owner_book::ImageBad;
 /// Why a run of groups ended before all of them were told.
 #[derive(Debug, Drop)]
 pub enum Stop {
-    Device,
     Output,
     /// A file of a package whose object may not be placed.
     Image(ImageBad),
-    /// What refused the claim of the group's paths, but for a failed device and want of memory.
+    /// What refused the claim of the group's paths, but for a fault of the tree.
     Claim(ClaimStop),
     /// Too many files, or a record past a limit.
     Limit,
-    Memory,
+    /// The device failed, or memory ran out.
+    Tree(TreeFault),
 }
 
 impl From<Failed> for Stop {
     ghost use Rattle.std.specs.Prelude.{◌≡◌};
+    ghost use Rattle.file_tree.specs.declared.fault.TreeFault.TheVariants as trees;
     ghost use Rattle.group_run.specs.declared.stop.Stop.TheVariants as stops;
 
-    ghost from_gives = { λ _ e. e ≡ stops.Device };
+    ghost from_gives = { λ _ e. e ≡ stops.Tree trees.Failed };
 
     fn from(_: Failed) -> Stop {
-        Stop::Device
+        Stop::Tree(TreeFault::Failed)
     }
 }
 
 impl From<TreeFault> for Stop {
     ghost use Rattle.std.specs.Prelude.{◌≡◌};
-    ghost use Rattle.group_run.specs.Stops.{stop_of_tree};
+    ghost use Rattle.group_run.specs.declared.stop.Stop.TheVariants as stops;
 
-    ghost from_gives = { λ f e. e ≡ stop_of_tree f };
+    ghost from_gives = { λ f e. e ≡ stops.Tree f };
 
     fn from(fault: TreeFault) -> Stop {
-        match fault {
-            TreeFault::Failed => Stop::Device,
-            TreeFault::Memory => Stop::Memory,
-        }
+        Stop::Tree(fault)
     }
 }
 
@@ -49,9 +47,8 @@ impl From<SiteFault> for Stop {
 
     fn from(fault: SiteFault) -> Stop {
         match fault {
-            SiteFault::Device => Stop::Device,
             SiteFault::Limit => Stop::Limit,
-            SiteFault::Memory => Stop::Memory,
+            SiteFault::Tree(fault) => Stop::Tree(fault),
         }
     }
 }
@@ -64,10 +61,9 @@ impl From<StageFault> for Stop {
 
     fn from(fault: StageFault) -> Stop {
         match fault {
-            StageFault::Device => Stop::Device,
             StageFault::Image(bad) => Stop::Image(bad),
             StageFault::Limit => Stop::Limit,
-            StageFault::Memory => Stop::Memory,
+            StageFault::Tree(fault) => Stop::Tree(fault),
         }
     }
 }
@@ -80,8 +76,7 @@ impl From<ClaimStop> for Stop {
 
     fn from(stop: ClaimStop) -> Stop {
         match stop {
-            ClaimStop::Device => Stop::Device,
-            ClaimStop::Memory => Stop::Memory,
+            ClaimStop::Tree(fault) => Stop::Tree(fault),
             refusal => Stop::Claim(refusal),
         }
     }

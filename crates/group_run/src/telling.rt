@@ -8,7 +8,7 @@ ghost use Rattle.group_run.specs.Through.{HasRoom};
 ghost use Rattle.group_run.specs.Working.{Works, group_in, is_shut, standing_at};
 
 use crate::stop::Stop;
-use file_tree::{Sink, Tree};
+use file_tree::{Sink, Tree, TreeFault};
 use merge_site::Site;
 
 /// Puts a number behind a list that has the room.
@@ -34,7 +34,8 @@ pub(crate) fn tell<T: Tree, S: Sink>(site: &mut Site<T, S>, group: u32) -> Resul
     ensures part { IsTrue S.tells → (n : ℕ) × (S.written site.new.sink ≡
         S.written site.old.sink ++ take n (line_in site.old.groups group)) }
     ensures only { IfErr result (λ e. e ≡ Stop.Output) }
-    ensures cause { (¬ IsErrOf result Stop.Device) × (¬ IsErrOf result Stop.Memory) }
+    ensures cause { (¬ IsErrOf result (Stop.Tree TreeFault.Failed)) ×
+        (¬ IsErrOf result (Stop.Tree TreeFault.Memory)) }
     ensures tree { site.new.tree ≡ site.old.tree }
     ensures faults { CountsFault (IsErrOf result Stop.Output) (S.faults site.old.sink)
         (S.faults site.new.sink) }

@@ -8,7 +8,7 @@ ghost use Rattle.tree_mem.specs.MemTree.{mem_story};
 
 use crate::given::{book, brought, brought_also, entries, group, removals, says_of};
 use crate::opened::stopping;
-use crate::told::{push_image_bad, push_stop, push_tree, push_written};
+use crate::told::{push_image_bad, push_machine, push_stop, push_tree, push_written};
 use group_run::{Batch, Files, Merged, Stop, Turn, merge_groups};
 use merge_site::SiteGroup;
 use std::alloc::{AllocError, Global};
@@ -202,10 +202,9 @@ fn push_end(text: &mut String, end: Result<(), Stop>) -> Result<(), AllocError> 
         Ok(()) => text.push_str("ok"),
         Err(Stop::Claim(stop)) => push_stop(text, stop),
         Err(Stop::Image(bad)) => push_image_bad(text, bad),
-        Err(Stop::Device) => text.push_str("device"),
         Err(Stop::Output) => text.push_str("output"),
         Err(Stop::Limit) => text.push_str("limit"),
-        Err(Stop::Memory) => Err(AllocError),
+        Err(Stop::Tree(fault)) => push_machine(text, fault),
     }
 }
 

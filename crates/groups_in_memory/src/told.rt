@@ -1,6 +1,6 @@
 //! What is told of a tree, a sink and a claim.
 
-use file_tree::Path;
+use file_tree::{Path, TreeFault};
 use merge_site::ClaimStop;
 use owner_book::{ClaimFault, Collision, ImageBad};
 use std::alloc::{AllocError, Global};
@@ -75,6 +75,14 @@ pub fn push_written(text: &mut String, sink: &MemSink) -> Result<(), AllocError>
     push_hex(text, sink.bytes())
 }
 
+/// That the device failed. Want of memory ends the telling.
+pub fn push_machine(text: &mut String, fault: TreeFault) -> Result<(), AllocError> {
+    match fault {
+        TreeFault::Failed => text.push_str("device"),
+        TreeFault::Memory => Err(AllocError),
+    }
+}
+
 /// Why a claim was stopped.
 pub fn push_stop(text: &mut String, stop: ClaimStop) -> Result<(), AllocError> {
     match stop {
@@ -82,9 +90,8 @@ pub fn push_stop(text: &mut String, stop: ClaimStop) -> Result<(), AllocError> {
         ClaimStop::Image(bad) => push_image_bad(text, bad),
         ClaimStop::Removal { path } => push_word(text, "removal", &path),
         ClaimStop::Overlap => text.push_str("overlap"),
-        ClaimStop::Device => text.push_str("device"),
         ClaimStop::Limit => text.push_str("limit"),
-        ClaimStop::Memory => Err(AllocError),
+        ClaimStop::Tree(fault) => push_machine(text, fault),
     }
 }
 

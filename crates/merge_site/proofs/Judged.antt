@@ -14,6 +14,7 @@ use Rattle.owner_book.specs.declared.wish.Wish.{Wish}
 use Rattle.merge_record.specs.declared.record.OwnerKey.{OwnerKey}
 use Rattle.merge_site.specs.Booking.{lists_of, wishes_at, with_wish}
 use Rattle.file_tree.specs.Disk.{Map}
+use Rattle.file_tree.specs.declared.fault.TreeFault.TheVariants as trees
 use Rattle.merge_site.specs.Claiming.{IsTakenIn, Stops, StopsAt, record_paths}
 use Rattle.merge_site.specs.Stopping.{EarlyStops, LateStops, stop_of}
 use Rattle.merge_site.specs.declared.fault.ClaimStop.{ClaimStop}
@@ -27,9 +28,9 @@ path_at (x ∷ ws) (suc i) w lt is = path_at ws i w (omega (arith, lt)) is
 -- what stops a claim that the book has taken stops the claim
 pub late_stop : (b : Book) (dying : List OwnerKey) (ws : List Wish) (rs : List (List ℕ)) (s : ClaimStop) → IsTakenIn b dying ws rs → LateStops (record_paths rs ws) s → Stops b dying ws rs s
 late_stop b dying ws rs stops.Overlap taken late = (taken, late)
-late_stop b dying ws rs stops.Device taken late = record { taken = taken; apart = late }
+late_stop b dying ws rs (stops.Tree trees.Failed) taken late = record { taken = taken; apart = late }
 late_stop b dying ws rs (stops.Collision (collisions.Unowned p)) taken late = record { taken = taken; apart = late }
-late_stop b dying ws rs stops.Memory taken late = tt
+late_stop b dying ws rs (stops.Tree trees.Memory) taken late = tt
 late_stop b dying ws rs (stops.Collision (collisions.Owned p k)) taken late = absurd late
 late_stop b dying ws rs (stops.Collision (collisions.Claimed p g)) taken late = absurd late
 late_stop b dying ws rs (stops.Collision (collisions.Ancestor p q)) taken late = absurd late
@@ -62,13 +63,12 @@ early_met m own ws (stops.Collision (collisions.Claimed p g)) early = tt
 early_met m own ws (stops.Collision (collisions.Ancestor p q)) early = tt
 early_met m own ws (stops.Collision (collisions.Unowned p)) early = absurd early
 early_met m own ws stops.Overlap early = tt
-early_met m own ws stops.Device early = tt
-early_met m own ws stops.Memory early = tt
+early_met m own ws (stops.Tree of) early = tt
 early_met m own ws (stops.Image x) early = tt
 early_met m own ws (stops.Removal p) early = tt
 early_met m own ws stops.Limit early = tt
 
-early_no_device : (s : ClaimStop) → EarlyStops s → s ≡ stops.Device → ⊥
+early_no_device : (s : ClaimStop) → EarlyStops s → s ≡ stops.Tree trees.Failed → ⊥
 early_no_device s early is = subst EarlyStops is early
 
 -- what a claim that the book stops says of the tree, and that it is no device's failure
@@ -76,7 +76,7 @@ pub early_says : (m : Map) (own : List ℕ → Option OwnerKey) (ws : List Wish)
 early_says m own ws (Ok x) early = tt
 early_says m own ws (Err s) early = early_met m own ws s early
 
-pub early_device : (r : Result (Unit {0}) ClaimStop) → IfErr r EarlyStops → IsErrOf r stops.Device → ⊥
+pub early_device : (r : Result (Unit {0}) ClaimStop) → IfErr r EarlyStops → IsErrOf r (stops.Tree trees.Failed) → ⊥
 early_device (Ok x) early is = absurd (cc is)
 early_device (Err s) early is = early_no_device s early (cc is)
 

@@ -2,6 +2,7 @@
 use Rattle.std.specs.Prelude.{◌≡◌, ◌≤◌, ◌||◌, ◌++◌, ℕ, Bool, true, false, List, [], Option, is_some, map, ⊤}
 use Rattle.std.specs.List.{AllByRecursion}
 use Rattle.file_tree.specs.Disk.{Map}
+use Rattle.file_tree.specs.declared.fault.TreeFault.TheVariants as trees
 use Rattle.image_fit.specs.Images.{IsClear, IsFirst, IsFirstBlock}
 use Rattle.journal.specs.Judging.{are_free}
 use Rattle.merge_record.specs.declared.record.OwnerKey.{OwnerKey}
@@ -62,8 +63,8 @@ Stops b dying ws rs stops.Limit =
     AreRemovable b (is_dying dying) rs × IsRefused b (is_dying dying) ws claims.Limit
 Stops b dying ws rs stops.Overlap =
     IsTakenIn b dying ws rs × (are_free [] (record_paths rs ws) ≡ false)
-Stops b dying ws rs stops.Device = MayClaim b dying ws rs
-Stops b dying ws rs stops.Memory = ⊤
+Stops b dying ws rs (stops.Tree trees.Failed) = MayClaim b dying ws rs
+Stops b dying ws rs (stops.Tree trees.Memory) = ⊤
 
 -- what stands in the tree stops a claim
 abbrev pub StopsAt : Map → (List ℕ → Option OwnerKey) → List Wish → ClaimStop → Type 0

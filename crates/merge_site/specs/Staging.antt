@@ -30,13 +30,12 @@ pub record MayStage (k : Keeping) (g : ℕ) (e : Entry) : Type 0 where
   pub good : is_good e ≡ true
   pub room : staged_count k g < MOST_GROUP_PATHS
 
--- why an entry isn't staged: for its object, then for the number of those before it; a failed
--- device and want of memory come only where it may be staged
+-- why an entry isn't staged: for its object, then for the number of those before it; a fault of
+-- the tree comes only where it may be staged
 abbrev pub IsStageFault : Keeping → ℕ → Entry → StageFault → Type 0
 IsStageFault k g e (faults.Image bad) = IsBad bad e
 IsStageFault k g e faults.Limit = (is_good e ≡ true) × (MOST_GROUP_PATHS ≤ staged_count k g)
-IsStageFault k g e faults.Device = MayStage k g e
-IsStageFault k g e faults.Memory = MayStage k g e
+IsStageFault k g e (faults.Tree of) = MayStage k g e
 
 -- the same groups, none with fewer paths for its stages
 pub record HasMore (old new : List Payload) : Type 0 where

@@ -8,7 +8,7 @@ ghost use Rattle.merge_site.specs.Site.{Adds, KeepsHistory};
 use crate::fault::ClaimStop;
 use crate::judging::judge_claim;
 use crate::site::{Site, enter_claim};
-use file_tree::{Sink, Tree};
+use file_tree::{Sink, Tree, TreeFault};
 use merge_core::Phase;
 
 impl<T: Tree, S: Sink> Site<T, S> {
@@ -27,8 +27,8 @@ impl<T: Tree, S: Sink> Site<T, S> {
         ensures kept { OnErr result (KeepsHistory self.old self.new) }
         ensures same { IsTrue T.tells → T.story self.new.tree ≡ T.story self.old.tree }
         ensures sink { self.new.sink ≡ self.old.sink }
-        ensures faults { CountsFault (IsErrOf result ClaimStop.Device) (T.faults self.old.tree)
-            (T.faults self.new.tree) }
+        ensures faults { CountsFault (IsErrOf result (ClaimStop.Tree TreeFault.Failed))
+            (T.faults self.old.tree) (T.faults self.new.tree) }
     {
         let wishes = &self.wishes[group as usize];
         let removals = self.core.removals(group);

@@ -7,27 +7,15 @@ use thiserror::Error;
 /// Why an event that brings something didn't come, or failed.
 #[derive(Debug, Drop, Error)]
 pub enum SiteFault {
-    #[error("the device failed")]
-    Device,
     #[error("too many paths, or too many bytes of them")]
     Limit,
-    #[error("out of memory")]
-    Memory,
-}
-
-impl From<AllocError> for SiteFault {
-    ghost use Rattle.std.specs.Prelude.{◌≡◌};
-    ghost use Rattle.merge_site.specs.declared.fault.SiteFault.TheVariants as faults;
-
-    ghost from_gives = { λ _ e. e ≡ faults.Memory };
-
-    fn from(_: AllocError) -> SiteFault {
-        SiteFault::Memory
-    }
+    #[error(transparent)]
+    Tree(TreeFault),
 }
 
 impl SiteFault {
     ghost use Rattle.std.specs.Prelude.{◌≡◌, ◌⊎◌};
+    ghost use Rattle.file_tree.specs.declared.fault.TreeFault.TheVariants as trees;
     ghost use Rattle.merge_core.specs.declared.refusal.Refusal.TheVariants as refusals;
     ghost use Rattle.merge_site.specs.declared.fault.SiteFault.TheVariants as faults;
 
@@ -35,11 +23,11 @@ impl SiteFault {
     pub(crate) fn of(refusal: Refusal) -> SiteFault
         requires { (refusal ≡ refusals.Limit) ⊎ (refusal ≡ refusals.Memory) }
         ensures limit { result ≡ faults.Limit → refusal ≡ refusals.Limit }
-        ensures none { ¬ (result ≡ faults.Device) }
+        ensures none { ¬ (result ≡ faults.Tree trees.Failed) }
     {
         match refusal {
             Refusal::Limit => SiteFault::Limit,
-            _ => SiteFault::Memory,
+            _ => SiteFault::Tree(TreeFault::Memory),
         }
     }
 }
@@ -47,21 +35,17 @@ impl SiteFault {
 /// Why an entry wasn't staged.
 #[derive(Debug, Drop, Error)]
 pub enum StageFault {
-    #[error("the device failed")]
-    Device,
     #[error(transparent)]
     Image(ImageBad),
     #[error("too many entries")]
     Limit,
-    #[error("out of memory")]
-    Memory,
+    #[error(transparent)]
+    Tree(TreeFault),
 }
 
 /// Why a group's claim wasn't granted.
 #[derive(Debug, Drop, Error)]
 pub enum ClaimStop {
-    #[error("the device failed")]
-    Device,
     #[error(transparent)]
     Collision(Collision),
     #[error(transparent)]
@@ -74,24 +58,25 @@ pub enum ClaimStop {
     Overlap,
     #[error("too many paths")]
     Limit,
-    #[error("out of memory")]
-    Memory,
+    #[error(transparent)]
+    Tree(TreeFault),
 }
 
 impl From<AllocError> for ClaimStop {
     ghost use Rattle.std.specs.Prelude.{◌≡◌};
+    ghost use Rattle.file_tree.specs.declared.fault.TreeFault.TheVariants as trees;
     ghost use Rattle.merge_site.specs.declared.fault.ClaimStop.TheVariants as stops;
 
-    ghost from_gives = { λ _ s. s ≡ stops.Memory };
+    ghost from_gives = { λ _ s. s ≡ stops.Tree trees.Memory };
 
     fn from(_: AllocError) -> ClaimStop {
-        ClaimStop::Memory
+        ClaimStop::Tree(TreeFault::Memory)
     }
 }
 
 impl ClaimStop {
     ghost use Rattle.std.specs.Prelude.{◌≡◌};
-    ghost use Rattle.merge_site.specs.Stopping.{stop_of, stop_at};
+    ghost use Rattle.merge_site.specs.Stopping.{stop_of};
 
     /// What a refusal of the book is.
     pub(crate) fn of(fault: ClaimFault) -> ClaimStop
@@ -101,17 +86,7 @@ impl ClaimStop {
             ClaimFault::Image(bad) => ClaimStop::Image(bad),
             ClaimFault::Collision(collision) => ClaimStop::Collision(collision),
             ClaimFault::Limit => ClaimStop::Limit,
-            ClaimFault::Memory => ClaimStop::Memory,
-        }
-    }
-
-    /// What a look that failed is.
-    pub(crate) fn at(fault: TreeFault) -> ClaimStop
-        ensures { result ≡ stop_at fault }
-    {
-        match fault {
-            TreeFault::Failed => ClaimStop::Device,
-            TreeFault::Memory => ClaimStop::Memory,
+            ClaimFault::Memory => ClaimStop::Tree(TreeFault::Memory),
         }
     }
 }

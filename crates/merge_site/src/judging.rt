@@ -12,7 +12,7 @@ ghost use Rattle.merge_site.specs.Claiming.{record_paths};
 ghost use Rattle.merge_site.specs.Stopping.{EarlyStops, LateStops, LookStops};
 
 use crate::fault::ClaimStop;
-use file_tree::{Path, Tree};
+use file_tree::{Path, Tree, TreeFault};
 use image_fit::block_of;
 use journal::{TakenPaths, jobs_folder, take_free, take_paths};
 use merge_record::OwnerKey;
@@ -124,14 +124,14 @@ fn judge_looks<T: Tree>(
         (StopsAt (T.story tree.old).now.holds (owner_in book.now.owned) wishes.now) }
     ensures few { IfErr result LookStops }
     ensures same { IsTrue T.tells → T.story tree.new ≡ T.story tree.old }
-    ensures faults { CountsFault (IsErrOf result ClaimStop.Device) (T.faults tree.old)
-        (T.faults tree.new) }
+    ensures faults { CountsFault (IsErrOf result (ClaimStop.Tree TreeFault.Failed))
+        (T.faults tree.old) (T.faults tree.new) }
 {
     for wish in wishes {
         match block_of(alloc, tree, &wish.path, may_hold(book, wish)) {
             Ok(None) => {}
             Ok(Some(path)) => return Err(ClaimStop::Collision(Collision::Unowned { path })),
-            Err(fault) => return Err(ClaimStop::at(fault)),
+            Err(fault) => return Err(ClaimStop::Tree(fault)),
         }
     }
     Ok(())
@@ -152,8 +152,8 @@ fn judge_claimed<T: Tree>(
         (StopsAt (T.story tree.old).now.holds (owner_in book.now.owned) wishes.now) }
     ensures late { IfErr result (LateStops (record_paths removals.now wishes.now)) }
     ensures same { IsTrue T.tells → T.story tree.new ≡ T.story tree.old }
-    ensures faults { CountsFault (IsErrOf result ClaimStop.Device) (T.faults tree.old)
-        (T.faults tree.new) }
+    ensures faults { CountsFault (IsErrOf result (ClaimStop.Tree TreeFault.Failed))
+        (T.faults tree.old) (T.faults tree.new) }
 {
     if !are_apart(alloc, removals, wishes)? {
         return Err(ClaimStop::Overlap);
@@ -183,8 +183,8 @@ pub(crate) fn judge_claim<T: Tree>(
         (StopsAt (T.story tree.old).now.holds (owner_in book.old.owned) wishes.now) }
     ensures kept { OnErr result (book.new ≡ book.old) }
     ensures same { IsTrue T.tells → T.story tree.new ≡ T.story tree.old }
-    ensures faults { CountsFault (IsErrOf result ClaimStop.Device) (T.faults tree.old)
-        (T.faults tree.new) }
+    ensures faults { CountsFault (IsErrOf result (ClaimStop.Tree TreeFault.Failed))
+        (T.faults tree.old) (T.faults tree.new) }
 {
     let taken = claim_paths(alloc, book, group, wishes, removals, dying);
     if taken.is_err() {

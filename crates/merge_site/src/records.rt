@@ -18,17 +18,17 @@ impl<T: Tree, S: Sink> Site<T, S> {
     pub fn put_record(&mut self, group: u32, removals: Vec<Path>) -> Result<(), SiteFault>
         requires at { IsAt self.old.keeping group Phase.Building }
         ensures ok { OnOk result (Adds self.old self.new (PutRecord group removals.items) true) }
-        ensures failed { IsErrOf result SiteFault.Device →
+        ensures failed { IsErrOf result (SiteFault.Tree TreeFault.Failed) →
             Adds self.old self.new (PutRecord group removals.items) false }
         ensures limit { IsErrOf result SiteFault.Limit →
             PassesLimit (put_content (machine_of self.old.keeping) group removals.items) }
-        ensures refused { (¬ IsErrOf result SiteFault.Device) →
+        ensures refused { (¬ IsErrOf result (SiteFault.Tree TreeFault.Failed)) →
             OnErr result (KeepsHistory self.old self.new) }
-        ensures same { IsTrue T.tells → (¬ IsErrOf result SiteFault.Device) →
+        ensures same { IsTrue T.tells → (¬ IsErrOf result (SiteFault.Tree TreeFault.Failed)) →
             OnErr result (T.story self.new.tree ≡ T.story self.old.tree) }
         ensures sink { self.new.sink ≡ self.old.sink }
-        ensures faults { CountsFault (IsErrOf result SiteFault.Device) (T.faults self.old.tree)
-            (T.faults self.new.tree) }
+        ensures faults { CountsFault (IsErrOf result (SiteFault.Tree TreeFault.Failed))
+            (T.faults self.old.tree) (T.faults self.new.tree) }
     {
         let (removals, body) = match self.core.spell_record(self.alloc, group, removals) {
             Ok(spelled) => spelled,
@@ -37,13 +37,13 @@ impl<T: Tree, S: Sink> Site<T, S> {
         let changes = self.jobs[group as usize].changes();
         let answer = calls::put_record(&mut self.tree, group, changes, &body);
         if let Err(TreeFault::Memory) = answer {
-            return Err(SiteFault::Memory);
+            return Err(SiteFault::Tree(TreeFault::Memory));
         }
         let ok = answer.is_ok();
         enter_record(&mut self.core, &mut self.log, group, removals, &body, ok);
         match answer {
             Ok(()) => Ok(()),
-            Err(_) => Err(SiteFault::Device),
+            Err(fault) => Err(SiteFault::Tree(fault)),
         }
     }
 }

@@ -12,7 +12,7 @@ use crate::fault::StageFault;
 use crate::job::Job;
 use crate::site::{Site, enter_stage};
 use crate::wishes::{add_wish, drop_wish};
-use file_tree::{Entry, Object, Path, Sink, Tree};
+use file_tree::{Entry, Object, Path, Sink, Tree, TreeFault};
 use image_fit::{bad_by, is_good};
 use merge_core::Phase;
 use merge_record::{MOST_GROUP_PATHS, OwnerKey, Placement, digest_of};
@@ -54,20 +54,20 @@ impl<T: Tree, S: Sink> Site<T, S> {
         requires at { IsAt self.old.keeping group Phase.Building }
         ensures ok { OnOk result
             (Adds self.old self.new (PutStage group (placement_of entry) entry.object) true) }
-        ensures failed { IsErrOf result StageFault.Device →
+        ensures failed { IsErrOf result (StageFault.Tree TreeFault.Failed) →
             Adds self.old self.new (PutStage group (placement_of entry) entry.object) false }
         ensures wishes { OnOk result (self.new.wishes ≡
             with_wish self.old.wishes group (wish_for owner folder entry)) }
         ensures unwished { OnErr result (self.new.wishes ≡ self.old.wishes) }
         ensures taken { OnOk result (MayStage self.old.keeping group entry) }
         ensures refused { IfErr result (IsStageFault self.old.keeping group entry) }
-        ensures kept { ¬ IsErrOf result StageFault.Device →
+        ensures kept { ¬ IsErrOf result (StageFault.Tree TreeFault.Failed) →
             OnErr result (KeepsHistory self.old self.new) }
-        ensures same { IsTrue T.tells → ¬ IsErrOf result StageFault.Device →
+        ensures same { IsTrue T.tells → ¬ IsErrOf result (StageFault.Tree TreeFault.Failed) →
             OnErr result (T.story self.new.tree ≡ T.story self.old.tree) }
         ensures sink { self.new.sink ≡ self.old.sink }
-        ensures faults { CountsFault (IsErrOf result StageFault.Device) (T.faults self.old.tree)
-            (T.faults self.new.tree) }
+        ensures faults { CountsFault (IsErrOf result (StageFault.Tree TreeFault.Failed))
+            (T.faults self.old.tree) (T.faults self.new.tree) }
     {
         if !is_good(&entry) {
             let bad = bad_by(entry.object.kind, entry.path);
@@ -78,11 +78,11 @@ impl<T: Tree, S: Sink> Site<T, S> {
             return Err(StageFault::Limit);
         }
         if make_place(&mut self.jobs, self.alloc, group, staged as u32).is_err() {
-            return Err(StageFault::Memory);
+            return Err(StageFault::Tree(TreeFault::Memory));
         }
         let Entry { path, object } = entry;
         if add_wish(&mut self.wishes, group, &path, owner, folder).is_err() {
-            return Err(StageFault::Memory);
+            return Err(StageFault::Tree(TreeFault::Memory));
         }
         let place = self.jobs[group as usize].stage(staged);
         let placement = placement_of(path, &object);
@@ -99,11 +99,11 @@ impl<T: Tree, S: Sink> Site<T, S> {
             Ok(true) => Ok(()),
             Ok(false) => {
                 drop_wish(&mut self.wishes, group);
-                Err(StageFault::Device)
+                Err(StageFault::Tree(TreeFault::Failed))
             }
             Err(_) => {
                 drop_wish(&mut self.wishes, group);
-                Err(StageFault::Memory)
+                Err(StageFault::Tree(TreeFault::Memory))
             }
         }
     }

@@ -14,7 +14,7 @@ use Rattle.merge_core.specs.Trail.{IsAtRest}
 use Rattle.plan_law.specs.Plans.{Group}
 use Rattle.database_law.specs.Packages.{Installed}
 use Rattle.group_run.specs.Lines.{IsBeginning}
-use Rattle.group_run.specs.Stops.{stop_of_tree}
+use Rattle.group_run.specs.declared.stop.Stop.TheVariants as merges
 use Rattle.group_run.specs.Went.{HaveRun}
 use Rattle.group_run.proofs.Told.{lines_none}
 use Rattle.image_build.specs.Images.{IsBuilt, IsPastLimit}
@@ -26,7 +26,7 @@ use Rattle.plan_run.specs.declared.merge.Merged.{Merged}
 use Rattle.plan_run.specs.declared.merge.Task.{Task}
 use Rattle.plan_run.specs.declared.stop.PlanStop.{PlanStop}
 use Rattle.plan_run.specs.declared.stop.PlanStop.TheVariants as stops
-use Rattle.plan_run.proofs.Unmade.{of_tree, went_unmade}
+use Rattle.plan_run.proofs.Unmade.{went_unmade}
 use Rattle.plan_run.proofs.Whole.{rose_earlier, unmerged_build, unmerged_failed, unmerged_fine, unmerged_ok, unmerged_plain, unmerged_quiet, unmerged_told}
 
 nothing_first : (whole : List ℕ) → [] ≡ take 0 whole
@@ -65,7 +65,7 @@ module _ {T S B : Type 0} (trees : Tree T) (sinks : Sink S) (builders : Builder 
 
   -- the merge never began, for a fault of the tree
   pub never_began : (f : TreeFault) → (IsTrue trees.tells → IsAtRest (trees.story tree).now.holds (trees.story tree).now) → (IsTrue trees.tells → trees.story run.tree ≡ trees.story tree)
-      → CountsFault (f ≡ trees_faults.Failed) (trees.faults tree) (trees.faults run.tree) → run.sink ≡ sink → new ≡ old → run.machine ≡ None → run.end ≡ Err (stops.Merge (stop_of_tree f)) → run.history.items ≡ [] → run.acknowledged.items ≡ []
+      → CountsFault (f ≡ trees_faults.Failed) (trees.faults tree) (trees.faults run.tree) → run.sink ≡ sink → new ≡ old → run.machine ≡ None → run.end ≡ Err (stops.Merge (merges.Tree f)) → run.history.items ≡ [] → run.acknowledged.items ≡ []
       → MergesPlan trees sinks builders installed plan task tree sink old new run
   never_began f rest same counts sink_is pool_is no_machine end_is none untold =
       let history = run.history.items in
@@ -83,7 +83,7 @@ module _ {T S B : Type 0} (trees : Tree T) (sinks : Sink S) (builders : Builder 
           output = record { later = subst (λ (x : S). sinks.faults sink ≤ sinks.faults x) (sym sink_is) (omega arith); rose = λ failed. absurd (unmerged_quiet f run.end end_is failed) };
         };
         tree = λ t. inl (
-          went_unmade (λ (x : journal.Group). ⊥) (trees.story tree) (trees.story run.tree) history (merge_end tt run.end) (rest t) (same t) none (of_tree f (merge_end tt run.end) (ap (merge_end tt) end_is)),
+          went_unmade f (λ (x : journal.Group). ⊥) (trees.story tree) (trees.story run.tree) history (merge_end tt run.end) (rest t) (same t) none (ap (merge_end tt) end_is),
           unmerged_plain f run.end end_is,
         );
         written = λ t. ([], lines_none (line_for task.jobs.items) history told untold, ap sinks.written sink_is ∙ sym (append-nil _));

@@ -16,7 +16,6 @@ use Rattle.database_law.specs.Packages.{Installed}
 use Rattle.group_run.specs.Applied.{number}
 use Rattle.group_run.specs.Causes.{IsOfGroup}
 use Rattle.group_run.specs.Lines.{IsBeginning, line_in, line_or_none}
-use Rattle.group_run.specs.Stops.{stop_of_tree}
 use Rattle.group_run.specs.Went.{HaveRun}
 use Rattle.group_run.specs.declared.stop.Stop.{Stop}
 use Rattle.group_run.specs.declared.stop.Stop.TheVariants as merges
@@ -94,16 +93,15 @@ pub as_opened : {T S : Type 0} (a : Account T S) (t : T) (k : Book) (groups : Li
 as_opened a t k groups P opened book are p =
     subst (λ (l : List SiteGroup). P t k l) are (subst (λ (b : Book). P t b a.groups) book (subst (λ x. P x a.opened_book a.groups) opened p))
 
-pub closed_stop : (Q : PlanStop → Type 0) (end end' : Result (Unit {0}) PlanStop) → Q (stops.Merge merges.Device) → Q (stops.Merge merges.Memory) → ClosesAs end end' → IfErr end Q → IfErr end' Q
-closed_stop Q end (Ok x) device memory closes is = tt
-closed_stop Q end (Err (stops.Merge merges.Device)) device memory closes is = device
-closed_stop Q end (Err (stops.Merge merges.Memory)) device memory closes is = memory
-closed_stop Q end (Err (stops.Merge merges.Output)) device memory closes is = subst (λ (e : Result (Unit {0}) PlanStop). IfErr e Q) closes is
-closed_stop Q end (Err (stops.Merge (merges.Image b))) device memory closes is = subst (λ (e : Result (Unit {0}) PlanStop). IfErr e Q) closes is
-closed_stop Q end (Err (stops.Merge (merges.Claim s))) device memory closes is = subst (λ (e : Result (Unit {0}) PlanStop). IfErr e Q) closes is
-closed_stop Q end (Err (stops.Merge merges.Limit)) device memory closes is = subst (λ (e : Result (Unit {0}) PlanStop). IfErr e Q) closes is
-closed_stop Q end (Err (stops.Build id)) device memory closes is = subst (λ (e : Result (Unit {0}) PlanStop). IfErr e Q) closes is
-closed_stop Q end (Err (stops.Image id)) device memory closes is = subst (λ (e : Result (Unit {0}) PlanStop). IfErr e Q) closes is
+pub closed_stop : (Q : PlanStop → Type 0) (end end' : Result (Unit {0}) PlanStop) → ((of : TreeFault) → Q (stops.Merge (merges.Tree of))) → ClosesAs end end' → IfErr end Q → IfErr end' Q
+closed_stop Q end (Ok x) carried closes is = tt
+closed_stop Q end (Err (stops.Merge (merges.Tree of))) carried closes is = carried of
+closed_stop Q end (Err (stops.Merge merges.Output)) carried closes is = subst (λ (e : Result (Unit {0}) PlanStop). IfErr e Q) closes is
+closed_stop Q end (Err (stops.Merge (merges.Image b))) carried closes is = subst (λ (e : Result (Unit {0}) PlanStop). IfErr e Q) closes is
+closed_stop Q end (Err (stops.Merge (merges.Claim s))) carried closes is = subst (λ (e : Result (Unit {0}) PlanStop). IfErr e Q) closes is
+closed_stop Q end (Err (stops.Merge merges.Limit)) carried closes is = subst (λ (e : Result (Unit {0}) PlanStop). IfErr e Q) closes is
+closed_stop Q end (Err (stops.Build id)) carried closes is = subst (λ (e : Result (Unit {0}) PlanStop). IfErr e Q) closes is
+closed_stop Q end (Err (stops.Image id)) carried closes is = subst (λ (e : Result (Unit {0}) PlanStop). IfErr e Q) closes is
 
 abbrev pub of_merge : (Stop → Type 0) → PlanStop → Type 0
 of_merge P e = IfErr (merge_end {A = Unit {0}} tt (Err e)) P
@@ -116,8 +114,8 @@ from_merge : (P : Stop → Type 0) (end : Result (Unit {0}) PlanStop) → IfErr 
 from_merge P (Ok x) is = tt
 from_merge P (Err e) is = is
 
-pub closed_cause : (P : Stop → Type 0) (end end' : Result (Unit {0}) PlanStop) → P merges.Device → P merges.Memory → ClosesAs end end' → IfErr (merge_end tt end) P → IfErr (merge_end tt end') P
-closed_cause P end end' device memory closes is = from_merge P end' (closed_stop (of_merge P) end end' device memory closes (to_merge P end is))
+pub closed_cause : (P : Stop → Type 0) (end end' : Result (Unit {0}) PlanStop) → ((of : TreeFault) → P (merges.Tree of)) → ClosesAs end end' → IfErr (merge_end tt end) P → IfErr (merge_end tt end') P
+closed_cause P end end' carried closes is = from_merge P end' (closed_stop (of_merge P) end end' carried closes (to_merge P end is))
 
 pub closed_ok : (P : Type 0) (end end' : Result (Unit {0}) PlanStop) → ClosesAs end end' → OnOk end P → OnOk end' P
 closed_ok P end (Ok x) closes is = subst (λ (e : Result (Unit {0}) PlanStop). OnOk e P) closes is
@@ -144,10 +142,10 @@ closed_fine P end (Err (stops.Image id)) closes is = subst (λ (e : Result (Unit
 pub output_before : (end end' : Result (Unit {0}) PlanStop) → ClosesAs end end' → IsErrOf end' (stops.Merge merges.Output) → IsErrOf end (stops.Merge merges.Output)
 output_before end end' closes is = subst (λ (e : Result (Unit {0}) PlanStop). ClosesAs end e) is closes
 
-device_or_not : (end : Result (Unit {0}) PlanStop) → (IsErrOf end (stops.Merge merges.Device)) ⊎ (IsErrOf end (stops.Merge merges.Device) → ⊥)
+device_or_not : (end : Result (Unit {0}) PlanStop) → (IsErrOf end (stops.Merge (merges.Tree trees.Failed))) ⊎ (IsErrOf end (stops.Merge (merges.Tree trees.Failed)) → ⊥)
 device_or_not (Ok x) = inr (λ e. cc e)
-device_or_not (Err (stops.Merge merges.Device)) = inl refl
-device_or_not (Err (stops.Merge merges.Memory)) = inr (λ e. cc e)
+device_or_not (Err (stops.Merge (merges.Tree trees.Failed))) = inl refl
+device_or_not (Err (stops.Merge (merges.Tree trees.Memory))) = inr (λ e. cc e)
 device_or_not (Err (stops.Merge merges.Output)) = inr (λ e. cc e)
 device_or_not (Err (stops.Merge (merges.Image b))) = inr (λ e. cc e)
 device_or_not (Err (stops.Merge (merges.Claim s))) = inr (λ e. cc e)
@@ -163,8 +161,8 @@ pub rose_earlier : (a b c : ℕ) → a ≤ b → Rose b c → Rose a c
 rose_earlier a b c le (inl lt) = inl (omega (arith, lt, le))
 rose_earlier a b c le (inr full) = inr full
 
-pub counts_closed : (end end' : Result (Unit {0}) PlanStop) (a b c : ℕ) → CountsFault (IsErrOf end (stops.Merge merges.Device)) a b → b ≤ c
-    → (IsErrOf end' (stops.Merge merges.Device) → (IsErrOf end (stops.Merge merges.Device) → ⊥) → Rose b c) → CountsFault (IsErrOf end' (stops.Merge merges.Device)) a c
+pub counts_closed : (end end' : Result (Unit {0}) PlanStop) (a b c : ℕ) → CountsFault (IsErrOf end (stops.Merge (merges.Tree trees.Failed))) a b → b ≤ c
+    → (IsErrOf end' (stops.Merge (merges.Tree trees.Failed)) → (IsErrOf end (stops.Merge (merges.Tree trees.Failed)) → ⊥) → Rose b c) → CountsFault (IsErrOf end' (stops.Merge (merges.Tree trees.Failed))) a c
 counts_closed end end' a b c counts le rose = let later = counts.later in record {
   later = omega (arith, later, le);
   rose = λ failed. elim (device_or_not end) [
@@ -185,13 +183,8 @@ machine_for a all ns history n begins order count rest = record {
 
 -- ---- a run that never began
 
-plain_tree : (f : TreeFault) → IsOfGroup (stop_of_tree f) → ⊥
-plain_tree trees.Failed of = of
-plain_tree trees.Memory of = of
-
-failed_tree : (f : TreeFault) → stop_of_tree f ≡ merges.Device → f ≡ trees.Failed
-failed_tree trees.Failed is = refl
-failed_tree trees.Memory is = cc is
+failed_tree : (f : TreeFault) → merges.Tree f ≡ merges.Tree trees.Failed → f ≡ trees.Failed
+failed_tree f is = cc is
 
 pub memory_is : trees.Memory ≡ trees.Failed → ⊥
 memory_is is = cc is
@@ -202,12 +195,12 @@ same_end a b = a ≡ b
 stop_in : (s r : Stop) → same_end (Err (stops.Merge s)) (Err (stops.Merge r)) → s ≡ r
 stop_in s r is = cc is
 
-module _ (f : TreeFault) (end : Result (Unit {0}) PlanStop) (is : end ≡ Err (stops.Merge (stop_of_tree f))) where
+module _ (f : TreeFault) (end : Result (Unit {0}) PlanStop) (is : end ≡ Err (stops.Merge (merges.Tree f))) where
   pub unmerged_plain : IfErr (merge_end tt end) (λ s. IsOfGroup s → ⊥)
-  unmerged_plain = subst (λ (x : Result (Unit {0}) PlanStop). IfErr (merge_end tt x) (λ s. IsOfGroup s → ⊥)) (sym is) (plain_tree f)
+  unmerged_plain = subst (λ (x : Result (Unit {0}) PlanStop). IfErr (merge_end tt x) (λ s. IsOfGroup s → ⊥)) (sym is) (λ of. of)
 
   pub unmerged_told : (P : Type 0) → IfErr (merge_end tt end) (λ s. IsOfGroup s → P)
-  unmerged_told P = subst (λ (x : Result (Unit {0}) PlanStop). IfErr (merge_end tt x) (λ s. IsOfGroup s → P)) (sym is) (λ of. absurd (plain_tree f of))
+  unmerged_told P = subst (λ (x : Result (Unit {0}) PlanStop). IfErr (merge_end tt x) (λ s. IsOfGroup s → P)) (sym is) (λ of. absurd of)
 
   pub unmerged_ok : (P : Type 0) → OnOk end P
   unmerged_ok P = subst (λ (x : Result (Unit {0}) PlanStop). OnOk x P) (sym is) tt
@@ -215,11 +208,11 @@ module _ (f : TreeFault) (end : Result (Unit {0}) PlanStop) (is : end ≡ Err (s
   pub unmerged_fine : (P : Type 0) → OnOk (merge_end tt end) P
   unmerged_fine P = subst (λ (x : Result (Unit {0}) PlanStop). OnOk (merge_end tt x) P) (sym is) tt
 
-  pub unmerged_build : (Q : PlanStop → Type 0) → Q (stops.Merge (stop_of_tree f)) → IfErr end Q
+  pub unmerged_build : (Q : PlanStop → Type 0) → Q (stops.Merge (merges.Tree f)) → IfErr end Q
   unmerged_build Q q = subst (λ (x : Result (Unit {0}) PlanStop). IfErr x Q) (sym is) q
 
   pub unmerged_quiet : IsErrOf end (stops.Merge merges.Output) → ⊥
-  unmerged_quiet failed = tree_quiet f (stop_in (stop_of_tree f) merges.Output (sym is ∙ failed))
+  unmerged_quiet failed = tree_quiet f (stop_in (merges.Tree f) merges.Output (sym is ∙ failed))
 
-  pub unmerged_failed : IsErrOf end (stops.Merge merges.Device) → f ≡ trees.Failed
-  unmerged_failed failed = failed_tree f (stop_in (stop_of_tree f) merges.Device (sym is ∙ failed))
+  pub unmerged_failed : IsErrOf end (stops.Merge (merges.Tree trees.Failed)) → f ≡ trees.Failed
+  unmerged_failed failed = failed_tree f (stop_in (merges.Tree f) (merges.Tree trees.Failed) (sym is ∙ failed))

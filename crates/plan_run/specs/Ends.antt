@@ -18,9 +18,8 @@ joined_end (Err s) build = Err (stops.Merge s)
 joined_end (Ok x) None = Ok x
 joined_end (Ok x) (Some e) = Err e
 
--- a run that ended so ends so once its journal is cleared: as before, or for the device or memory
+-- a run that ended so ends so once its journal is cleared: as before, or for a fault of the tree
 abbrev pub ClosesAs : {A : Type 0} → Result A PlanStop → Result A PlanStop → Type 0
 ClosesAs end (Ok x) = end ≡ Ok x
-ClosesAs end (Err (stops.Merge merges.Device)) = ⊤
-ClosesAs end (Err (stops.Merge merges.Memory)) = ⊤
+ClosesAs end (Err (stops.Merge (merges.Tree of))) = ⊤
 ClosesAs end (Err e) = end ≡ Err e

@@ -3,6 +3,7 @@ use Rattle.std.specs.Prelude.{◌≡◌, ◌≤◌, ◌+◌, [], IfErr, IsErrOf,
 use Rattle.build_pool.specs.Pool.{Kept, PoolRose, SameIds, faults_of}
 use Rattle.build_pool.specs.declared.builders.Builder.{Ghosts as Builder}
 use Rattle.file_tree.specs.Disk.{CountsFault}
+use Rattle.file_tree.specs.declared.fault.TreeFault.TheVariants as causes
 use Rattle.file_tree.specs.declared.traits.Sink.{Ghosts as Sink}
 use Rattle.file_tree.specs.declared.traits.Tree.{Ghosts as Tree}
 use Rattle.plan_law.specs.Plans.{Group}
@@ -37,8 +38,8 @@ module _ {T S B : Type 0} (trees : Tree T) (sinks : Sink S) (builders : Builder 
     pub build : IfErr run.end (SaysBuild (IsPastLimit builders.tells builders.told old.resting)
         (PoolRose builders.faults old new)
         (orders_at task.jobs.items (length run.history.items)))
-    pub device : CountsFault (IsErrOf run.end (stops.Merge merges.Device)) (trees.faults start)
-        (trees.faults run.tree)
+    pub device : CountsFault (IsErrOf run.end (stops.Merge (merges.Tree causes.Failed)))
+        (trees.faults start) (trees.faults run.tree)
     pub output : CountsFault (IsErrOf run.end (stops.Merge merges.Output)) (sinks.faults sink)
         (sinks.faults run.sink)
 

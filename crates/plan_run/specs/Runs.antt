@@ -5,6 +5,7 @@ use Rattle.basics.specs.Members.{Has}
 use Rattle.build_pool.specs.declared.orders.Order.{Order}
 use Rattle.dep_atom.specs.declared.package.PackageId.{PackageId}
 use Rattle.file_tree.specs.Disk.{Story}
+use Rattle.file_tree.specs.declared.fault.TreeFault.TheVariants as trees
 use Rattle.file_tree.specs.declared.objects.Entry.{Entry}
 use Rattle.owner_book.specs.Book.{Book}
 use Rattle.merge_site.specs.declared.group.SiteGroup.{SiteGroup}
@@ -42,13 +43,13 @@ IsOrdered orders id P = (o : Order) × Has orders o × (o.id ≡ id) × P o
 
 -- why the image for this order isn't there
 abbrev pub StopsOrder : (Many : Order → Type 0) → (Failed : Type 0) → Order → PlanStop → Type 0
-StopsOrder Many Failed order (stops.Merge s) = s ≡ merges.Memory
+StopsOrder Many Failed order (stops.Merge s) = s ≡ merges.Tree trees.Memory
 StopsOrder Many Failed order (stops.Build id) = (order.id ≡ id) × Failed
 StopsOrder Many Failed order (stops.Image id) = (order.id ≡ id) × Many order
 
 -- why images for these orders aren't there
 abbrev pub StopsBuild : (Many : Order → Type 0) → (Failed : Type 0) → List Order → PlanStop → Type 0
-StopsBuild Many Failed orders (stops.Merge s) = s ≡ merges.Memory
+StopsBuild Many Failed orders (stops.Merge s) = s ≡ merges.Tree trees.Memory
 StopsBuild Many Failed orders (stops.Build id) = IsOrdered orders id (λ o. Failed)
 StopsBuild Many Failed orders (stops.Image id) = IsOrdered orders id Many
 

@@ -1,5 +1,6 @@
 ghost use Rattle.std.specs.Prelude.{◌≡◌, ◌≤◌, ℕ, List, IsErrOf, IsTrue, Some};
 ghost use Rattle.file_tree.specs.Disk.{Rose};
+ghost use Rattle.file_tree.specs.declared.fault.TreeFault.TheVariants as trees;
 ghost use Rattle.group_run.specs.Runs.{IsOver};
 ghost use Rattle.group_run.specs.Turns.{AreFirst};
 ghost use Rattle.group_run.specs.Went.{WentWith};
@@ -36,8 +37,8 @@ pub(crate) fn close<T: Tree, S: Sink>(
     } }
     ensures end { ClosesAs end result.end }
     ensures count { T.faults site.tree ≤ T.faults result.tree }
-    ensures rose { IsErrOf result.end (PlanStop.Merge merges.Device) →
-        (¬ IsErrOf end (PlanStop.Merge merges.Device)) →
+    ensures rose { IsErrOf result.end (PlanStop.Merge (merges.Tree trees.Failed)) →
+        (¬ IsErrOf end (PlanStop.Merge (merges.Tree trees.Failed))) →
         Rose (T.faults site.tree) (T.faults result.tree) }
 {
     let (merge, build) = parted(end);

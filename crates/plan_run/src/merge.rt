@@ -1,6 +1,5 @@
 ghost use Rattle.std.specs.Prelude.{◌≡◌, ◌<◌, ◌^◌, [], Err, IsTrue, None, length};
 ghost use Rattle.merge_core.specs.Trail.{IsAtRest};
-ghost use Rattle.group_run.specs.Stops.{stop_of_tree};
 ghost use Rattle.plan_make.specs.Plans.{AreJobs};
 ghost use Rattle.plan_run.specs.Courses.{IsCourse};
 ghost use Rattle.plan_run.specs.Merges.{MergesPlan};
@@ -108,7 +107,7 @@ fn unmerged<T: Tree, S: Sink>(alloc: Global, tree: T, sink: S, fault: TreeFault)
     ensures tree { result.tree ≡ tree }
     ensures sink { result.sink ≡ sink }
     ensures machine { result.machine ≡ None }
-    ensures end { result.end ≡ Err (PlanStop.Merge (stop_of_tree fault)) }
+    ensures end { result.end ≡ Err (PlanStop.Merge (Stop.Tree fault)) }
     ensures history { result.history.items ≡ [] }
     ensures acknowledged { result.acknowledged.items ≡ [] }
 {
@@ -116,7 +115,7 @@ fn unmerged<T: Tree, S: Sink>(alloc: Global, tree: T, sink: S, fault: TreeFault)
         tree,
         sink,
         machine: None,
-        end: Err(PlanStop::Merge(Stop::from(fault))),
+        end: Err(PlanStop::Merge(Stop::Tree(fault))),
         history: Vec::new(alloc),
         acknowledged: Vec::new(alloc),
     }

@@ -8,7 +8,7 @@ ghost use Rattle.plan_run.specs.Runs.{StopsBuild, StopsOrder};
 use crate::stop::PlanStop;
 use build_pool::{BuildPool, Builder, Order};
 use exchange_make::Newcomer;
-use file_tree::Entry;
+use file_tree::{Entry, TreeFault};
 use group_run::Stop;
 use image_build::{ImageStop, built_image};
 use pkg_state::{Pkg, copy_package};
@@ -65,7 +65,7 @@ fn image_of<B: Builder>(
         Ok(image) => Ok(image),
         Err(ImageStop::Failed) => Err(PlanStop::Build(order.id.try_clone()?)),
         Err(ImageStop::Many) => Err(PlanStop::Image(order.id.try_clone()?)),
-        Err(ImageStop::Memory) => Err(PlanStop::Merge(Stop::Memory)),
+        Err(ImageStop::Memory) => Err(PlanStop::Merge(Stop::Tree(TreeFault::Memory))),
     }
 }
 

@@ -1,4 +1,5 @@
 use dep_atom::PackageId;
+use file_tree::TreeFault;
 use group_run::Stop;
 use std::alloc::AllocError;
 
@@ -26,12 +27,13 @@ impl From<Stop> for PlanStop {
 
 impl From<AllocError> for PlanStop {
     ghost use Rattle.std.specs.Prelude.{◌≡◌};
+    ghost use Rattle.file_tree.specs.declared.fault.TreeFault.TheVariants as trees;
     ghost use Rattle.group_run.specs.declared.stop.Stop.TheVariants as merges;
     ghost use Rattle.plan_run.specs.declared.stop.PlanStop.TheVariants as stops;
 
-    ghost from_gives = { λ _ e. e ≡ stops.Merge merges.Memory };
+    ghost from_gives = { λ _ e. e ≡ stops.Merge (merges.Tree trees.Memory) };
 
     fn from(_: AllocError) -> PlanStop {
-        PlanStop::Merge(Stop::Memory)
+        PlanStop::Merge(Stop::Tree(TreeFault::Memory))
     }
 }

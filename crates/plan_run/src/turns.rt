@@ -2,6 +2,7 @@ ghost use Rattle.std.specs.Prelude.{◌≡◌, ◌<◌, ◌≤◌, ◌^◌, ◌+
 ghost use Rattle.std.specs.Prelude.{OnOk, length};
 ghost use Rattle.build_pool.specs.Pool.{PoolRose, SameIds, faults_of};
 ghost use Rattle.file_tree.specs.Disk.{CountsFault};
+ghost use Rattle.file_tree.specs.declared.fault.TreeFault.TheVariants as trees;
 ghost use Rattle.group_run.specs.Lines.{AreLines, Wrote, line_in};
 ghost use Rattle.group_run.specs.Runs.{IsUnderWay};
 ghost use Rattle.group_run.specs.Through.{HasRoom};
@@ -57,7 +58,7 @@ pub(crate) fn merge_groups<T: Tree, S: Sink, B: Builder>(
     ensures ids { SameIds B.number pool.old pool.new }
     ensures lent { pool.new.lent ≡ pool.old.lent }
     ensures builds { faults_of B.faults pool.old ≤ faults_of B.faults pool.new }
-    ensures device { CountsFault (IsErrOf result (PlanStop.Merge stops.Device))
+    ensures device { CountsFault (IsErrOf result (PlanStop.Merge (stops.Tree trees.Failed)))
         (T.faults site.old.tree) (T.faults site.new.tree) }
     ensures output { CountsFault (IsErrOf result (PlanStop.Merge stops.Output))
         (S.faults site.old.sink) (S.faults site.new.sink) }

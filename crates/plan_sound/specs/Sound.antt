@@ -6,6 +6,7 @@ use Rattle.basics.specs.Members.{Has}
 use Rattle.build_pool.specs.declared.orders.Order.{Order}
 use Rattle.file_tree.specs.Disk.{Map, Story}
 use Rattle.file_tree.specs.Moments.{Leaves, Since}
+use Rattle.file_tree.specs.declared.fault.TreeFault.TheVariants as trees
 use Rattle.file_tree.specs.declared.objects.Entry.{Entry}
 use Rattle.journal.specs.Group as journal
 use Rattle.journal.specs.Group.{applied}
@@ -82,7 +83,7 @@ pub record IsSoundRun {A : Type 0} (flags : List (List ℕ)) (ps : List Installe
     Type 0 where
   pub moments : Since (RecoversAfterFirst flags ps plan []) old new
   pub crash : Leaves (RecoversAfterFirst flags ps plan history) new.now
-  pub tree : ¬ IsErrOf end stops.Device → ¬ IsErrOf end stops.Memory →
+  pub tree : ¬ IsErrOf end (stops.Tree trees.Failed) → ¬ IsErrOf end (stops.Tree trees.Memory) →
       (history ≡ upto (length history)) × HoldsAfterGroups flags ps
       (take (length history) plan) (IsSoundTree flags new.now.holds)
 

@@ -49,8 +49,8 @@ returns-clause-cause g c =
     let P = StopsBehind tells m batch.book groups turns n in
     let one = opened_as c.in-Ok.site c.args.tree batch.book groups (λ x b xs. IfErr c.drive-end.result (StopsBehind tells (g.T.Tree.story x).now.holds b xs turns n)) c.in-Ok.ensures.opened c.in-Ok.ensures.tree c.drive-end.ensures.cause in
     err_weaker P (HaveCause tells m batch.book groups turns n (Some c.into_parts-tree.result.2)) (λ e h. h) c.clear-end.result
-    (cleared_cause P c.drive-end.result c.clear-end.result (plain_behind tells m batch.book groups turns n stops.Device (λ x. x)) (plain_behind tells m batch.book groups turns n stops.Memory (λ x. x)) one c.clear-end.ensures.told)
+    (cleared_cause P c.drive-end.result c.clear-end.result (λ of. plain_behind tells m batch.book groups turns n (stops.Tree of) (λ x. x)) one c.clear-end.ensures.told)
 
 pub returns-clause-all_told : goal.returns-clause-all_told
 returns-clause-all_told g c =
-    cleared_cause (λ e. IsOfGroup e → c.drive-end.new.acknowledged.items ≡ c.drive-end.new.history.items) c.drive-end.result c.clear-end.result (λ of. absurd of) (λ of. absurd of) c.drive-end.ensures.all_told c.clear-end.ensures.told
+    cleared_cause (λ e. IsOfGroup e → c.drive-end.new.acknowledged.items ≡ c.drive-end.new.history.items) c.drive-end.result c.clear-end.result (λ fault of. absurd of) c.drive-end.ensures.all_told c.clear-end.ensures.told

@@ -1,6 +1,7 @@
 use Rattle.std.proofs.Common.{◌∙◌, ◌++◌, ◌∷◌, [], ap, map, sym}
 use Rattle.std.proofs.lemmas.List.{map-append}
 use Rattle.std.proofs.lemmas.Result.{err_from_is_err_and}
+use Rattle.file_tree.specs.declared.fault.TreeFault.TheVariants as trees
 use Rattle.group_run.specs.Applied.{number}
 use Rattle.group_run.specs.Working.{group_in, is_staged, stood_at}
 use Rattle.group_run.proofs.Rest.{done_shut, ok_if}
@@ -42,7 +43,7 @@ returns-in_err-commit-clause-cause g c =
 
 pub returns-clause-cause : goal.returns-clause-cause
 returns-clause-cause g c =
-    only_err (StopsChanges g.T.Tree.tells (stood_at (g.T.Tree.story c.args.site.now.opened).now.holds c.args.site.now) c.args.site.now.book c.args.site.now.groups (changes_in c.args.removals.items c.args.packages.items) c.args.group) stops.Device tt c.close.result c.close.ensures.only
+    only_err (StopsChanges g.T.Tree.tells (stood_at (g.T.Tree.story c.args.site.now.opened).now.holds c.args.site.now) c.args.site.now.book c.args.site.now.groups (changes_in c.args.removals.items c.args.packages.items) c.args.group) (stops.Tree trees.Failed) tt c.close.result c.close.ensures.only
 
 pub returns-clause-group : goal.returns-clause-group
 returns-clause-group g c = ok_if c.close.result (c.close.ensures.group ∙ (c.commit.ensures.group ∙ c.in_ok-build.ensures.group))

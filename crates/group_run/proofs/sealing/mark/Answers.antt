@@ -11,7 +11,6 @@ use Rattle.merge_core.proofs.Standings.{set_here}
 use Rattle.group_run.proofs.Staged.{early_token}
 use Rattle.group_run.proofs.Worked.{at_after, early_on, group_kept, step_worked, taken_at, works_then}
 use Rattle.group_run.specs.Causes.{IsPlain}
-use Rattle.group_run.proofs.Caused.{tree_plain}
 use Rattle.group_run.proofs.sealing.mark.Goals as goal
 
 pub returns-in_err-put_token-clause-works : goal.returns-in_err-put_token-clause-works
@@ -79,7 +78,7 @@ returns-in_err-put_token-clause-quiet g c =
 pub returns-in_err-put_token-clause-plain : goal.returns-in_err-put_token-clause-plain
 returns-in_err-put_token-clause-plain g c =
     let p = err_from_is_err_and c.from_residual.result c.from_residual.ensures.1 in
-    subst (λ r. IfErr r IsPlain) (sym p.1) (subst IsPlain (sym p.2) (tree_plain _))
+    subst (λ r. IfErr r IsPlain) (sym p.1) (subst IsPlain (sym p.2) tt)
 
 pub returns-clause-wishes : goal.returns-clause-wishes
 returns-clause-wishes g c = c.in_ok-sync_sealed.ensures.event.wishes refl ∙ (c.in_ok-put_token.ensures.event (λ e. cc e)).wishes refl

@@ -70,9 +70,9 @@ returns-in-Ok g c =
     let cause = as_opened last start book listed (λ x b l. IfErr (merge_end tt before) (StopsBehind tells (T.story x).now.holds b l turns (length history))) opened opened_book groups over.cause in
     let P = StopsBehind tells m book listed turns (length history) in
     let plain : (s : Stop) → (IsOfGroup s → ⊥) → P s = plain_behind tells m book listed turns (length history) in
-    let stopped = closed_cause P before end (plain merges.Device (λ of. of)) (plain merges.Memory (λ of. of)) closes cause in
+    let stopped = closed_cause P before end (λ of. plain (merges.Tree of) (λ group. group)) closes cause in
     let first = begins_then all (numbers turns) history made.numbered ran.over.first in
-    let device = subst (λ x. CountsFault (IsErrOf before (stops.Merge merges.Device)) (T.faults x) (T.faults last.tree)) site.tree e.device in
+    let device = subst (λ x. CountsFault (IsErrOf before (stops.Merge (merges.Tree trees.Failed))) (T.faults x) (T.faults last.tree)) site.tree e.device in
     let output = subst (λ x. CountsFault (IsErrOf before (stops.Merge merges.Output)) (S.faults x) (S.faults last.sink)) site.sink e.output in
     let lines = ap line_in site.groups ∙ same_lines ps plan jobs listed are in
     let count : length last.keeping.standings ≡ length plan + 1 = same.count ∙ (sym site.under_way.count ∙ (ap length site.groups ∙ one_more ps plan jobs listed are)) in
@@ -81,11 +81,11 @@ returns-in-Ok g c =
       answer = record {
         first = first;
         kept = ran.over.kept;
-        all_told = closed_cause (λ s. IsOfGroup s → told ≡ history) before end (λ of. absurd of) (λ of. absurd of) closes ran.over.all_told;
+        all_told = closed_cause (λ s. IsOfGroup s → told ≡ history) before end (λ of group. absurd group) closes ran.over.all_told;
         so_far = closed_fine (told ≡ history) before end closes (fine_told before told history (numbers turns) ran.over.told ran.over.merged);
         merged = closed_ok (history ≡ all) before end closes e.merged;
         told = closed_ok (told ≡ all) before end closes (ended_told before told history (numbers turns) all ran.over.told ran.over.merged e.merged);
-        build = closed_stop (Says jobs) before end tt tt closes builds;
+        build = closed_stop (Says jobs) before end (λ of. tt) closes builds;
         device = counts_closed before end (T.faults start) (T.faults last.tree) (T.faults c.close.result.tree) device c.close.ensures.count c.close.ensures.rose;
         output = record { later = output.later; rose = λ failed. output.rose (output_before before end closes failed) };
       };

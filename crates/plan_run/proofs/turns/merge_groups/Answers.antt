@@ -7,6 +7,7 @@ use Rattle.build_pool.specs.declared.orders.Order.{Order}
 use Rattle.plan_law.specs.Plans.{Group, group_at}
 use Rattle.plan_check.proofs.Places.{group_is}
 use Rattle.merge_site.specs.declared.group.SiteGroup.{SiteGroup}
+use Rattle.file_tree.specs.declared.fault.TreeFault.TheVariants as trees
 use Rattle.group_run.specs.Lines.{AreLines, Wrote, line_in}
 use Rattle.group_run.specs.Runs.{EndsAt, IsUnderWay}
 use Rattle.group_run.specs.Turns.{numbers}
@@ -60,7 +61,7 @@ returns-in_err-turn-clause-ran g c =
     let p = err_from_is_err_and c.from_residual-in_err-turn.result c.from_residual-in_err-turn.ensures.1 in
     rw (p.1, p.2)
     (ran_now (IsBuilt B.tells B.told c.args.pool.now.resting) c.args.plan.now c.args.jobs.now c.args.places.now (holdings_of c.args.progress.now.held) g.T.Tree.tells (g.T.Tree.story c.args.site.now.opened).now.holds
-    c.loop-place.place (holdings_of c.loop-place.progress.held) c.loop-place.progress.history.items c.loop-place.progress.acknowledged.items c.loop-place.site (Err merges.Memory) (omega (arith, c.loop-place-test.true)) inv.0 (λ of. of))
+    c.loop-place.place (holdings_of c.loop-place.progress.held) c.loop-place.progress.history.items c.loop-place.progress.acknowledged.items c.loop-place.site (Err (merges.Tree trees.Memory)) (omega (arith, c.loop-place-test.true)) inv.0 (λ of. of))
 
 pub merge_next-requires-clause-begun : goal.merge_next-requires-clause-begun
 merge_next-requires-clause-begun g c =
