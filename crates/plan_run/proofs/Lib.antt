@@ -1,5 +1,6 @@
 pub mod Course
 pub mod Ending
+pub mod Joined
 pub mod Ordered
 pub mod Promised
 pub mod Whole

@@ -7,10 +7,13 @@ use Rattle.std.proofs.lemmas.Option.{slice_get_read}
 use Rattle.basics.specs.Members.{Has}
 use Rattle.build_pool.specs.Pool.{Kept, PoolRose, faults_of}
 use Rattle.build_pool.specs.declared.orders.Order.{Order}
+use Rattle.file_tree.specs.Disk.{CountsFault}
+use Rattle.file_tree.specs.declared.fault.TreeFault.TheVariants as trees
 use Rattle.file_tree.specs.declared.objects.Entry.{Entry}
 use Rattle.pkg_state.specs.Package.{Package}
 use Rattle.group_run.specs.Causes.{IsOfGroup}
 use Rattle.group_run.specs.declared.stop.Stop.{Stop}
+use Rattle.group_run.specs.declared.stop.Stop.TheVariants as merges
 use Rattle.exchange_make.specs.Made.{package_of}
 use Rattle.exchange_make.specs.declared.newcomer.Newcomer.{Newcomer}
 use Rattle.exchange_make.proofs.Zips.{zip_push}
@@ -20,6 +23,7 @@ use Rattle.plan_make.specs.declared.job.Job.{Job}
 use Rattle.plan_run.specs.Runs.{SaysBuild, StopsBuild, StopsOrder, merge_end}
 use Rattle.plan_run.specs.declared.stop.PlanStop.{PlanStop}
 use Rattle.plan_run.specs.declared.stop.PlanStop.TheVariants as stops
+use Rattle.plan_run.proofs.Whole.{fails_so}
 
 pub read_at : {A : Type 0} (xs : List A) (i : ℕ) (x : A) → i < length xs → x ≡ get_or xs i x → slice_get xs i ≡ Some x
 read_at xs i x lt is = slice_get_read xs (length xs) i x refl lt is
@@ -69,6 +73,15 @@ pub build_plain : (M : Order → Type 0) (F : Type 0) (os : List Order) (e : Pla
 build_plain M F os (stops.Merge s) why = subst (λ (x : Stop). IsOfGroup x → ⊥) (sym why) (λ of. of)
 build_plain M F os (stops.Build id) why = tt
 build_plain M F os (stops.Image id) why = tt
+
+-- a stop of a build is one of the merge for want of memory alone
+built_other : (M : Order → Type 0) (F : Type 0) (os : List Order) (e : PlanStop) (s : Stop) → StopsBuild M F os e → (s ≡ merges.Tree trees.Memory → ⊥) → fails_so (Err e) s → ⊥
+built_other M F os (stops.Merge r) s why other failed = let same : r ≡ s = cc failed in other (sym same ∙ why)
+built_other M F os (stops.Build id) s why other failed = absurd (cc failed)
+built_other M F os (stops.Image id) s why other failed = absurd (cc failed)
+
+pub build_counts : (M : Order → Type 0) (F : Type 0) (os : List Order) (e : PlanStop) (s : Stop) (a b : ℕ) → StopsBuild M F os e → (s ≡ merges.Tree trees.Memory → ⊥) → a ≤ b → CountsFault (fails_so (Err e) s) a b
+build_counts M F os e s a b why other le = record { later = le; rose = λ failed. absurd (built_other M F os e s why other failed) }
 
 -- one newcomer more
 pub brings_more : (old new : List Newcomer) (n : Newcomer) (ps : List Package) (i : ℕ) (p : Package) → i < length ps → p ≡ get_or ps i p → map package_of old ≡ take i ps → n.pkg ≡ p → new ≡ old ++ n ∷ [] → map package_of new ≡ take (i + 1) ps

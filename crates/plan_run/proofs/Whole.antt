@@ -161,6 +161,17 @@ pub rose_earlier : (a b c : ℕ) → a ≤ b → Rose b c → Rose a c
 rose_earlier a b c le (inl lt) = inl (omega (arith, lt, le))
 rose_earlier a b c le (inr full) = inr full
 
+-- the run of a plan ends so for a stop of its merge
+abbrev pub fails_so : Result (Unit {0}) PlanStop → Stop → Type 0
+fails_so end s = IsErrOf end (stops.Merge s)
+
+-- the merge of a group counts what its run of the plan counts
+pub merge_counts : (e s : Stop) (a b c : ℕ) (r : Result (Unit {0}) Stop) → r ≡ Err e → a ≤ b → CountsFault (IsErrOf r s) b c → CountsFault (fails_so (Err (stops.Merge e)) s) a c
+merge_counts e s a b c r is le counts = let later = counts.later in record {
+  later = omega (arith, le, later);
+  rose = λ failed. let same : e ≡ s = cc failed in rose_earlier a b c le (counts.rose (is ∙ ap Err same));
+}
+
 pub counts_closed : (end end' : Result (Unit {0}) PlanStop) (a b c : ℕ) → CountsFault (IsErrOf end (stops.Merge (merges.Tree trees.Failed))) a b → b ≤ c
     → (IsErrOf end' (stops.Merge (merges.Tree trees.Failed)) → (IsErrOf end (stops.Merge (merges.Tree trees.Failed)) → ⊥) → Rose b c) → CountsFault (IsErrOf end' (stops.Merge (merges.Tree trees.Failed))) a c
 counts_closed end end' a b c counts le rose = let later = counts.later in record {

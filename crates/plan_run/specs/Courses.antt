@@ -1,27 +1,37 @@
 -- How the turns of a plan's run went, before its journal is cleared.
-use Rattle.std.specs.Prelude.{◌≡◌, ℕ, suc, Bool, List, [], ◌∷◌, IsTrue, Result, length, ⊤}
+use Rattle.std.specs.Prelude.{◌≡◌, ◌≤◌, ℕ, suc, Bool, List, [], ◌∷◌, IfErr, IsErrOf, IsTrue, OnOk, Result, length, ⊤}
+use Rattle.build_pool.specs.Pool.{Kept, PoolRose, SameIds, faults_of}
+use Rattle.build_pool.specs.declared.builders.Builder.{Ghosts as Builder}
 use Rattle.build_pool.specs.declared.orders.Order.{Order}
-use Rattle.file_tree.specs.Disk.{Map}
+use Rattle.file_tree.specs.Disk.{CountsFault, Map}
+use Rattle.file_tree.specs.declared.fault.TreeFault.TheVariants as causes
 use Rattle.file_tree.specs.declared.objects.Entry.{Entry}
-use Rattle.merge_site.specs.Site.{Account}
+use Rattle.file_tree.specs.declared.traits.Sink.{Ghosts as Sink}
+use Rattle.file_tree.specs.declared.traits.Tree.{Ghosts as Tree}
+use Rattle.merge_site.specs.Site.{Account, IsSameSite}
 use Rattle.plan_law.specs.Plans.{Group, group_at}
 use Rattle.database_law.specs.Packages.{Installed}
-use Rattle.group_run.specs.Lines.{IsBeginning}
+use Rattle.group_run.specs.Lines.{AreLines, IsBeginning, Wrote, line_in}
 use Rattle.group_run.specs.Runs.{IsOver, IsUnderWay}
 use Rattle.group_run.specs.Through.{HasRoom}
 use Rattle.group_run.specs.Turns.{numbers}
 use Rattle.group_run.specs.declared.stop.Stop.{Stop}
+use Rattle.group_run.specs.declared.stop.Stop.TheVariants as merges
 use Rattle.group_run.specs.declared.turn.Turn.{Turn}
 use Rattle.exchange_make.specs.Keys.{folders_with}
 use Rattle.exchange_make.specs.Places.{ArePlaces}
 use Rattle.exchange_make.specs.declared.newcomer.Newcomer.{Newcomer}
 use Rattle.exchange_make.specs.declared.places.Places.{Places}
+use Rattle.image_build.specs.Images.{IsBuilt, IsPastLimit}
 use Rattle.plan_make.specs.Held.{HoldOwned, Holdings, holding_all, holdings_of}
-use Rattle.plan_make.specs.Plans.{AreSiteGroups, coming}
+use Rattle.plan_make.specs.Plans.{AreSiteGroups, coming, orders_at}
 use Rattle.plan_make.specs.Turns.{AreNewcomersAt, AreTurns, IsTurnOf}
 use Rattle.plan_make.specs.declared.job.Job.{Job}
-use Rattle.plan_run.specs.Runs.{upto}
+use Rattle.plan_run.specs.Runs.{SaysBuild, merge_end, upto}
 use Rattle.plan_run.specs.declared.preparing.Course.{Course}
+use Rattle.plan_run.specs.declared.preparing.Progress.{Progress}
+use Rattle.plan_run.specs.declared.stop.PlanStop.{PlanStop}
+use Rattle.plan_run.specs.declared.stop.PlanStop.TheVariants as stops
 
 -- this is what the run of a plan takes, over a map with these packages: the places of its packages,
 -- what its site is opened for, what is held of those that go, and room for all of its groups
@@ -50,6 +60,33 @@ pub record RanPlan {T S : Type 0} (Image : Order → List Entry → Type 0) (pla
   pub turns : List Turn
   pub are : AreMade Image plan jobs places held turns
   pub over : IsOver tells opening turns history acknowledged end a
+
+-- the groups of a plan are merged one after another at a site, with images of the pool; these were
+-- so before, and these so behind the last group or the first stop
+module _ {T S B : Type 0} (trees : Tree T) (sinks : Sink S) (builders : Builder B)
+    (plan : List Group) (jobs : List Job) (places : Places) (old new : Account T S)
+    (asked left : Kept B) (start last : Progress) (end : Result ⊤ PlanStop) where
+  -- The turns are those of first groups of the plan, of all where the end is Ok, and their lines
+  -- are written. An end for a build names a package of the next group, and each failure was
+  -- counted. The pool has the builders that it had, and none is lent that wasn't.
+  pub record MergesGroups : Type 0 where
+    pub same : IsSameSite old new
+    pub ran : RanPlan (IsBuilt builders.tells builders.told asked.resting) plan jobs places
+        (holdings_of start.held) trees.tells (trees.story old.opened).now.holds
+        last.history.items last.acknowledged.items (merge_end tt end) new
+    pub merged : OnOk end (last.history.items ≡ upto (length plan))
+    pub written : IsTrue sinks.tells → Wrote
+        (AreLines (line_in old.groups) last.history.items last.acknowledged.items)
+        (sinks.written old.sink) (sinks.written new.sink)
+    pub build : IfErr end (SaysBuild (IsPastLimit builders.tells builders.told asked.resting)
+        (PoolRose builders.faults asked left) (orders_at jobs (length last.history.items)))
+    pub ids : SameIds builders.number asked left
+    pub lent : left.lent ≡ asked.lent
+    pub builds : faults_of builders.faults asked ≤ faults_of builders.faults left
+    pub device : CountsFault (IsErrOf end (stops.Merge (merges.Tree causes.Failed)))
+        (trees.faults old.tree) (trees.faults new.tree)
+    pub output : CountsFault (IsErrOf end (stops.Merge merges.Output))
+        (sinks.faults old.sink) (sinks.faults new.sink)
 
 -- the turns are those of the groups from a place on, and behind them these paths are held
 abbrev pub AreTurnsTo : (Order → List Entry → Type 0) → List Installed → List Group → List Job →

@@ -19,49 +19,70 @@ use Rattle.plan_make.specs.declared.job.Job.{Job}
 use Rattle.plan_make.specs.Turns.{AreNewcomersAt, IsTurnOf}
 use Rattle.plan_run.specs.Runs.{SaysBuild, merge_end, upto}
 use Rattle.plan_run.proofs.Course.{length_upto, not_yet, ran_now, ran_stopped, up_next}
-use Rattle.plan_run.proofs.Ordered.{all_built, alike_then, build_plain, orders_here, past_before, rose_before, says_before}
+use Rattle.plan_run.proofs.Ordered.{all_built, alike_then, build_counts, build_plain, orders_here, past_before, rose_before, says_before}
+use Rattle.plan_run.proofs.Whole.{merge_counts}
 use Rattle.plan_run.proofs.turns.merge_groups.Goals as goal
 
-pub returns-in_err-newcomers-clause-ran : goal.returns-in_err-newcomers-clause-ran
-returns-in_err-newcomers-clause-ran g c =
+pub returns-in_err-newcomers : goal.returns-in_err-newcomers
+returns-in_err-newcomers g c =
     let B = g.B.Builder in
     let inv = c.loop-place.invariant in
     let p = err_from_is_err_and c.from_residual.result c.from_residual.ensures.1 in
     let f = c.in_err-newcomers.field-0.0 in
-    let plain = build_plain (IsPastLimit B.tells B.told c.loop-place.pool.resting) (PoolRose B.faults c.loop-place.pool c.newcomers_of.new.pool) c.deref-in-loop-place.result.now f c.in_err-newcomers.ensures.stops in
-    rw (p.1, p.2)
-    (ran_now (IsBuilt B.tells B.told c.args.pool.now.resting) c.args.plan.now c.args.jobs.now c.args.places.now (holdings_of c.args.progress.now.held) g.T.Tree.tells (g.T.Tree.story c.args.site.now.opened).now.holds
-    c.loop-place.place (holdings_of c.loop-place.progress.held) c.loop-place.progress.history.items c.loop-place.progress.acknowledged.items c.loop-place.site (merge_end tt (Err f)) (omega (arith, c.loop-place-test.true)) inv.0 plain)
-
-pub returns-in_err-newcomers-clause-build : goal.returns-in_err-newcomers-clause-build
-returns-in_err-newcomers-clause-build g c =
-    let B = g.B.Builder in
-    let inv = c.loop-place.invariant in
-    let p = err_from_is_err_and c.from_residual.result c.from_residual.ensures.1 in
-    let f = c.in_err-newcomers.field-0.0 in
+    let why = c.in_err-newcomers.ensures.stops in
+    let n = c.newcomers_of.ensures in
+    let here = c.deref-in-loop-place.result.now in
     let old = c.args.pool.now in
     let mid = c.loop-place.pool in
     let new = c.newcomers_of.new.pool in
+    let Many = IsPastLimit B.tells B.told mid.resting in
+    let Failed = PoolRose B.faults mid new in
     let M = IsPastLimit B.tells B.told old.resting in
     let F = PoolRose B.faults old new in
     let place : ℕ = c.loop-place.place in
     let long : length c.loop-place.progress.history.items ≡ place = ap length (inv.0.under.merged ∙ inv.0.numbered) ∙ length_upto place in
     let lt : place < length c.args.jobs.now = omega (arith, c.loop-place-test.true, c.requires.jobs.count) in
-    let orders : c.deref-in-loop-place.result.now ≡ orders_at c.args.jobs.now (length c.loop-place.progress.history.items) =
+    let orders : here ≡ orders_at c.args.jobs.now (length c.loop-place.progress.history.items) =
     c.deref-in-loop-place.ensures.value ∙ (ap (λ (j : Job). j.orders.items) (sym c.index-jobs-place.is) ∙ (sym (orders_here c.args.jobs.now place c.index-jobs-place.result lt c.index-jobs-place.is) ∙ ap (orders_at c.args.jobs.now) (sym long))) in
+    let builds = n.builds in
     rw (p.1, p.2)
-    (subst (λ (os : List Order). SaysBuild M F os f) orders
-    (says_before (IsPastLimit B.tells B.told mid.resting) M (PoolRose B.faults mid new) F (λ x past. past_before B.told B.tells old.resting mid.resting x inv.7 past) (λ rose. rose_before B.faults old mid new inv.11 rose)
-    c.deref-in-loop-place.result.now f c.in_err-newcomers.ensures.stops))
+    (record {
+      same = inv.1;
+      ran = ran_now (IsBuilt B.tells B.told old.resting) c.args.plan.now c.args.jobs.now c.args.places.now (holdings_of c.args.progress.now.held) g.T.Tree.tells (g.T.Tree.story c.args.site.now.opened).now.holds
+          place (holdings_of c.loop-place.progress.held) c.loop-place.progress.history.items c.loop-place.progress.acknowledged.items c.loop-place.site (merge_end tt (Err f)) (omega (arith, c.loop-place-test.true)) inv.0
+          (build_plain Many Failed here f why);
+      merged = tt;
+      written = inv.4;
+      build = subst (λ (os : List Order). SaysBuild M F os f) orders
+          (says_before Many M Failed F (λ x past. past_before B.told B.tells old.resting mid.resting x inv.7 past) (λ rose. rose_before B.faults old mid new inv.11 rose) here f why);
+      ids = λ k. n.ids k ∙ inv.9 k;
+      lent = n.lent ∙ inv.10;
+      builds = omega (arith, builds, inv.11);
+      device = build_counts Many Failed here f (merges.Tree trees.Failed) (g.T.Tree.faults c.args.site.now.tree) (g.T.Tree.faults c.loop-place.site.tree) why (λ e. cc e) inv.5;
+      output = build_counts Many Failed here f merges.Output (g.S.Sink.faults c.args.site.now.sink) (g.S.Sink.faults c.loop-place.site.sink) why (λ e. cc e) inv.6;
+    })
 
-pub returns-in_err-turn-clause-ran : goal.returns-in_err-turn-clause-ran
-returns-in_err-turn-clause-ran g c =
+pub returns-in_err-turn : goal.returns-in_err-turn
+returns-in_err-turn g c =
     let B = g.B.Builder in
     let inv = c.loop-place.invariant in
     let p = err_from_is_err_and c.from_residual-in_err-turn.result c.from_residual-in_err-turn.ensures.1 in
+    let n = c.newcomers_of.ensures in
+    let builds = n.builds in
     rw (p.1, p.2)
-    (ran_now (IsBuilt B.tells B.told c.args.pool.now.resting) c.args.plan.now c.args.jobs.now c.args.places.now (holdings_of c.args.progress.now.held) g.T.Tree.tells (g.T.Tree.story c.args.site.now.opened).now.holds
-    c.loop-place.place (holdings_of c.loop-place.progress.held) c.loop-place.progress.history.items c.loop-place.progress.acknowledged.items c.loop-place.site (Err (merges.Tree trees.Memory)) (omega (arith, c.loop-place-test.true)) inv.0 (λ of. of))
+    (record {
+      same = inv.1;
+      ran = ran_now (IsBuilt B.tells B.told c.args.pool.now.resting) c.args.plan.now c.args.jobs.now c.args.places.now (holdings_of c.args.progress.now.held) g.T.Tree.tells (g.T.Tree.story c.args.site.now.opened).now.holds
+          c.loop-place.place (holdings_of c.loop-place.progress.held) c.loop-place.progress.history.items c.loop-place.progress.acknowledged.items c.loop-place.site (Err (merges.Tree trees.Memory)) (omega (arith, c.loop-place-test.true)) inv.0 (λ of. of);
+      merged = tt;
+      written = inv.4;
+      build = tt;
+      ids = λ k. n.ids k ∙ inv.9 k;
+      lent = n.lent ∙ inv.10;
+      builds = omega (arith, builds, inv.11);
+      device = record { later = inv.5; rose = λ failed. absurd (cc failed) };
+      output = record { later = inv.6; rose = λ failed. absurd (cc failed) };
+    })
 
 pub merge_next-requires-clause-begun : goal.merge_next-requires-clause-begun
 merge_next-requires-clause-begun g c =
@@ -86,8 +107,8 @@ merge_next-requires-clause-more g c =
     let k = c.loop-place.invariant.3 (n - place) (omega (arith, c.loop-place-test.true)) in
     omega (arith, k, c.loop-place-test.true)
 
-pub returns-in_err-merge_next-clause-ran : goal.returns-in_err-merge_next-clause-ran
-returns-in_err-merge_next-clause-ran g c =
+pub returns-in_err-merge_next : goal.returns-in_err-merge_next
+returns-in_err-merge_next g c =
     let B = g.B.Builder in
     let inv = c.loop-place.invariant in
     let place : ℕ = c.loop-place.place in
@@ -121,17 +142,25 @@ returns-in_err-merge_next-clause-ran g c =
     let fresh : Has (numbers inv.0.turns) t.group → ⊥ = λ has. not_yet place t.group (omega (arith, number)) (subst (λ (l : List ℕ). Has l t.group) inv.0.numbered has) in
     let ends = c.in_err-merge_next.ensures.stopped inv.0.turns fresh under in
     let ended = subst (λ o. EndsAt g.T.Tree.tells (g.T.Tree.story o).now.holds (inv.0.turns ++ t ∷ []) c.merge_next.new.history.items c.merge_next.new.acknowledged.items c.merge_next.new.site f) inv.1.opened ends in
-    rw (p.1, p.2)
-    (ran_stopped Image plan jobs c.args.places.now (holdings_of c.args.progress.now.held) g.T.Tree.tells (g.T.Tree.story c.args.site.now.opened).now.holds place next (inv.0.turns ++ t ∷ [])
-    c.merge_next.new.history.items c.merge_next.new.acknowledged.items c.merge_next.new.site f lt up.0 up.1 ended)
-
-pub returns-in_err-merge_next-clause-written : goal.returns-in_err-merge_next-clause-written
-returns-in_err-merge_next-clause-written g c st =
-    let i = c.loop-place.invariant in
+    let e = c.merge_next.ensures in
+    let n = c.newcomers_of.ensures in
+    let builds = n.builds in
     let start = g.S.Sink.written c.args.site.now.sink in
-    subst (λ (l : List SiteGroup). Wrote (AreLines (line_in l) c.merge_next.new.history.items c.merge_next.new.acknowledged.items) start (g.S.Sink.written c.merge_next.new.site.sink)) i.1.groups
-    (c.merge_next.ensures.written st start
-    (subst (λ (l : List SiteGroup). Wrote (AreLines (line_in l) c.loop-place.progress.history.items c.loop-place.progress.acknowledged.items) start (g.S.Sink.written c.loop-place.site.sink)) (sym i.1.groups) (i.4 st)))
+    rw (p.1, p.2)
+    (record {
+      same = record { count = e.same.count ∙ inv.1.count; groups = e.same.groups ∙ inv.1.groups; opened_book = e.same.opened_book ∙ inv.1.opened_book; opened = e.same.opened ∙ inv.1.opened };
+      ran = ran_stopped Image plan jobs c.args.places.now (holdings_of c.args.progress.now.held) g.T.Tree.tells (g.T.Tree.story c.args.site.now.opened).now.holds place next (inv.0.turns ++ t ∷ [])
+          c.merge_next.new.history.items c.merge_next.new.acknowledged.items c.merge_next.new.site f lt up.0 up.1 ended;
+      merged = tt;
+      written = λ st. subst (λ (l : List SiteGroup). Wrote (AreLines (line_in l) c.merge_next.new.history.items c.merge_next.new.acknowledged.items) start (g.S.Sink.written c.merge_next.new.site.sink)) inv.1.groups
+          (e.written st start (subst (λ (l : List SiteGroup). Wrote (AreLines (line_in l) history told) start (g.S.Sink.written c.loop-place.site.sink)) (sym inv.1.groups) (inv.4 st)));
+      build = tt;
+      ids = λ k. n.ids k ∙ inv.9 k;
+      lent = n.lent ∙ inv.10;
+      builds = omega (arith, builds, inv.11);
+      device = merge_counts f (merges.Tree trees.Failed) _ _ _ c.merge_next.result c.in_err-merge_next.was inv.5 e.device;
+      output = merge_counts f merges.Output _ _ _ c.merge_next.result c.in_err-merge_next.was inv.6 e.output;
+    })
 
 pub loop-place-preserved : goal.loop-place-preserved
 loop-place-preserved g c =
@@ -192,9 +221,22 @@ loop-place-preserved g c =
       omega (arith, builds, inv.11),
     )
 
-pub returns-clause-ran : goal.returns-clause-ran
-returns-clause-ran g c =
+pub returns : goal.returns
+returns g c =
     let B = g.B.Builder in
     let inv = c.loop-place.invariant in
-    ran_now (IsBuilt B.tells B.told c.args.pool.now.resting) c.args.plan.now c.args.jobs.now c.args.places.now (holdings_of c.args.progress.now.held) g.T.Tree.tells (g.T.Tree.story c.args.site.now.opened).now.holds
-    c.loop-place.place (holdings_of c.loop-place.progress.held) c.loop-place.progress.history.items c.loop-place.progress.acknowledged.items c.loop-place.site (Ok tt) (omega (arith, c.loop-place.auto.place-end)) inv.0 tt
+    let place : ℕ = c.loop-place.place in
+    let whole : place ≡ length c.args.plan.now = omega (arith, c.loop-place-test.false, c.loop-place.auto.place-end) in
+    record {
+      same = inv.1;
+      ran = ran_now (IsBuilt B.tells B.told c.args.pool.now.resting) c.args.plan.now c.args.jobs.now c.args.places.now (holdings_of c.args.progress.now.held) g.T.Tree.tells (g.T.Tree.story c.args.site.now.opened).now.holds
+          place (holdings_of c.loop-place.progress.held) c.loop-place.progress.history.items c.loop-place.progress.acknowledged.items c.loop-place.site (Ok tt) (omega (arith, whole)) inv.0 tt;
+      merged = inv.0.under.merged ∙ (inv.0.numbered ∙ ap upto whole);
+      written = inv.4;
+      build = tt;
+      ids = inv.9;
+      lent = inv.10;
+      builds = inv.11;
+      device = record { later = inv.5; rose = λ failed. absurd (cc failed) };
+      output = record { later = inv.6; rose = λ failed. absurd (cc failed) };
+    }
