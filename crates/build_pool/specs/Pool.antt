@@ -25,6 +25,10 @@ SameIds number old new = (n : ℕ) → id_times number n new ≡ id_times number
 abbrev pub AreOnce : {B : Type 0} → (B → ℕ) → List B → Type 0
 AreOnce number bs = (n : ℕ) → sum_by (λ b. is_number n (number b)) bs ≤ 1
 
+-- no two builders of the pool, at rest or lent, are known by one number
+abbrev pub HasEachOnce : {B : Type 0} → (B → ℕ) → Kept B → Type 0
+HasEachOnce number p = (n : ℕ) → id_times number n p ≤ 1
+
 -- how often the builders failed; a lent one counts with what it had when it was lent
 abbrev pub faults_of : {B : Type 0} → (B → ℕ) → Kept B → ℕ
 faults_of faults p = added faults (λ a. a.faults) p
@@ -38,7 +42,17 @@ IsFull {B} faults p = ((b : B) × Contains p.resting b × (2 ^ 64 ≤ faults b +
 abbrev pub PoolRose : {B : Type 0} → (B → ℕ) → Kept B → Kept B → Type 0
 PoolRose faults old new = (faults_of faults old < faults_of faults new) ⊎ IsFull faults new
 
--- one entry of this number was taken out of the list
-abbrev pub LeavesOne : ℕ → List Away → List Away → Type 0
-LeavesOne number old new =
-    (i : ℕ) × (a : Away) × (slice_get old i ≡ Some a) × (a.number ≡ number) × (new ≡ remove old i)
+-- the entry at this place has this number, and none behind it has
+pub record IsLastOf (number : ℕ) (lent : List Away) (i : ℕ) (a : Away) : Type 0 where
+  pub here : slice_get lent i ≡ Some a
+  pub known : a.number ≡ number
+  pub last : (j : ℕ) (d : Away) → i < j → slice_get lent j ≡ Some d → ¬ (d.number ≡ number)
+
+-- so is the last entry of this number
+abbrev pub IfLastOf : ℕ → List Away → (Away → Type 0) → Type 0
+IfLastOf number lent P = (i : ℕ) (a : Away) → IsLastOf number lent i a → P a
+
+-- the last entry of this number was taken out of the list
+abbrev pub LeavesLastOf : ℕ → List Away → List Away → Type 0
+LeavesLastOf number old new =
+    (i : ℕ) × (a : Away) × IsLastOf number old i a × (new ≡ remove old i)

@@ -1,7 +1,6 @@
 ghost use Rattle.std.specs.Prelude.{◌≡◌, ◌<◌, ◌≤◌, ◌++◌, ◌*◌, ◌+◌, ◌^◌, ◌-◌, [], ◌∷◌, length};
-ghost use Rattle.std.specs.Prelude.{vec_len, vec_capacity, sum_by, Any, Some, slice_get, Contains};
-ghost use Rattle.std.specs.Prelude.{ℕ};
-ghost use Rattle.build_pool.specs.Pool.{LeavesOne};
+ghost use Rattle.std.specs.Prelude.{vec_len, vec_capacity, sum_by, Any, remove, ℕ};
+ghost use Rattle.build_pool.specs.Pool.{IsLastOf};
 ghost use Rattle.build_pool.specs.declared.pools.Away.{Away};
 
 use crate::builders::Builder;
@@ -15,36 +14,36 @@ pub struct Away {
     pub faults: u64,
 }
 
-/// The builders of a run. No two have one id.
+/// The builders of a run. Where no two of those handed in have one number, no two ever have.
 #[derive(Drop)]
-pub struct BuildPool<B: Builder> {
+pub struct BuildPool<B> {
     resting: Vec<B>,
     lent: Vec<Away>,
 }
 
-impl<B: Builder> Model for BuildPool<B> {
-    ghost use Rattle.std.specs.Prelude.{◌+◌, ◌≤◌, ℕ, vec_capacity, vec_len};
-    ghost use Rattle.build_pool.specs.Pool.{Kept, id_times};
+impl<B> Model for BuildPool<B> {
+    ghost use Rattle.std.specs.Prelude.{◌+◌, ◌≤◌, vec_capacity, vec_len};
+    ghost use Rattle.build_pool.specs.Pool.{Kept};
 
     ghost Value = { Kept B };
 
     ghost view = { λ p. record { resting = p.resting.items; lent = p.lent.items } };
 
     ghost invariant = { λ p. (vec_len p.resting + vec_len p.lent ≤ vec_capacity p.resting) ×
-        (vec_len p.resting + vec_len p.lent ≤ vec_capacity p.lent) ×
-        ((n : ℕ) → id_times B.number n
-        (record { resting = p.resting.items; lent = p.lent.items }) ≤ 1) };
+        (vec_len p.resting + vec_len p.lent ≤ vec_capacity p.lent) };
 }
 
 impl<B: Builder> BuildPool<B> {
     ghost use Rattle.std.specs.Prelude.{◌≡◌, ◌<◌, ◌≤◌, ◌++◌, ◌↔◌, [], ◌∷◌, All, Any, IfOk, IfSome};
     ghost use Rattle.std.specs.Prelude.{IsNone, length};
-    ghost use Rattle.build_pool.specs.Pool.{AreOnce, LeavesOne, SameIds, faults_of};
+    ghost use Rattle.build_pool.specs.Pool.{AreOnce, HasEachOnce, IfLastOf, LeavesLastOf, SameIds};
+    ghost use Rattle.build_pool.specs.Pool.{faults_of};
 
     /// A pool of these builders, all at rest. The room for lending and taking back is made here.
     pub fn new(alloc: Global, builders: Vec<B>) -> Result<BuildPool<B>, AllocError>
         requires once { AreOnce B.number builders.items }
-        ensures { IfOk result (λ p. p ≡ record { resting = builders.items; lent = [] }) }
+        ensures made { IfOk result (λ p. p ≡ record { resting = builders.items; lent = [] }) }
+        ensures once { IfOk result (λ p. HasEachOnce B.number p) }
     {
         let lent = Vec::with_capacity(alloc, builders.len())?;
         Ok(BuildPool {
@@ -67,7 +66,8 @@ impl<B: Builder> BuildPool<B> {
             record { number = B.number b; faults = B.faults b } ∷ [])) }
         ensures none { IsNone result ↔ (self.old.resting ≡ []) }
         ensures none_same { IsNone result → self.new ≡ self.old }
-        ensures other { IfSome result (λ b. All (λ a. ¬ (a.number ≡ B.number b)) self.old.lent) }
+        ensures other { HasEachOnce B.number self.old →
+            IfSome result (λ b. All (λ a. ¬ (a.number ≡ B.number b)) self.old.lent) }
         ensures ids { SameIds B.number self.old self.new }
         ensures faults { faults_of B.faults self.new ≡ faults_of B.faults self.old }
     {
@@ -80,17 +80,18 @@ impl<B: Builder> BuildPool<B> {
         Some(builder)
     }
 
-    /// Takes a builder back that was lent; from now on it counts with what it has.
+    /// Takes a builder back that was lent; from now on it counts with what it has, in place of what
+    /// was remembered last under its number.
     pub fn take_back(&mut self, builder: B)
         requires lent { Any (λ a. a.number ≡ B.number builder) self.old.lent }
-        requires count { All (λ a. a.number ≡ B.number builder →
-            a.faults ≤ B.faults builder) self.old.lent }
+        requires count { IfLastOf (B.number builder) self.old.lent
+            (λ a. a.faults ≤ B.faults builder) }
         ensures resting { self.new.resting ≡ self.old.resting ++ builder ∷ [] }
-        ensures lent { LeavesOne (B.number builder) self.old.lent self.new.lent }
+        ensures lent { LeavesLastOf (B.number builder) self.old.lent self.new.lent }
         ensures ids { SameIds B.number self.old self.new }
         ensures faults { faults_of B.faults self.old ≤ faults_of B.faults self.new }
-        ensures rose { All (λ a. a.number ≡ B.number builder →
-            a.faults < B.faults builder) self.old.lent →
+        ensures rose { IfLastOf (B.number builder) self.old.lent
+            (λ a. a.faults < B.faults builder) →
             faults_of B.faults self.old < faults_of B.faults self.new }
     {
         take_out(&mut self.lent, builder.id());
@@ -105,28 +106,27 @@ impl<B: Builder> BuildPool<B> {
     }
 }
 
-/// Takes out what is remembered of the builder of this number.
+/// Takes out what was remembered last of the builder of this number.
 fn take_out(lent: &mut Vec<Away>, number: u32) -> Away
     requires { Any (λ a. a.number ≡ number) lent.old.items }
-    ensures number { result.number ≡ number }
-    ensures found { Contains lent.old.items result }
-    ensures leaves { LeavesOne number lent.old.items lent.new.items }
+    ensures last { (i : ℕ) × IsLastOf number lent.old.items i result ×
+        (lent.new.items ≡ remove lent.old.items i) }
     ensures sums { (f : Away → ℕ) → sum_by f lent.new.items + f result ≡ sum_by f lent.old.items }
     ensures len { vec_len lent.new + 1 ≡ vec_len lent.old }
     ensures room { vec_capacity lent.new ≡ vec_capacity lent.old }
 {
-    let at = place_of(lent, number);
+    let at = last_place_of(lent, number);
     lent.remove(at)
 }
 
-/// Where an entry of this number stands.
-fn place_of(lent: &[Away], number: u32) -> usize
+/// Where the last entry of this number stands.
+fn last_place_of(lent: &[Away], number: u32) -> usize
     requires { Any (λ a. a.number ≡ number) lent.now }
     ensures below { result < length lent.now }
-    ensures found { (a : Away) × (slice_get lent.now result ≡ Some a) × (a.number ≡ number) }
+    ensures last { (a : Away) × IsLastOf number lent.now result a }
 {
-    for (at, away) in lent.iter().enumerate() {
-        if away.number == number {
+    for at in (0..lent.len()).rev() {
+        if lent[at].number == number {
             return at;
         }
     }

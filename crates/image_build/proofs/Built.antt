@@ -1,15 +1,14 @@
 -- What one builder of the pool answered, of the pool.
-use Rattle.std.proofs.Common.{◌≡◌, ◌<◌, ◌+◌, ◌-◌, ℕ, zero, suc, List, [], ◌∷◌, ◌++◌, get_or, length, take, Some, Ok, Err, inl, inr, refl, ap, sym, ◌∙◌, arith, subst, append-nil}
-use Rattle.std.specs.Prelude.{All, Contains, IfOk, Result, remove, slice_get}
+use Rattle.std.proofs.Common.{◌≡◌, ◌<◌, ◌≤◌, ◌+◌, ◌-◌, ℕ, zero, suc, List, [], ◌∷◌, ◌++◌, get_or, length, take, Some, Ok, Err, inl, inr, refl, ap, sym, ◌∙◌, arith, subst, append-nil}
+use Rattle.std.specs.Prelude.{Contains, IfOk, Result, remove, slice_get}
 use Rattle.std.proofs.lemmas.Bool.{cases_lt}
 use Rattle.std.proofs.lemmas.List.{length-append}
 use Rattle.std.proofs.lemmas.List.Edits.{remove-append_right}
-use Rattle.std.proofs.lemmas.Option.{get_or_from_slice_get, slice_get_within}
-use Rattle.std.proofs.Math.ListN.{get_or-append}
-use Rattle.std.proofs.Math.Seq.{take-length}
-use Rattle.std.proofs.lemmas.List.Elements.{All-push, All-weaker, Contains-append_left, Contains-push, Contains-push_cases}
+use Rattle.std.proofs.lemmas.Option.{get_or_from_slice_get, slice_get-get_or, slice_get_within}
+use Rattle.std.proofs.Math.Seq.{get_or-append_seam, take-length}
+use Rattle.std.proofs.lemmas.List.Elements.{Contains-append_left, Contains-push, Contains-push_cases}
 use Rattle.file_tree.specs.Disk.{Rose}
-use Rattle.build_pool.specs.Pool.{Kept, LeavesOne, PoolRose, faults_of}
+use Rattle.build_pool.specs.Pool.{IfLastOf, IsLastOf, Kept, LeavesLastOf, PoolRose, faults_of}
 use Rattle.build_pool.specs.declared.pools.Away.{Away}
 use Rattle.build_pool.specs.declared.orders.Order.{Order}
 use Rattle.file_tree.specs.declared.objects.Entry.{Entry}
@@ -35,39 +34,52 @@ pub beside_answer : {B X E : Type 0} (r : Result X E) (b : B) (Q : B → Type 0)
 beside_answer (Ok x) b Q P q p = (b, q, p)
 beside_answer (Err e) b Q P q p = tt
 
+-- what was remembered last, under this number, is the last of it
+pub put_last : (lent : List Away) (w : Away) (n i : ℕ) (a : Away) → n ≡ w.number → IsLastOf n (lent ++ w ∷ []) i a → (i ≡ length lent) × (a ≡ w)
+put_last lent w n i a known is =
+    let long = length-append lent (w ∷ []) in
+    let inside : length lent < length (lent ++ w ∷ []) = omega (arith, long) in
+    let reads : get_or (lent ++ w ∷ []) (length lent) w ≡ w = get_or-append_seam lent w [] w in
+    let stands : slice_get (lent ++ w ∷ []) (length lent) ≡ Some w = slice_get-get_or (lent ++ w ∷ []) (length lent) w inside ∙ ap Some reads in
+    let within : i < length (lent ++ w ∷ []) = slice_get_within (lent ++ w ∷ []) i a is.here in
+    elim (cases_lt i (length lent)) [
+      | inl lt ↦ absurd (is.last (length lent) w lt stands (sym known))
+      | inr ge ↦ (
+          let at_end : i ≡ length lent = omega (arith, within, ge, long) in
+          let here : slice_get (lent ++ w ∷ []) (length lent) ≡ Some a = subst (λ (k : ℕ). slice_get (lent ++ w ∷ []) k ≡ Some a) at_end is.here in
+          let same : Some a ≡ Some w = sym here ∙ stands in
+          (at_end, cc))
+    ]
+
+-- so what holds of it holds of the last of its number
+pub if_put_last : (lent mid : List Away) (w : Away) (n : ℕ) (P : Away → Type 0) → mid ≡ lent ++ w ∷ [] → n ≡ w.number → P w → IfLastOf n mid P
+if_put_last lent mid w n P is known p i a last =
+    let put = put_last lent w n i a known (subst (λ (l : List Away). IsLastOf n l i a) is last) in
+    subst P (sym put.1) p
+
 -- a builder that failed while it was lent makes the pool's count rise
 pub pool_rose : {B : Type 0} (number faults : B → ℕ) (old mid new : Kept B) (lent : List Away) (b b' : B)
-    → mid.lent ≡ lent ++ record { number = number b; faults = faults b } ∷ [] → All (λ a. a.number ≡ number b → ⊥) lent → number b' ≡ number b
+    → mid.lent ≡ lent ++ record { number = number b; faults = faults b } ∷ [] → number b' ≡ number b
     → faults_of faults mid ≡ faults_of faults old → new.resting ≡ mid.resting ++ b' ∷ []
-    → (All (λ a. a.number ≡ number b' → a.faults < faults b') mid.lent → faults_of faults mid < faults_of faults new)
+    → (IfLastOf (number b') mid.lent (λ a. a.faults < faults b') → faults_of faults mid < faults_of faults new)
     → Rose (faults b) (faults b') → PoolRose faults old new
-pool_rose number faults old mid new lent b b' is other same count rest rose (inl lt) =
-    let others : All (λ (a : Away). a.number ≡ number b' → a.faults < faults b') lent =
-    All-weaker (λ (a : Away). a.number ≡ number b → ⊥) (λ (a : Away). a.number ≡ number b' → a.faults < faults b') (λ a no' e. absurd (no' (e ∙ same))) lent other in
-    let all : All (λ (a : Away). a.number ≡ number b' → a.faults < faults b') mid.lent =
-    subst (λ (l : List Away). All (λ (a : Away). a.number ≡ number b' → a.faults < faults b') l) (sym is)
-    (All-push (λ (a : Away). a.number ≡ number b' → a.faults < faults b') lent (record { number = number b; faults = faults b }) others (λ e. lt)) in
+pool_rose number faults old mid new lent b b' is same count rest rose (inl lt) =
+    let all = if_put_last lent mid.lent (record { number = number b; faults = faults b }) (number b') (λ a. a.faults < faults b') is same lt in
     inl (subst (λ (n : ℕ). n < faults_of faults new) count (rose all))
-pool_rose {B} number faults old mid new lent b b' is other same count rest rose (inr full) =
+pool_rose {B} number faults old mid new lent b b' is same count rest rose (inr full) =
     inr (inl (b', subst (λ (l : List B). Contains l b') (sym rest) (Contains-push mid.resting b'), full))
 
 -- a builder that was lent and comes back leaves lent what was lent before
 pub lent_back : {B : Type 0} (number : B → ℕ) (lent mid new : List Away) (b b' : B) (faults : ℕ)
-    → mid ≡ lent ++ record { number = number b; faults = faults } ∷ [] → All (λ a. a.number ≡ number b → ⊥) lent → number b' ≡ number b
-    → LeavesOne (number b') mid new → new ≡ lent
-lent_back number lent mid new b b' faults is other same (i, a, at, its, left) =
+    → mid ≡ lent ++ record { number = number b; faults = faults } ∷ [] → number b' ≡ number b
+    → LeavesLastOf (number b') mid new → new ≡ lent
+lent_back number lent mid new b b' faults is same (i, a, last, left) =
     let w : Away = record { number = number b; faults = faults } in
-    let at' : slice_get (lent ++ w ∷ []) i ≡ Some a = subst (λ (l : List Away). slice_get l i ≡ Some a) is at in
-    let left' : new ≡ remove (lent ++ w ∷ []) i = left ∙ ap (λ (l : List Away). remove l i) is in
-    let reads : get_or (lent ++ w ∷ []) i a ≡ a = get_or_from_slice_get (lent ++ w ∷ []) i a a at' in
-    elim (cases_lt i (length lent)) [
-      | inl lt ↦ absurd (other i a lt (ap (λ (x : Away). x.number) (sym (get_or-append lent (w ∷ []) a i lt) ∙ reads) ∙ (its ∙ same)))
-      | inr ge ↦ (
-          let within : i < length (lent ++ w ∷ []) = slice_get_within (lent ++ w ∷ []) i a at' in
-          let last : i - length lent ≡ 0 = omega (arith, within, ge, length-append lent (w ∷ [])) in
-          left' ∙ (remove-append_right lent (w ∷ []) (length lent) i refl ge
-          ∙ (ap (λ (n : ℕ). lent ++ remove (w ∷ []) n) last ∙ append-nil lent)))
-    ]
+    let put = put_last lent w (number b') i a same (subst (λ (l : List Away). IsLastOf (number b') l i a) is last) in
+    let ge : length lent ≤ i = omega (arith, put.0) in
+    let none : i - length lent ≡ 0 = omega (arith, put.0) in
+    left ∙ (ap (λ (l : List Away). remove l i) is ∙ (remove-append_right lent (w ∷ []) (length lent) i refl ge
+    ∙ (ap (λ (n : ℕ). lent ++ remove (w ∷ []) n) none ∙ append-nil lent)))
 
 -- builders of which one was lent and came back tell what they told
 pub tell_alike : {B : Type 0} (told : B → Order → List Entry) (old mid new : List B) (b b' : B) → old ≡ mid ++ b ∷ [] → new ≡ mid ++ b' ∷ [] → told b' ≡ told b → TellAlike told old new

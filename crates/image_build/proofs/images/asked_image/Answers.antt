@@ -21,9 +21,9 @@ returns-clause-resting g c = same_length c.args.pool.now.resting c.lend.new.self
 pub returns-clause-rose : goal.returns-clause-rose
 returns-clause-rose g c e =
     pool_rose g.B.Builder.number g.B.Builder.faults c.args.pool.now c.lend.new.self c.take_back.new.self c.args.pool.now.lent c.in-Some.builder c.taken_image-answer.new.builder
-    c.in-Some.ensures.some.1 c.in-Some.ensures.other c.taken_image-answer.ensures.same_number c.lend.ensures.faults c.take_back.ensures.resting c.take_back.ensures.rose (c.taken_image-answer.ensures.cause e)
+    c.in-Some.ensures.some.1 c.taken_image-answer.ensures.same_number c.lend.ensures.faults c.take_back.ensures.resting c.take_back.ensures.rose (c.taken_image-answer.ensures.cause e)
 
 pub returns-clause-lent : goal.returns-clause-lent
 returns-clause-lent g c =
     lent_back g.B.Builder.number c.args.pool.now.lent c.lend.new.self.lent c.take_back.new.self.lent c.in-Some.builder c.taken_image-answer.new.builder (g.B.Builder.faults c.in-Some.builder)
-    c.in-Some.ensures.some.1 c.in-Some.ensures.other c.taken_image-answer.ensures.same_number c.take_back.ensures.lent
+    c.in-Some.ensures.some.1 c.taken_image-answer.ensures.same_number c.take_back.ensures.lent
