@@ -2,13 +2,16 @@ ghost use Rattle.std.specs.Prelude.{◌≡◌};
 ghost use Rattle.contents_text.specs.Contents.{is_dropped, meets};
 
 use file_tree::is_below;
+use journal::JOBS;
+use vdb_text::DATABASE;
 
 /// Whether the path is one that no package owns: in the database, in the journal, or above one of
 /// them.
+#[tactic(auto, unfolding(vdb_text::specs::Files::database_path))]
 pub(crate) fn is_dropped(path: &[u8]) -> bool
     ensures { result ≡ is_dropped path.now }
 {
-    meets(b"var/db/pkg", path) || meets(b"var/lib/portage/jobs", path)
+    meets(DATABASE.as_bytes(), path) || meets(JOBS.as_bytes(), path)
 }
 
 fn meets(top: &[u8], path: &[u8]) -> bool

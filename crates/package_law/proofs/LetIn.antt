@@ -2,14 +2,13 @@
 use Rattle.std.proofs.Common.{◌≡◌, ℕ, false, List}
 use Rattle.std.proofs.lemmas.Bool.{or_parts}
 use Rattle.file_tree.specs.Paths.{is_below}
-use Rattle.owner_book.specs.Rules.{database, is_reserved, own_files, touches}
+use Rattle.owner_book.specs.Rules.{is_reserved, own_files, touches}
 use Rattle.vdb_text.specs.Files.{database_path}
 use Rattle.contents_text.specs.Contents.{meets}
 
 -- a path that an image may have doesn't meet the database
 pub let_in_apart : (p : List ℕ) → is_reserved p ≡ false → meets database_path p ≡ false
-unfolding database_path
-let_in_apart p free = (or_parts (touches database p) (touches own_files p) free).0
+let_in_apart p free = (or_parts (touches database_path p) (touches own_files p) free).0
 
 -- .. and so is not below it
 pub let_in_outside : (p : List ℕ) → is_reserved p ≡ false → is_below database_path p ≡ false
