@@ -1,22 +1,10 @@
 -- The lines of a cause.
 use Rattle.std.proofs.Common.{◌≡◌, ◌∙◌, ◌++◌, ◌&&◌, ◌||◌, ◌⊎◌, ℕ, Bool, true, false, cond, not, List, [], ◌∷◌, nat_eq, inl, inr, refl, sym, ap, subst}
 use Rattle.std.specs.List.{list_all, list_any}
-use Rattle.std.proofs.lemmas.Bool.{eqb-true}
+use Rattle.std.proofs.lemmas.Bool.{and_parts, eqb-true, or_cases}
 use Rattle.basics.specs.Members.{Has}
 use Rattle.basics.proofs.Membership.{has-append_left, has-append_right}
 use Rattle.tree_search.specs.Visit.{joined, with_line}
-
-or_cases : (a b : Bool) → (a || b) ≡ true → (a ≡ true) ⊎ (b ≡ true)
-or_cases true b e = inl refl
-or_cases false b e = inr e
-
-and_left : (a b : Bool) → (a && b) ≡ true → a ≡ true
-and_left true b e = refl
-and_left false b e = absurd (cc e)
-
-and_right : (a b : Bool) → (a && b) ≡ true → b ≡ true
-and_right true b e = e
-and_right false b e = absurd (cc e)
 
 -- a line that is found is there
 found_has : (l : ℕ) (ks : List ℕ) → list_any (λ k. nat_eq k l) ks ≡ true → Has ks l
@@ -29,8 +17,8 @@ found_has l (k ∷ ks) e = elim (or_cases (nat_eq k l) (list_any (λ k. nat_eq k
 -- what is so of all is so of each
 pub all_has : (test : ℕ → Bool) (ls : List ℕ) (l : ℕ) → list_all test ls ≡ true → Has ls l → test l ≡ true
 all_has test [] l e h = absurd h
-all_has test (k ∷ ks) l e (inl same) = ap test (sym same) ∙ and_left (test k) (list_all test ks) e
-all_has test (k ∷ ks) l e (inr h) = all_has test ks l (and_right (test k) (list_all test ks) e) h
+all_has test (k ∷ ks) l e (inl same) = ap test (sym same) ∙ (and_parts (test k) (list_all test ks) e).0
+all_has test (k ∷ ks) l e (inr h) = all_has test ks l (and_parts (test k) (list_all test ks) e).1 h
 
 if_old : (b : Bool) (cause : List ℕ) (k l : ℕ) → Has cause l → Has (cond b (cause ++ k ∷ []) cause) l
 if_old true cause k l h = has-append_left cause (k ∷ []) l h
