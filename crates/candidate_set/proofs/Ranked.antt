@@ -6,7 +6,7 @@ use Rattle.std.specs.List.{AllByRecursion, IsDistinct}
 use Rattle.std.specs.List.Sorted.{IsSorted, IsStrictlySortedBy}
 use Rattle.std.specs.Ordering.{eq_by_cmp, is_eq, nat_cmp, ordering_then}
 use Rattle.std.specs.declared.cmp.Ordering.TheVariants.{Equal, Greater, Less}
-use Rattle.std.proofs.lemmas.Cmp.{back_total, nat_list_cmp_total, on_total, then_total}
+use Rattle.std.proofs.lemmas.Cmp.{nat_list_cmp_total, on_total, then_total}
 use Rattle.std.proofs.lemmas.Map.Keys.{apart_from_distinct, sorted_from_all_adjacent}
 use Rattle.std.proofs.lemmas.Map.Text.{is_eq-slice_cmp}
 use Rattle.std.proofs.lemmas.Slice.Eq.{bytes_eq-Decides}
@@ -14,17 +14,18 @@ use Rattle.basics.proofs.Orderings.{less_if}
 use Rattle.version_text.specs.Grammar.{IsVersion, Parts, spelling}
 use Rattle.pms_version.specs.Keys.{key_cmp}
 use Rattle.pms_version.specs.Order.{version_cmp}
-use Rattle.dep_atom.specs.Ids.{id_text}
+use Rattle.dep_atom.specs.Ids.{id_text, version_rank}
 use Rattle.dep_atom.specs.Text.{name_text}
+use Rattle.dep_atom.proofs.Ranked.{rank_total}
 use Rattle.candidate_set.specs.Candidates.{cache_path, id_cmp}
-use Rattle.candidate_set.specs.Places.{IsPlace, ids_of, place_cmp, version_rank}
+use Rattle.candidate_set.specs.Places.{IsPlace, ids_of, place_cmp}
 use Rattle.candidate_set.specs.declared.place.Place.{Place}
 use Rattle.candidate_set.proofs.Named.{id_text-parts, path_is}
 
 pub place_total : IsTotalOrder key_cmp → IsTotalOrder place_cmp
 place_total total =
     then_total (on_total (λ (p : Place). p.name) nat_list_cmp_total)
-    (then_total (on_total (λ (p : Place). p.id.version) (back_total total)) (on_total (λ (p : Place). spelling p.id.version) nat_list_cmp_total))
+    (on_total (λ (p : Place). p.id) (rank_total total))
 
 both_eq : (o s : Ordering) → is_eq (ordering_then o s) ≡ true → (is_eq o ≡ true) × (is_eq s ≡ true)
 both_eq Less s h = absurd (cc h)
@@ -37,7 +38,7 @@ same_text a b h = (bytes_eq-Decides a b).0 (sym (is_eq-slice_cmp a b) ∙ h)
 -- places of one rank are those of one path
 pub same_place : (p q : Place) → IsPlace p → IsPlace q → eq_by_cmp place_cmp p q ≡ true → cache_path p.id ≡ cache_path q.id
 same_place p q is js h =
-    let first = both_eq (slice_cmp nat_cmp p.name q.name) (version_rank p q) h in
+    let first = both_eq (slice_cmp nat_cmp p.name q.name) (version_rank p.id q.id) h in
     let second = both_eq (key_cmp q.id.version p.id.version) (slice_cmp nat_cmp (spelling p.id.version) (spelling q.id.version)) first.1 in
     let names = sym is.name ∙ (same_text p.name q.name first.0 ∙ js.name) in
     let texts = same_text (spelling p.id.version) (spelling q.id.version) second.1 in
@@ -65,8 +66,8 @@ Keyed = (a b : Parts) → IsVersion a → IsVersion b → version_cmp a b ≡ ke
 one_less : (p q : Place) → Keyed → IsPlace p → IsPlace q → place_cmp p q ≡ id_cmp p.id q.id
 one_less p q keyed is js =
     let texts = slice_cmp nat_cmp (spelling p.id.version) (spelling q.id.version) in
-    ap (λ (n : List ℕ). ordering_then (slice_cmp nat_cmp n q.name) (version_rank p q)) is.name
-    ∙ (ap (λ (n : List ℕ). ordering_then (slice_cmp nat_cmp (name_text p.id.name) n) (version_rank p q)) js.name
+    ap (λ (n : List ℕ). ordering_then (slice_cmp nat_cmp n q.name) (version_rank p.id q.id)) is.name
+    ∙ (ap (λ (n : List ℕ). ordering_then (slice_cmp nat_cmp (name_text p.id.name) n) (version_rank p.id q.id)) js.name
     ∙ ap (λ (o : Ordering). ordering_then (slice_cmp nat_cmp (name_text p.id.name) (name_text q.id.name)) (ordering_then o texts)) (sym (keyed q.id.version p.id.version js.is.version.version is.is.version.version)))
 
 all_less : (p : Place) (qs : List Place) → Keyed → IsPlace p → AllByRecursion IsPlace qs → AllByRecursion (λ q. place_cmp p q ≡ Less) qs → AllByRecursion (λ j. id_cmp p.id j ≡ Less) (ids_of qs)

@@ -5,9 +5,7 @@ use Rattle.std.specs.List.{AllByRecursion, IsDistinct, filter_map}
 use Rattle.std.specs.Ordering.{eq_by_cmp, nat_cmp, ordering_then}
 use Rattle.std.specs.declared.cmp.Ordering.{Ordering}
 use Rattle.basics.specs.Members.{Has}
-use Rattle.version_text.specs.Grammar.{spelling}
-use Rattle.pms_version.specs.Keys.{key_cmp}
-use Rattle.dep_atom.specs.Ids.{IsId, id_text}
+use Rattle.dep_atom.specs.Ids.{IsId, version_rank}
 use Rattle.dep_atom.specs.Text.{name_text}
 use Rattle.dep_atom.specs.declared.package.PackageId.{PackageId}
 use Rattle.file_tree.specs.Disk.{Map}
@@ -17,16 +15,6 @@ use Rattle.candidate_set.specs.declared.place.Place.{Place}
 use Rattle.candidate_set.specs.declared.rules.VisibleRules.{VisibleRules}
 use Rattle.candidate_set.specs.declared.verdict.Hidden.{Hidden}
 use Rattle.candidate_set.specs.declared.verdict.Verdict.{Verdict}
-
--- no package has this text
-abbrev pub IsNameless : List ℕ → Type 0
-IsNameless text = (id : PackageId) → IsId id → ¬ (text ≡ id_text id)
-
--- this package has the text, and no other
-pub record IsNamed (text : List ℕ) (id : PackageId) : Type 0 where
-  pub is : IsId id
-  pub named : text ≡ id_text id
-  pub only : (other : PackageId) → IsId other → text ≡ id_text other → other ≡ id
 
 -- the place is that of a package, with the text of its name
 pub record IsPlace (p : Place) : Type 0 where
@@ -43,14 +31,9 @@ pub record IsPlaceAt (path : List ℕ) (p : Place) : Type 0 where
 abbrev pub IsNoPlace : List ℕ → Type 0
 IsNoPlace path = (id : PackageId) → IsId id → ¬ (path ≡ cache_path id)
 
--- the order of places by their versions, and of equal ones by their texts
-abbrev pub version_rank : Place → Place → Ordering
-version_rank p q = ordering_then (key_cmp q.id.version p.id.version)
-    (slice_cmp nat_cmp (spelling p.id.version) (spelling q.id.version))
-
 -- the order of places; it goes by the keys of versions, and unlike that by versions it is total
 abbrev pub place_cmp : Place → Place → Ordering
-place_cmp p q = ordering_then (slice_cmp nat_cmp p.name q.name) (version_rank p q)
+place_cmp p q = ordering_then (slice_cmp nat_cmp p.name q.name) (version_rank p.id q.id)
 
 abbrev pub ids_of : List Place → List PackageId
 ids_of places = map (λ p. p.id) places

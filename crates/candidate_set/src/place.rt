@@ -2,10 +2,10 @@ ghost use Rattle.std.specs.Prelude.{◌≡◌, IfOk, MatchOption, string_bytes};
 ghost use Rattle.dep_atom.specs.Text.{name_text};
 ghost use Rattle.candidate_set.specs.Candidates.{cache_folder, cache_path, ebuild_name};
 ghost use Rattle.candidate_set.specs.Candidates.{ebuild_path};
-ghost use Rattle.candidate_set.specs.Places.{IsNameless, IsNamed, IsNoPlace, IsPlaceAt};
+ghost use Rattle.candidate_set.specs.Places.{IsNoPlace, IsPlaceAt};
 
 use basics::Text;
-use dep_atom::{AtomFault, PackageId};
+use dep_atom::PackageId;
 use file_tree::Path;
 use pms_names::Name;
 use std::alloc::{AllocError, Global};
@@ -31,27 +31,11 @@ pub(crate) fn place_at(alloc: Global, path: &Path) -> Result<Option<Place>, Allo
     else {
         return Ok(None);
     };
-    let Some(id) = package_of(alloc, text)? else {
+    let Some(id) = PackageId::from_text(alloc, text)? else {
         return Ok(None);
     };
     let name = name_text(alloc, &id.name)?;
     Ok(Some(Place { name, id }))
-}
-
-/// The package of this category, and this name with a version, with a slash between them.
-fn package_of(alloc: Global, text: &str) -> Result<Option<PackageId>, AllocError>
-    ensures { IfOk result (λ r. MatchOption r (IsNameless text.now) (IsNamed text.now)) }
-{
-    let Some((category, pf)) = text.split_once('/') else {
-        return Ok(None);
-    };
-    match PackageId::parse(alloc, category, pf) {
-        Ok(id) => Ok(Some(id)),
-        Err(fault) => match fault {
-            AtomFault::Memory => Err(AllocError),
-            _ => Ok(None),
-        },
-    }
 }
 
 fn name_text(alloc: Global, name: &Name) -> Result<Text, AllocError>

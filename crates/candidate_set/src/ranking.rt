@@ -1,6 +1,6 @@
 ghost use Rattle.std.specs.Prelude.{◌≡◌, IfOk};
 ghost use Rattle.std.specs.List.Sorted.{IsPermutation, IsSorted};
-ghost use Rattle.candidate_set.specs.Places.{place_cmp, version_rank};
+ghost use Rattle.candidate_set.specs.Places.{place_cmp};
 
 use crate::place::Place;
 use std::alloc::AllocError;
@@ -20,14 +20,5 @@ fn rank(a: &Place, b: &Place) -> Ordering
     ensures { result ≡ place_cmp a.now b.now }
 {
     let names = a.name.as_str().cmp(b.name.as_str());
-    names.then(rank_versions(a, b))
-}
-
-fn rank_versions(a: &Place, b: &Place) -> Ordering
-    ensures { result ≡ version_rank a.now b.now }
-{
-    pms_version::order_is_that_of_keys();
-    let first = a.id.version.text();
-    let second = b.id.version.text();
-    b.id.version.compare(&a.id.version).then(first.cmp(second))
+    names.then(a.id.rank(&b.id))
 }

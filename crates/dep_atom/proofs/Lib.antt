@@ -8,6 +8,7 @@ pub mod OneId
 pub mod Opened
 pub mod Parts
 pub mod Plain
+pub mod Ranked
 pub mod SameParts
 pub mod Slashes
 pub mod Whole

@@ -1,6 +1,10 @@
 -- A package of one version, as its category and its name with the version (PMS 3.2).
 use Rattle.std.specs.Prelude.{◌≡◌, ℕ, ◌+◌, ◌<◌, ◌⊎◌, List, ◌∷◌, ◌++◌, length, drop, slice_index, ⊤}
+use Rattle.std.specs.Cmp.Lexicographic.{slice_cmp}
+use Rattle.std.specs.Ordering.{nat_cmp, ordering_then}
+use Rattle.std.specs.declared.cmp.Ordering.{Ordering}
 use Rattle.version_text.specs.Grammar.{IsVersionText, spelling}
+use Rattle.pms_version.specs.Keys.{key_cmp}
 use Rattle.pms_version.specs.Limits.{IsReadable}
 use Rattle.pms_names.specs.Names.{IsName}
 use Rattle.pms_names.specs.declared.kind.Kind.TheVariants.{Category, Package}
@@ -24,6 +28,21 @@ name_and_version id = id.name.«package» ++ (45 ∷ spelling id.version)
 -- `category/package-version`, the one text of the package
 abbrev pub id_text : PackageId → List ℕ
 id_text id = id.name.category ++ (47 ∷ name_and_version id)
+
+-- no package has this text
+abbrev pub IsNoId : List ℕ → Type 0
+IsNoId text = (id : PackageId) → IsId id → ¬ (text ≡ id_text id)
+
+-- this package has the text, and no other
+pub record IsIdOf (text : List ℕ) (id : PackageId) : Type 0 where
+  pub is : IsId id
+  pub named : text ≡ id_text id
+  pub only : (other : PackageId) → IsId other → text ≡ id_text other → other ≡ id
+
+-- the order of packages by their versions, the greater first, and of equal ones by their texts
+abbrev pub version_rank : PackageId → PackageId → Ordering
+version_rank a b = ordering_then (key_cmp b.version a.version)
+    (slice_cmp nat_cmp (spelling a.version) (spelling b.version))
 
 -- a hyphen stands at `at`, and a version and nothing more behind it
 pub record PartsAt (bytes : List ℕ) (at : ℕ) : Type 0 where

@@ -10,6 +10,7 @@ use crate::naming::{begins_package_number, read_package_version};
 use pms_names::{Category, Flags, Name, NameFault, PackageName, SlotName};
 use pms_version::Version;
 use std::alloc::{AllocError, Global};
+use std::cmp::Ordering;
 
 /// One package of one version, as `category/package-version`.
 #[derive(Debug, Drop)]
@@ -31,7 +32,8 @@ pub struct Facts {
 }
 
 impl PackageId {
-    ghost use Rattle.dep_atom.specs.Ids.{IsId, id_text, name_and_version, FirstIdFault};
+    ghost use Rattle.dep_atom.specs.Ids.{FirstIdFault, IsId, IsIdOf, IsNoId, id_text};
+    ghost use Rattle.dep_atom.specs.Ids.{name_and_version, version_rank};
     ghost use Rattle.dep_atom.specs.declared.package.PackageId.{PackageId as Id};
 
     /// Reads a category, and a package's name with a hyphen and its version.
@@ -54,6 +56,22 @@ impl PackageId {
             }),
             Ok(None) => Err(package_fault(pf)),
             Err(_) => Err(AtomFault::Memory),
+        }
+    }
+
+    /// The package whose text this is, as `category/package-version`.
+    pub fn from_text(alloc: Global, text: &str) -> Result<Option<PackageId>, AllocError>
+        ensures { IfOk result (λ r. MatchOption r (IsNoId text.now) (IsIdOf text.now)) }
+    {
+        let Some((category, pf)) = text.split_once('/') else {
+            return Ok(None);
+        };
+        match PackageId::parse(alloc, category, pf) {
+            Ok(id) => Ok(Some(id)),
+            Err(fault) => match fault {
+                AtomFault::Memory => Err(AllocError),
+                _ => Ok(None),
+            },
         }
     }
 
@@ -80,6 +98,16 @@ impl PackageId {
         ensures { IsTrue result ↔ (self.now ≡ other.now) }
     {
         self.name == other.name && same_version(&self.version, &other.version)
+    }
+
+    /// By the version, the greater first, and of equal ones by their texts.
+    pub fn rank(&self, other: &PackageId) -> Ordering
+        ensures { result ≡ version_rank self.now other.now }
+    {
+        pms_version::order_is_that_of_keys();
+        let first = self.version.text();
+        let second = other.version.text();
+        other.version.compare(&self.version).then(first.cmp(second))
     }
 }
 

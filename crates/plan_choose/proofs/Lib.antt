@@ -1,3 +1,2 @@
-pub mod Ranked
 pub mod Told
 pub mod Apart

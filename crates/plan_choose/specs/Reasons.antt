@@ -1,12 +1,9 @@
 -- The candidates of an atom's name, and why none of them serves.
 use Rattle.std.specs.Prelude.{Bool, List, ◌++◌, filter, map}
 use Rattle.std.specs.List.Sorted.{IsPermutation, IsSorted}
-use Rattle.std.specs.Ordering.{ordering_then}
 use Rattle.std.specs.declared.cmp.Ordering.{Ordering}
-use Rattle.version_text.specs.Grammar.{spelling}
-use Rattle.pms_names.specs.Flags.{byte_order}
 use Rattle.pms_names.specs.declared.name.Name.{Name}
-use Rattle.pms_version.specs.Keys.{key_cmp}
+use Rattle.dep_atom.specs.Ids.{version_rank}
 use Rattle.dep_atom.specs.Match.{same_name}
 use Rattle.pkg_state.specs.Package.{Package}
 use Rattle.plan_choose.specs.declared.reason.NotTaken.{NotTaken}
@@ -23,13 +20,12 @@ is_of_name name r = same_name name r.id.name
 abbrev pub reasons_of : Name → List Package → List NotTaken → List NotTaken
 reasons_of name offered hidden = filter (is_of_name name) (map unmatched offered ++ hidden)
 
--- the greater version first, and of equal ones the smaller text
-abbrev pub version_rank : NotTaken → NotTaken → Ordering
-version_rank r s = ordering_then (key_cmp s.id.version r.id.version)
-    (byte_order (spelling r.id.version) (spelling s.id.version))
+-- the order of candidates by their versions
+abbrev pub reason_rank : NotTaken → NotTaken → Ordering
+reason_rank r s = version_rank r.id s.id
 
 -- just the candidates of the name, by their versions
 pub record AreReasons (name : Name) (offered : List Package) (hidden : List NotTaken)
     (reasons : List NotTaken) : Type 0 where
   pub moved : IsPermutation (reasons_of name offered hidden) reasons
-  pub sorted : IsSorted version_rank reasons
+  pub sorted : IsSorted reason_rank reasons

@@ -2,14 +2,13 @@ ghost use Rattle.std.specs.Prelude.{◌≡◌, ◌++◌, IfOk, OnOk, filter, if�
 ghost use Rattle.std.specs.Prelude.{[], ◌∷◌};
 ghost use Rattle.std.specs.List.Sorted.{IsPermutation, IsSorted};
 ghost use Rattle.dep_atom.specs.Match.{same_name};
-ghost use Rattle.plan_choose.specs.Reasons.{AreReasons, is_of_name, reasons_of, unmatched};
-ghost use Rattle.plan_choose.specs.Reasons.{version_rank};
+ghost use Rattle.plan_choose.specs.Reasons.{AreReasons, is_of_name, reason_rank, reasons_of};
+ghost use Rattle.plan_choose.specs.Reasons.{unmatched};
 
 use crate::reason::{NotTaken, Reason};
 use pkg_state::Pkg;
 use pms_names::Name;
 use std::alloc::{AllocError, Global};
-use std::cmp::Ordering;
 
 fn is_same_name(name: &Name, other: &Name) -> bool
     ensures { result ≡ same_name name.now other.now }
@@ -72,22 +71,12 @@ fn push_all_hidden(
     Ok(())
 }
 
-/// By the version, the greater first, and of equal ones by their texts.
-fn rank(a: &NotTaken, b: &NotTaken) -> Ordering
-    ensures { result ≡ version_rank a.now b.now }
-{
-    pms_version::order_is_that_of_keys();
-    let first = a.id.version.text();
-    let second = b.id.version.text();
-    b.id.version.compare(&a.id.version).then(first.cmp(second))
-}
-
 fn ranked(mut reasons: Vec<NotTaken>) -> Result<Vec<NotTaken>, AllocError>
     ensures moved { IfOk result (λ v. IsPermutation reasons.items v.items) }
-    ensures sorted { IfOk result (λ v. IsSorted version_rank v.items) }
+    ensures sorted { IfOk result (λ v. IsSorted reason_rank v.items) }
 {
     pms_version::order_is_that_of_keys();
-    reasons.sort_by(|a, b| rank(a, b))?;
+    reasons.sort_by(|a, b| a.id.rank(&b.id))?;
     Ok(reasons)
 }
 

@@ -1,7 +1,7 @@
 use Rattle.std.proofs.Common.{◌∙◌, ◌++◌, ◌∷◌, List, None, Some, ap, lit<, sym, ℕ}
 use Rattle.std.proofs.lemmas.Str.Pattern.{split_parts}
 use Rattle.dep_atom.proofs.Slashes.{at_slash}
-use Rattle.candidate_set.proofs.place.package_of.Goals as goal
+use Rattle.dep_atom.proofs.package.PackageId.from_text.Goals as goal
 
 pub returns-in_default : goal.returns-in_default
 returns-in_default c = λ id is e. at_slash c.args.text.now id is e None c.in_default.ensures.cases
