@@ -66,5 +66,6 @@ impl<'a> Deciding<Choice, Step> for Choices<'a> {
 
     ghost is_solution = { λ t. IsSolution (universe_of t.walk.universe.now) };
 
-    ghost jumps = { λ t. choices_jump t.walk.universe.now.update (universe_of t.walk.universe.now) };
+    ghost jumps = { λ t. choices_jump t.walk.universe.now.update
+        (universe_of t.walk.universe.now) };
 }
