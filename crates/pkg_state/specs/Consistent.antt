@@ -1,10 +1,11 @@
 -- When packages that are installed side by side are consistent.
-use Rattle.std.specs.Prelude.{◌≡◌, ◌&&◌, ◌||◌, Bool, true, false, not, List, bytes_eq, map}
+use Rattle.std.specs.Prelude.{◌≡◌, ◌&&◌, ◌||◌, Bool, true, false, not, List, bytes_eq, filter, map}
 use Rattle.std.specs.List.{list_any}
 use Rattle.basics.specs.Members.{AreDistinct, Has}
 use Rattle.pms_names.specs.Flags.{has}
 use Rattle.dep_atom.specs.declared.package.Facts.{Facts}
 use Rattle.dep_atom.specs.Match.{value_matches}
+use Rattle.dep_atom.specs.Values.{AtomValue}
 use Rattle.dep_group.specs.Trees.{all_hold, all_leaves}
 use Rattle.dep_tree.specs.Grammar.{is_block}
 use Rattle.dep_tree.specs.Truth.{is_fact, kind}
@@ -29,6 +30,14 @@ fits_required p =
 
 abbrev pub shares_line : Package → Package → Bool
 shares_line p q = bytes_eq (line_of p.facts) (line_of q.facts)
+
+-- the leaves of a class that count
+abbrev pub leaves_in : Class → Package → List AtomValue
+leaves_in class p = all_leaves kind (has p.facts.enabled) (tree_of class p)
+
+-- the blocks among them
+abbrev pub blocks_in : Class → Package → List AtomValue
+blocks_in class p = filter is_block (leaves_in class p)
 
 -- a block of this class that counts matches the other package
 abbrev pub class_blocks : Class → Package → Package → Bool

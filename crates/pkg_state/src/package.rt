@@ -1,8 +1,8 @@
-ghost use Rattle.std.specs.Prelude.{◌≡◌, IfOk};
+ghost use Rattle.std.specs.Prelude.{◌≡◌, ◌++◌, IfOk, OnOk, map};
 ghost use Rattle.std.specs.Option.{option_map};
 ghost use Rattle.dep_atom.specs.Values.{atom_value};
 ghost use Rattle.dep_tree.specs.View.{trees};
-ghost use Rattle.pkg_state.specs.Consistent.{fits_required, is_met};
+ghost use Rattle.pkg_state.specs.Consistent.{blocks_in, fits_required, is_met};
 ghost use Rattle.pkg_state.specs.Fault.{lacking_leaf};
 ghost use Rattle.pkg_state.specs.Package.{line_of, tree_of};
 
@@ -10,7 +10,7 @@ use crate::class::{Class, Eapi};
 use crate::leaf::lacking_of_all;
 use crate::line::LineName;
 use dep_atom::{Atom, Facts};
-use dep_tree::{DepTree, Present};
+use dep_tree::{DepTree, Present, is_block};
 use required_use::RequiredUse;
 use std::alloc::{AllocError, Global};
 use std::marker::Model;
@@ -70,6 +70,25 @@ impl Pkg {
             Class::Bdepend => &self.bdepend,
             Class::Idepend => &self.idepend,
         }
+    }
+
+    /// Puts its blocks of this class that count behind others.
+    pub fn push_blocks<'a>(
+        &'a self,
+        alloc: Global,
+        class: Class,
+        blocks: &mut Vec<&'a Atom>,
+    ) -> Result<(), AllocError>
+        ensures { OnOk result (map (λ a. atom_value a.now) blocks.new.items ≡
+            map (λ a. atom_value a.now) blocks.old.items ++ blocks_in class self.now) }
+    {
+        let leaves = self.tree(class).leaves(alloc, &self.facts.enabled)?;
+        for &atom in &leaves {
+            if is_block(atom) {
+                blocks.push(atom)?;
+            }
+        }
+        Ok(())
     }
 
     /// Whether its flags go together, as its REQUIRED_USE says.
