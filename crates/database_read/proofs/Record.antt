@@ -3,6 +3,7 @@ use Rattle.std.proofs.Common.{◌≡◌, ◌∙◌, ℕ, List, Result, Ok, Err, 
 use Rattle.dep_atom.specs.Ids.{IsId, id_text}
 use Rattle.dep_atom.specs.declared.package.PackageId.{PackageId}
 use Rattle.file_tree.specs.Disk.{Map}
+use Rattle.file_tree.specs.declared.fault.TreeFault.TheVariants as trees
 use Rattle.database_law.specs.Database.{folder}
 use Rattle.database_law.specs.Fields.{Says}
 use Rattle.database_law.specs.Packages.{Installed, id_of}
@@ -13,7 +14,7 @@ use Rattle.database_read.specs.Faults.{FolderFault, located}
 use Rattle.database_read.specs.Telling.{IsOwner, Tells, texts_at}
 use Rattle.database_read.specs.Machine.{IsOfMachine}
 use Rattle.database_read.specs.declared.fault.DatabaseFault.{DatabaseFault}
-use Rattle.database_read.specs.declared.fault.DatabaseFault.TheVariants.{Memory}
+use Rattle.database_read.specs.declared.fault.DatabaseFault.TheVariants.{Tree}
 use Rattle.database_read.proofs.Files.{own_texts}
 
 module _ (m : Map) (text : List ℕ) (id : PackageId) (owner : IsOwner text id) (t : Texts) (are : t ≡ texts_at m text) where
@@ -40,6 +41,6 @@ module _ (m : Map) (text : List ℕ) (id : PackageId) (owner : IsOwner text id) 
   pub bad_record : (f : RecordFault) (e : DatabaseFault) → FirstFault t f → e ≡ located text f → FolderFault m text e
   bad_record f e first told = inr (record { id = id; is = owner.is; named = owner.named; first = f; of = subst (λ (s : Texts). FirstFault s f) own first; told = told })
 
-pub of_machine : {A : Type 0} (r : Result A DatabaseFault) (P : A → Type 0) → MatchResult r P (λ e. e ≡ Memory) → MatchResult r P IsOfMachine
+pub of_machine : {A : Type 0} (r : Result A DatabaseFault) (P : A → Type 0) → MatchResult r P (λ e. e ≡ Tree trees.Memory) → MatchResult r P IsOfMachine
 of_machine (Ok x) P h = h
-of_machine (Err e) P h = inl h
+of_machine (Err e) P h = (trees.Memory, h)

@@ -7,6 +7,7 @@ use Rattle.basics.specs.Members.{AreDistinct, Has}
 use Rattle.basics.proofs.Membership.{distinct-apart, distinct-append, has-append_cases, has-append_left, has-append_right}
 use Rattle.basics.proofs.Texts.{not_less}
 use Rattle.file_tree.specs.Disk.{Map}
+use Rattle.file_tree.specs.declared.fault.TreeFault.TheVariants as trees
 use Rattle.pms_names.specs.Flags.{IsRising}
 use Rattle.contents_text.specs.Contents.{TellsOwned, path_of}
 use Rattle.contents_text.specs.declared.owned.Owned.{Owned}
@@ -22,7 +23,7 @@ use Rattle.database_read.specs.Faults.{ArePast, Overlaps, overlap_fault}
 use Rattle.database_read.specs.Machine.{IsOfMachine}
 use Rattle.database_read.specs.Owned.{IsAbove, IsOwned, IsOwnedBelow, IsOwnedTwice, all_paths}
 use Rattle.database_read.specs.declared.fault.DatabaseFault.{DatabaseFault}
-use Rattle.database_read.specs.declared.fault.DatabaseFault.TheVariants.{Memory}
+use Rattle.database_read.specs.declared.fault.DatabaseFault.TheVariants.{Tree}
 
 -- an owned path is among all, and the other way round
 pub owned_among : (ps : List Installed) (p : Installed) (q : List ℕ) → Has ps p → Has (paths p) q → Has (all_paths ps) q
@@ -176,7 +177,7 @@ not_tidy m ps db (Nested q s) h tidy = not_tidy_above ps q tidy (first_above ps 
 
 -- of the packages of a tidy database only these are answered
 pub tidy_only : {A : Type 0} (items : A → List Installed) (r : Result A DatabaseFault) (qs ps : List Installed) (m : Map) → IsDatabase m ps → IsTidy ps → qs ≡ ps → IfOk r (λ v. items v ≡ qs)
-    → IfErr r (λ e. (e ≡ Memory) ⊎ ((o : Overlap) × IsFirstOverlap (all_paths qs) o × (e ≡ overlap_fault o))) → MatchResult r (λ v. items v ≡ ps) (λ e. IsOfMachine e ⊎ ArePast ps e)
+    → IfErr r (λ e. (e ≡ Tree trees.Memory) ⊎ ((o : Overlap) × IsFirstOverlap (all_paths qs) o × (e ≡ overlap_fault o))) → MatchResult r (λ v. items v ≡ ps) (λ e. IsOfMachine e ⊎ ArePast ps e)
 tidy_only items (Ok v) qs ps m db tidy e h k = h ∙ e
-tidy_only items (Err x) qs ps m db tidy e h (inl memory) = inl (inl memory)
+tidy_only items (Err x) qs ps m db tidy e h (inl memory) = inl (trees.Memory, memory)
 tidy_only items (Err x) qs ps m db tidy e h (inr o) = absurd (not_tidy m ps db o.0 (subst (λ (l : List Installed). IsFirstOverlap (all_paths l) o.0) e o.1) tidy)

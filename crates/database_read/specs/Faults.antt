@@ -6,6 +6,7 @@ use Rattle.pms_names.specs.Flags.{byte_order}
 use Rattle.dep_atom.specs.Ids.{IsId, id_text}
 use Rattle.dep_atom.specs.declared.package.PackageId.{PackageId}
 use Rattle.file_tree.specs.Disk.{Map}
+use Rattle.file_tree.specs.declared.fault.TreeFault.TheVariants as trees
 use Rattle.database_law.specs.Database.{IsDatabase, folder}
 use Rattle.database_law.specs.Fields.{eapi}
 use Rattle.database_law.specs.Packages.{Installed}
@@ -22,7 +23,7 @@ use Rattle.database_read.specs.Limits.{AreMany, AreWithin}
 use Rattle.database_read.specs.Owned.{IsAbove, IsOwnedBelow, IsOwnedTwice}
 use Rattle.database_read.specs.Telling.{IsNameless, Tells, file_path, folder_path}
 use Rattle.database_read.specs.declared.fault.DatabaseFault.{DatabaseFault}
-use Rattle.database_read.specs.declared.fault.DatabaseFault.TheVariants.{Name, Missing, Eapi, Text, Dep, Limit, OwnedTwice, Nested, Memory}
+use Rattle.database_read.specs.declared.fault.DatabaseFault.TheVariants.{Name, Missing, Eapi, Text, Dep, Limit, OwnedTwice, Nested, Tree}
 
 -- a fault of a record, by the path of its file in the folder of this text
 abbrev pub located : List ℕ → RecordFault → DatabaseFault
@@ -30,7 +31,7 @@ located text (record_faults.Missing file) = Missing (file_path text (field_of fi
 located text record_faults.Eapi = Eapi (file_path text eapi)
 located text (record_faults.Text file line) = Text (file_path text (field_of file)) line
 located text (record_faults.Dep file at) = Dep (file_path text (field_of file)) at
-located text record_faults.Memory = Memory
+located text record_faults.Memory = Tree trees.Memory
 
 -- no package has the folder of this text, and its path is told
 pub record IsBadName (text : List ℕ) (fault : DatabaseFault) : Type 0 where

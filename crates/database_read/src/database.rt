@@ -12,7 +12,7 @@ use crate::folders::list_folders;
 use crate::owned::{tidy, too_much};
 use crate::package::read_package;
 use basics::Text;
-use file_tree::Tree;
+use file_tree::{Tree, TreeFault};
 use record_read::Installed;
 use std::alloc::Global;
 
@@ -30,8 +30,8 @@ pub fn read_database<T: Tree>(alloc: Global, tree: &mut T) -> Result<Vec<Install
     ensures fault { IsTrue T.tells → IfErr result
         (λ e. IsOfMachine e ⊎ FirstFault (T.story tree.old).now.holds e) }
     ensures same { IsTrue T.tells → T.story tree.new ≡ T.story tree.old }
-    ensures faults { CountsFault (IsErrOf result DatabaseFault.Failed) (T.faults tree.old)
-        (T.faults tree.new) }
+    ensures faults { CountsFault (IsErrOf result (DatabaseFault.Tree TreeFault.Failed))
+        (T.faults tree.old) (T.faults tree.new) }
 {
     let packages = read_folders(alloc, tree)?;
     match too_much(&packages) {
@@ -50,8 +50,8 @@ fn read_folders<T: Tree>(alloc: Global, tree: &mut T) -> Result<Vec<Installed>, 
     ensures fault { IsTrue T.tells → IfErr result
         (λ e. IsOfMachine e ⊎ IsFirstBadFolder (T.story tree.old).now.holds e) }
     ensures same { IsTrue T.tells → T.story tree.new ≡ T.story tree.old }
-    ensures faults { CountsFault (IsErrOf result DatabaseFault.Failed) (T.faults tree.old)
-        (T.faults tree.new) }
+    ensures faults { CountsFault (IsErrOf result (DatabaseFault.Tree TreeFault.Failed))
+        (T.faults tree.old) (T.faults tree.new) }
 {
     let folders = list_folders(alloc, tree)?;
     read_packages(alloc, tree, &folders)
@@ -71,8 +71,8 @@ fn read_packages<T: Tree>(
     ensures fault { IsTrue T.tells → IfErr result
         (λ e. IsOfMachine e ⊎ IsFirstOf (T.story tree.old).now.holds folders.now e) }
     ensures same { IsTrue T.tells → T.story tree.new ≡ T.story tree.old }
-    ensures faults { CountsFault (IsErrOf result DatabaseFault.Failed) (T.faults tree.old)
-        (T.faults tree.new) }
+    ensures faults { CountsFault (IsErrOf result (DatabaseFault.Tree TreeFault.Failed))
+        (T.faults tree.old) (T.faults tree.new) }
 {
     let mut packages = Vec::new(alloc);
     for folder in folders {

@@ -29,45 +29,41 @@ pub enum DatabaseFault {
     /// The first owned path that is above another, and the first of those.
     #[error("an owned path is above another")]
     Nested { path: Path, below: Path },
-    /// The tree's device failed.
-    #[error("the device failed")]
-    Failed,
-    #[error("out of memory")]
-    Memory,
+    #[error(transparent)]
+    Tree(TreeFault),
 }
 
 impl From<AllocError> for DatabaseFault {
     ghost use Rattle.std.specs.Prelude.{◌≡◌};
+    ghost use Rattle.file_tree.specs.declared.fault.TreeFault.TheVariants as trees;
     ghost use Rattle.database_read.specs.declared.fault.DatabaseFault.TheVariants as faults;
 
-    ghost from_gives = { λ _ e. e ≡ faults.Memory };
+    ghost from_gives = { λ _ e. e ≡ faults.Tree trees.Memory };
 
     fn from(_: AllocError) -> DatabaseFault {
-        DatabaseFault::Memory
+        DatabaseFault::Tree(TreeFault::Memory)
     }
 }
 
 impl<T: Drop> From<AllocFailed<T>> for DatabaseFault {
     ghost use Rattle.std.specs.Prelude.{◌≡◌};
+    ghost use Rattle.file_tree.specs.declared.fault.TreeFault.TheVariants as trees;
     ghost use Rattle.database_read.specs.declared.fault.DatabaseFault.TheVariants as faults;
 
-    ghost from_gives = { λ _ e. e ≡ faults.Memory };
+    ghost from_gives = { λ _ e. e ≡ faults.Tree trees.Memory };
 
     fn from(_: AllocFailed<T>) -> DatabaseFault {
-        DatabaseFault::Memory
+        DatabaseFault::Tree(TreeFault::Memory)
     }
 }
 
 impl From<TreeFault> for DatabaseFault {
     ghost use Rattle.std.specs.Prelude.{◌≡◌};
-    ghost use Rattle.database_read.specs.Machine.{fault_of};
+    ghost use Rattle.database_read.specs.declared.fault.DatabaseFault.TheVariants as faults;
 
-    ghost from_gives = { λ f e. e ≡ fault_of f };
+    ghost from_gives = { λ f e. e ≡ faults.Tree f };
 
     fn from(fault: TreeFault) -> DatabaseFault {
-        match fault {
-            TreeFault::Failed => DatabaseFault::Failed,
-            TreeFault::Memory => DatabaseFault::Memory,
-        }
+        DatabaseFault::Tree(fault)
     }
 }

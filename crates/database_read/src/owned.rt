@@ -9,12 +9,11 @@ ghost use Rattle.path_overlap.specs.declared.overlap.Overlap.{Overlap as Overlap
 ghost use Rattle.database_read.specs.Faults.{overlap_fault};
 ghost use Rattle.database_read.specs.Limits.{AreMany, AreWithin};
 ghost use Rattle.database_read.specs.Owned.{all_paths};
-ghost use Rattle.database_read.specs.declared.fault.DatabaseFault.TheVariants.{Memory};
 
 use crate::fault::DatabaseFault;
 use crate::limits::MOST_PACKAGES;
 use contents_text::Owned;
-use file_tree::Quantity;
+use file_tree::{Quantity, TreeFault};
 use owner_book::MOST_PATHS;
 use path_overlap::{Overlap, PathIndex};
 use record_read::Installed;
@@ -53,9 +52,9 @@ pub(crate) fn tidy(alloc: Global, packages: Vec<Installed>) -> Result<Vec<Instal
     ensures same { IfOk result (λ v. v.items ≡ packages.items) }
     ensures tidy { IfOk result (λ v. IsTidy v.items) }
     ensures fault { IfErr result
-        (λ e. (e ≡ Memory) ⊎ ((o : OverlapValue) × IsFirstOverlap (all_paths packages.items) o
-        × (e ≡ overlap_fault o))) }
-    ensures quiet { IfErr result (λ e. ¬ (e ≡ DatabaseFault.Failed)) }
+        (λ e. (e ≡ DatabaseFault.Tree TreeFault.Memory) ⊎ ((o : OverlapValue)
+        × IsFirstOverlap (all_paths packages.items) o × (e ≡ overlap_fault o))) }
+    ensures quiet { IfErr result (λ e. ¬ (e ≡ DatabaseFault.Tree TreeFault.Failed)) }
 {
     match first_overlap(alloc, &packages)? {
         None => Ok(packages),
@@ -65,7 +64,7 @@ pub(crate) fn tidy(alloc: Global, packages: Vec<Installed>) -> Result<Vec<Instal
 
 fn fault_of(overlap: Overlap) -> DatabaseFault
     ensures told { result ≡ overlap_fault overlap }
-    ensures quiet { ¬ (result ≡ DatabaseFault.Failed) }
+    ensures quiet { ¬ (result ≡ DatabaseFault.Tree TreeFault.Failed) }
 {
     match overlap {
         Overlap::Twice { path } => DatabaseFault::OwnedTwice { path },

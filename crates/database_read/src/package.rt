@@ -9,14 +9,13 @@ ghost use Rattle.record_read.specs.declared.fault.RecordFault.{RecordFault as Re
 ghost use Rattle.database_read.specs.Faults.{FolderFault, located};
 ghost use Rattle.database_read.specs.Machine.{IsOfMachine};
 ghost use Rattle.database_read.specs.Telling.{IsNameless, IsOwner, Tells};
-ghost use Rattle.database_read.specs.declared.fault.DatabaseFault.TheVariants.{Memory};
 
 use crate::fault::DatabaseFault;
 use crate::paths::{file_path, folder_path};
 use crate::texts::read_texts;
 use basics::Text;
 use dep_atom::{AtomFault, PackageId};
-use file_tree::Tree;
+use file_tree::{Tree, TreeFault};
 use record_read::{Installed, RecordFault, RecordFile, RecordTexts, read_record};
 use std::alloc::{AllocError, Global};
 
@@ -34,8 +33,8 @@ pub(crate) fn read_package<T: Tree>(
     ensures fault { IsTrue T.tells → IfErr result
         (λ e. IsOfMachine e ⊎ FolderFault (T.story tree.old).now.holds folder.now e) }
     ensures same { IsTrue T.tells → T.story tree.new ≡ T.story tree.old }
-    ensures faults { CountsFault (IsErrOf result DatabaseFault.Failed) (T.faults tree.old)
-        (T.faults tree.new) }
+    ensures faults { CountsFault (IsErrOf result (DatabaseFault.Tree TreeFault.Failed))
+        (T.faults tree.old) (T.faults tree.new) }
 {
     let folder = folder.as_str();
     let Some(id) = package_of(alloc, folder)? else {
@@ -55,11 +54,11 @@ fn package_in(
 ) -> Result<Installed, DatabaseFault>
     ensures found { IfOk result (λ p. Tell (texts_in texts.now) id p) }
     ensures only { (p : InstalledValue) → Tell (texts_in texts.now) id p →
-        MatchResult result (λ r. r ≡ p) (λ e. e ≡ Memory) }
+        MatchResult result (λ r. r ≡ p) (λ e. e ≡ DatabaseFault.Tree TreeFault.Memory) }
     ensures fault { IfErr result
-        (λ e. (e ≡ Memory) ⊎ ((f : RecordFaultValue) × FirstFault (texts_in texts.now) f
-        × (e ≡ located folder.now f))) }
-    ensures quiet { IfErr result (λ e. ¬ (e ≡ DatabaseFault.Failed)) }
+        (λ e. (e ≡ DatabaseFault.Tree TreeFault.Memory) ⊎ ((f : RecordFaultValue)
+        × FirstFault (texts_in texts.now) f × (e ≡ located folder.now f))) }
+    ensures quiet { IfErr result (λ e. ¬ (e ≡ DatabaseFault.Tree TreeFault.Failed)) }
 {
     match read_record(alloc, id, texts) {
         Ok(package) => Ok(package),
@@ -86,7 +85,7 @@ fn package_of(alloc: Global, folder: &str) -> Result<Option<PackageId>, AllocErr
 /// The fault of a record, by the path of its file.
 fn located(alloc: Global, folder: &str, fault: RecordFault) -> Result<DatabaseFault, AllocError>
     ensures told { IfOk result (λ e. e ≡ located folder.now fault) }
-    ensures quiet { IfOk result (λ e. ¬ (e ≡ DatabaseFault.Failed)) }
+    ensures quiet { IfOk result (λ e. ¬ (e ≡ DatabaseFault.Tree TreeFault.Failed)) }
 {
     match fault {
         RecordFault::Missing { file } => Ok(DatabaseFault::Missing {
@@ -103,6 +102,6 @@ fn located(alloc: Global, folder: &str, fault: RecordFault) -> Result<DatabaseFa
             path: file_path(alloc, folder, file)?,
             at,
         }),
-        RecordFault::Memory => Ok(DatabaseFault::Memory),
+        RecordFault::Memory => Ok(DatabaseFault::Tree(TreeFault::Memory)),
     }
 }

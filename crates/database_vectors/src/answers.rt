@@ -3,7 +3,7 @@
 use crate::trees::tree_of;
 use asked_lines::cut;
 use database_read::{DatabaseFault, read_database};
-use file_tree::{Path, Quantity};
+use file_tree::{Path, Quantity, TreeFault};
 use record_read::Installed;
 use std::alloc::{AllocError, Global};
 use tree_mem::MemTree;
@@ -71,8 +71,8 @@ fn fault_text(alloc: Global, fault: &DatabaseFault) -> Result<String, AllocError
         DatabaseFault::Limit { quantity } => String::from_str(alloc, limit_of(*quantity)),
         DatabaseFault::OwnedTwice { path } => at_path(alloc, "twice", path),
         DatabaseFault::Nested { path, below } => nested(alloc, path, below),
-        DatabaseFault::Failed => String::from_str(alloc, "failed"),
-        DatabaseFault::Memory => Err(AllocError),
+        DatabaseFault::Tree(TreeFault::Failed) => String::from_str(alloc, "failed"),
+        DatabaseFault::Tree(TreeFault::Memory) => Err(AllocError),
     }
 }
 

@@ -41,25 +41,24 @@ unfit flags packages (broken.Blocked one by) first = (refl, unfit_at flags packa
 unfit flags packages (broken.RequiredUse one) first = (refl, unfit_at flags packages.items (broken.RequiredUse one) _ refl first)
 unfit flags packages (broken.SlotTwice one other) first = (refl, unfit_at flags packages.items (broken.SlotTwice one other) _ refl first)
 
+-- what a fault of the tree is for a run
+pub refused_tree : (flags : List (List ℕ)) (m : Map) (e : TreeFault) → Refuses flags m (fault_of_tree e)
+refused_tree flags m trees.Failed = tt
+refused_tree flags m trees.Memory = tt
+
+pub machine_tree : (e : TreeFault) → IsOfMachine (fault_of_tree e)
+machine_tree trees.Failed = tt
+machine_tree trees.Memory = tt
+
 -- what a fault of the database is for a run
 pub of_machine : (e : DatabaseFault) → machine.IsOfMachine e → IsOfMachine (fault_of e)
-of_machine databases.Failed h = tt
-of_machine databases.Memory h = tt
-of_machine (databases.Name p) h = absurd (elim h [ inl x ↦ cc x | inr x ↦ cc x ])
-of_machine (databases.Missing p) h = absurd (elim h [ inl x ↦ cc x | inr x ↦ cc x ])
-of_machine (databases.Eapi p) h = absurd (elim h [ inl x ↦ cc x | inr x ↦ cc x ])
-of_machine (databases.Text p line) h = absurd (elim h [ inl x ↦ cc x | inr x ↦ cc x ])
-of_machine (databases.Dep p at) h = absurd (elim h [ inl x ↦ cc x | inr x ↦ cc x ])
-of_machine (databases.Limit q) h = absurd (elim h [ inl x ↦ cc x | inr x ↦ cc x ])
-of_machine (databases.OwnedTwice p) h = absurd (elim h [ inl x ↦ cc x | inr x ↦ cc x ])
-of_machine (databases.Nested p q) h = absurd (elim h [ inl x ↦ cc x | inr x ↦ cc x ])
+of_machine e h = subst (λ (x : DatabaseFault). IsOfMachine (fault_of x)) (sym h.1) (machine_tree h.0)
 
 -- .. and why it may come in place of these packages
 pub in_place : (ps : List Installed) (e : DatabaseFault) → machine.IsOfMachine e ⊎ reads.ArePast ps e → IsOfMachine (fault_of e) ⊎ ArePast ps (fault_of e)
 in_place ps e (inl h) = inl (of_machine e h)
 in_place ps (databases.Limit q) (inr h) = inr h
-in_place ps databases.Failed (inr h) = absurd h
-in_place ps databases.Memory (inr h) = absurd h
+in_place ps (databases.Tree fault) (inr h) = absurd h
 in_place ps (databases.Name p) (inr h) = absurd h
 in_place ps (databases.Missing p) (inr h) = absurd h
 in_place ps (databases.Eapi p) (inr h) = absurd h
@@ -68,10 +67,9 @@ in_place ps (databases.Dep p at) (inr h) = absurd h
 in_place ps (databases.OwnedTwice p) (inr h) = absurd h
 in_place ps (databases.Nested p q) (inr h) = absurd h
 
-first_or : (m : Map) (e : DatabaseFault) → (e ≡ databases.Memory → ⊥) → (e ≡ databases.Failed → ⊥) → machine.IsOfMachine e ⊎ FirstFault m e → FirstFault m e
-first_or m e no' none (inl (inl x)) = absurd (no' x)
-first_or m e no' none (inl (inr x)) = absurd (none x)
-first_or m e no' none (inr first) = first
+first_or : (m : Map) (e : DatabaseFault) → ((of : TreeFault) → e ≡ databases.Tree of → ⊥) → machine.IsOfMachine e ⊎ FirstFault m e → FirstFault m e
+first_or m e none (inl h) = absurd (none h.0 h.1)
+first_or m e none (inr first) = first
 
 -- no folder is at fault for what there is too much of
 not_located : (text : List ℕ) (fault : RecordFault) (q : Quantity) → databases.Limit q ≡ located text fault → ⊥
@@ -91,25 +89,15 @@ too_much m q (inr (inl much)) = (much.packages, much.database, much.past)
 too_much m q (inr (inr untidy)) = absurd untidy.overlaps
 
 pub refused_database : (flags : List (List ℕ)) (m : Map) (e : DatabaseFault) → machine.IsOfMachine e ⊎ FirstFault m e → Refuses flags m (fault_of e)
-refused_database flags m databases.Failed h = tt
-refused_database flags m databases.Memory h = tt
-refused_database flags m (databases.Name p) h = first_or m (databases.Name p) (λ x. cc x) (λ x. cc x) h
-refused_database flags m (databases.Missing p) h = first_or m (databases.Missing p) (λ x. cc x) (λ x. cc x) h
-refused_database flags m (databases.Eapi p) h = first_or m (databases.Eapi p) (λ x. cc x) (λ x. cc x) h
-refused_database flags m (databases.Text p line) h = first_or m (databases.Text p line) (λ x. cc x) (λ x. cc x) h
-refused_database flags m (databases.Dep p at) h = first_or m (databases.Dep p at) (λ x. cc x) (λ x. cc x) h
-refused_database flags m (databases.Limit q) h = too_much m q (first_or m (databases.Limit q) (λ x. cc x) (λ x. cc x) h)
-refused_database flags m (databases.OwnedTwice p) h = first_or m (databases.OwnedTwice p) (λ x. cc x) (λ x. cc x) h
-refused_database flags m (databases.Nested p q) h = first_or m (databases.Nested p q) (λ x. cc x) (λ x. cc x) h
-
--- what a fault of the tree is for a run
-pub refused_tree : (flags : List (List ℕ)) (m : Map) (e : TreeFault) → Refuses flags m (fault_of_tree e)
-refused_tree flags m trees.Failed = tt
-refused_tree flags m trees.Memory = tt
-
-pub machine_tree : (e : TreeFault) → IsOfMachine (fault_of_tree e)
-machine_tree trees.Failed = tt
-machine_tree trees.Memory = tt
+refused_database flags m (databases.Tree fault) h = refused_tree flags m fault
+refused_database flags m (databases.Name p) h = first_or m (databases.Name p) (λ of x. cc x) h
+refused_database flags m (databases.Missing p) h = first_or m (databases.Missing p) (λ of x. cc x) h
+refused_database flags m (databases.Eapi p) h = first_or m (databases.Eapi p) (λ of x. cc x) h
+refused_database flags m (databases.Text p line) h = first_or m (databases.Text p line) (λ of x. cc x) h
+refused_database flags m (databases.Dep p at) h = first_or m (databases.Dep p at) (λ of x. cc x) h
+refused_database flags m (databases.Limit q) h = too_much m q (first_or m (databases.Limit q) (λ of x. cc x) h)
+refused_database flags m (databases.OwnedTwice p) h = first_or m (databases.OwnedTwice p) (λ of x. cc x) h
+refused_database flags m (databases.Nested p q) h = first_or m (databases.Nested p q) (λ of x. cc x) h
 
 -- what packages that don't go together are for a run
 pub refused_unfit : (flags : List (List ℕ)) (m : Map) (ps : List Installed) (e : OpeningFault) → IsDatabase m ps → AreWithin ps → IsTidy ps → IsUnfit flags ps e → Refuses flags m e

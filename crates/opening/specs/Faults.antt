@@ -19,15 +19,14 @@ use Rattle.opening.specs.Order.{IsFirstInOrder}
 use Rattle.opening.specs.declared.fault.OpeningFault.{OpeningFault}
 use Rattle.opening.specs.declared.fault.OpeningFault.TheVariants.{Database, Inconsistent, Limit, Failed, Memory}
 
-abbrev pub fault_of : DatabaseFault → OpeningFault
-fault_of databases.Failed = Failed
-fault_of databases.Memory = Memory
-fault_of (databases.Limit quantity) = Limit quantity
-fault_of fault = Database fault
-
 abbrev pub fault_of_tree : TreeFault → OpeningFault
 fault_of_tree trees.Failed = Failed
 fault_of_tree trees.Memory = Memory
+
+abbrev pub fault_of : DatabaseFault → OpeningFault
+fault_of (databases.Tree fault) = fault_of_tree fault
+fault_of (databases.Limit quantity) = Limit quantity
+fault_of fault = Database fault
 
 abbrev pub refusal_of : Broken → Vec Installed Global → OpeningFault
 refusal_of broken.Memory packages = Memory
@@ -41,8 +40,7 @@ IsOfMachine fault = ⊥
 
 -- the map has no database whose packages are apart, and this is its first fault
 abbrev pub IsBadDatabase : Map → DatabaseFault → Type 0
-IsBadDatabase m databases.Failed = ⊥
-IsBadDatabase m databases.Memory = ⊥
+IsBadDatabase m (databases.Tree fault) = ⊥
 IsBadDatabase m (databases.Limit quantity) = ⊥
 IsBadDatabase m fault = FirstFault m fault
 

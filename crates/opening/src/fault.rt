@@ -36,8 +36,7 @@ impl From<DatabaseFault> for OpeningFault {
 
     fn from(fault: DatabaseFault) -> OpeningFault {
         match fault {
-            DatabaseFault::Failed => OpeningFault::Failed,
-            DatabaseFault::Memory => OpeningFault::Memory,
+            DatabaseFault::Tree(fault) => OpeningFault::from(fault),
             DatabaseFault::Limit { quantity } => OpeningFault::Limit { quantity },
             fault => OpeningFault::Database(fault),
         }

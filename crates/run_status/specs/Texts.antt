@@ -83,8 +83,7 @@ place_of_fault (databases.Dep path at) = path
 place_of_fault (databases.OwnedTwice path) = path
 place_of_fault (databases.Nested path below) = path
 place_of_fault (databases.Limit quantity) = []
-place_of_fault databases.Failed = []
-place_of_fault databases.Memory = []
+place_of_fault (databases.Tree fault) = []
 
 -- the leaf that isn't met, or a hyphen
 abbrev pub leaf_text : Option Atom → List ℕ

@@ -190,7 +190,7 @@ fn place_of_fault(fault: &DatabaseFault) -> &str
         | DatabaseFault::Dep { path, .. }
         | DatabaseFault::OwnedTwice { path }
         | DatabaseFault::Nested { path, .. } => path.text(),
-        DatabaseFault::Limit { .. } | DatabaseFault::Failed | DatabaseFault::Memory => "",
+        DatabaseFault::Limit { .. } | DatabaseFault::Tree(_) => "",
     }
 }
 

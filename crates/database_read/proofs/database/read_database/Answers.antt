@@ -1,6 +1,7 @@
 use Rattle.std.proofs.Common.{◌≡◌, ◌⊎◌, List, inl, inr, subst, sym}
 use Rattle.std.proofs.lemmas.Result.{IfErr-weaker}
 use Rattle.file_tree.specs.Disk.{Map}
+use Rattle.file_tree.specs.declared.fault.TreeFault.TheVariants as trees
 use Rattle.database_law.specs.Database.{IsDatabase}
 use Rattle.database_law.specs.Packages.{Installed}
 use Rattle.path_overlap.specs.Overlaps.{IsFirstOverlap}
@@ -9,7 +10,7 @@ use Rattle.database_read.specs.Faults.{FirstFault, Overlaps, overlap_fault}
 use Rattle.database_read.specs.Limits.{AreWithin}
 use Rattle.database_read.specs.Machine.{IsOfMachine}
 use Rattle.database_read.specs.Owned.{all_paths}
-use Rattle.database_read.specs.declared.fault.DatabaseFault.TheVariants.{Memory}
+use Rattle.database_read.specs.declared.fault.DatabaseFault.TheVariants.{Tree}
 use Rattle.database_read.proofs.Tidy.{overlaps_of, tidy_only}
 use Rattle.database_read.proofs.database.read_database.Goals as goal
 
@@ -23,9 +24,9 @@ returns-in-None-clause-fault g c t =
     let ps : List Installed = c.in_ok-packages.packages.items in
     let db : IsDatabase m ps = c.in_ok-packages.ensures.found t in
     let within : AreWithin ps = subst AreWithin c.deref.ensures.value c.in-None.ensures in
-    IfErr-weaker c.tidy.result (λ e. (e ≡ Memory) ⊎ ((o : Overlap) × IsFirstOverlap (all_paths ps) o × (e ≡ overlap_fault o))) (λ e. IsOfMachine e ⊎ FirstFault m e)
+    IfErr-weaker c.tidy.result (λ e. (e ≡ Tree trees.Memory) ⊎ ((o : Overlap) × IsFirstOverlap (all_paths ps) o × (e ≡ overlap_fault o))) (λ e. IsOfMachine e ⊎ FirstFault m e)
     (λ e h. elim h [
-      | inl memory ↦ inl (inl memory)
+      | inl memory ↦ inl (trees.Memory, memory)
       | inr o ↦ inr (inr (inr (record { packages = ps; database = db; within = within; overlaps = subst (Overlaps ps) (sym o.2) (overlaps_of m ps db o.0 o.1) })))
     ])
     c.tidy.ensures.fault

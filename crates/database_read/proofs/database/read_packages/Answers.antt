@@ -1,6 +1,7 @@
 use Rattle.std.proofs.Common.{◌≡◌, ◌∙◌, ◌++◌, ◌+◌, ◌∷◌, [], List, ap, arith, drop, inl, inr, subst, sym, take, ℕ}
 use Rattle.std.proofs.lemmas.Result.{err_from_is_err_and}
 use Rattle.file_tree.specs.Disk.{Map, Story}
+use Rattle.file_tree.specs.declared.fault.TreeFault.TheVariants as trees
 use Rattle.database_law.specs.Packages.{Installed}
 use Rattle.database_read.specs.Faults.{FolderFault}
 use Rattle.database_read.specs.Telling.{Tells}
@@ -63,3 +64,8 @@ loop-folder-preserved g c =
       λ t. c.in_ok-read_package.ensures.same t ∙ inv.2 t,
       omega (arith, c.in_ok-read_package.ensures.faults.later, inv.3),
     )
+
+pub returns-in_err-push-clause-fault : goal.returns-in_err-push-clause-fault
+returns-in_err-push-clause-fault g c t =
+    let q = err_from_is_err_and c.from_residual-in_err-push.result c.from_residual-in_err-push.ensures.1 in
+    rw q.1 (inl (trees.Memory, q.2))

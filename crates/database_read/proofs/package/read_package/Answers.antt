@@ -2,6 +2,7 @@ use Rattle.std.proofs.Common.{◌≡◌, ◌⊎◌, ◌∙◌, List, ap, inl, in
 use Rattle.std.proofs.lemmas.Option.{MatchOption-at_some}
 use Rattle.std.proofs.lemmas.Result.{IfErr-weaker, IfOk-weaker}
 use Rattle.dep_atom.specs.declared.package.PackageId.{PackageId}
+use Rattle.file_tree.specs.declared.fault.TreeFault.TheVariants as trees
 use Rattle.record_read.specs.Faults.{FirstFault}
 use Rattle.record_read.specs.Texts.{Tell}
 use Rattle.record_read.specs.Views.{texts_in}
@@ -9,7 +10,7 @@ use Rattle.record_read.specs.declared.fault.RecordFault.{RecordFault}
 use Rattle.database_read.specs.Faults.{FolderFault, located}
 use Rattle.database_read.specs.Machine.{IsOfMachine}
 use Rattle.database_read.specs.Telling.{IsNameless, IsOwner, Tells, texts_at}
-use Rattle.database_read.specs.declared.fault.DatabaseFault.TheVariants.{Memory}
+use Rattle.database_read.specs.declared.fault.DatabaseFault.TheVariants.{Tree}
 use Rattle.database_read.proofs.Record.{bad_record, of_machine, tells, told_by}
 use Rattle.database_read.proofs.package.read_package.Goals as goal
 
@@ -47,9 +48,9 @@ returns-clause-fault g c t =
     let owner : IsOwner text id = subst (λ (s : List ℕ). IsOwner s id) same (MatchOption-at_some (IsNameless spelled) (IsOwner spelled) id c.in-Some.is c.in_ok-id.ensures) in
     let texts = texts_in c.in_ok-texts.texts in
     let are = c.in_ok-texts.ensures.texts t ∙ ap (λ (s : List ℕ). texts_at m s) same in
-    IfErr-weaker c.package_in.result (λ e. (e ≡ Memory) ⊎ ((f : RecordFault) × FirstFault texts f × (e ≡ located spelled f))) (λ e. IsOfMachine e ⊎ FolderFault m text e)
+    IfErr-weaker c.package_in.result (λ e. (e ≡ Tree trees.Memory) ⊎ ((f : RecordFault) × FirstFault texts f × (e ≡ located spelled f))) (λ e. IsOfMachine e ⊎ FolderFault m text e)
     (λ e h. elim h [
-      | inl memory ↦ inl (inl memory)
+      | inl memory ↦ inl (trees.Memory, memory)
       | inr f ↦ inr (bad_record m text id owner texts are f.0 e f.1 (f.2 ∙ ap (λ (s : List ℕ). located s f.0) same))
     ])
     c.package_in.ensures.fault
