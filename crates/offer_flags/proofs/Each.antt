@@ -2,8 +2,10 @@
 use Rattle.std.proofs.Common.{◌≡◌, ◌∙◌, ◌+◌, ◌++◌, ◌<◌, ◌||◌, ◌⊎◌, ℕ, Bool, true, false, List, [], ◌∷◌, ap, get_or, inl, inr, length, map, refl, sym, take}
 use Rattle.std.specs.Prelude.{◌↔◌, bytes_eq}
 use Rattle.std.specs.List.{AllZip}
+use Rattle.std.proofs.lemmas.Bool.{or_cases, or_left, or_right}
 use Rattle.std.proofs.lemmas.List.{take_more}
 use Rattle.std.proofs.lemmas.List.Folds.{list_any-append}
+use Rattle.basics.proofs.Tests.{or-false}
 use Rattle.pms_names.specs.Flags.{has}
 use Rattle.pms_names.specs.Names.{IsName}
 use Rattle.pms_names.specs.declared.kind.Kind.TheVariants.{Flag}
@@ -18,23 +20,8 @@ zip_mapped f R (x ∷ xs) (y ∷ ys) all = (all.0, zip_mapped f R xs ys all.1)
 abbrev pub AreFlags : List (List ℕ) → List (List ℕ) → Type 0
 AreFlags texts flags = (flag : List ℕ) → (has flags flag ≡ true) ↔ (IsName Flag flag × (has texts flag ≡ true))
 
-or_cases : (a b : Bool) → (a || b) ≡ true → (a ≡ true) ⊎ (b ≡ true)
-or_cases true b is = inl refl
-or_cases false b is = inr is
-
-or_left : (a b : Bool) → a ≡ true → (a || b) ≡ true
-or_left a b is = ap (λ (x : Bool). x || b) is
-
-or_right : (a b : Bool) → b ≡ true → (a || b) ≡ true
-or_right true b is = refl
-or_right false b is = is
-
-or_false : (b : Bool) → (b || false) ≡ b
-or_false true = refl
-or_false false = refl
-
 has_more : (texts : List (List ℕ)) (t flag : List ℕ) → has (texts ++ t ∷ []) flag ≡ (has texts flag || bytes_eq flag t)
-has_more texts t flag = list_any-append (bytes_eq flag) texts (t ∷ []) ∙ ap (λ (b : Bool). has texts flag || b) (or_false (bytes_eq flag t))
+has_more texts t flag = list_any-append (bytes_eq flag) texts (t ∷ []) ∙ ap (λ (b : Bool). has texts flag || b) (or-false (bytes_eq flag t))
 
 -- one text more
 pub one_more : (texts : List (List ℕ)) (i : ℕ) (t : List ℕ) (old new : List (List ℕ)) → i < length texts → t ≡ get_or texts i t → AreFlags (take i texts) old → ((flag : List ℕ) → (has new flag ≡ true) ↔ ((has old flag ≡ true) ⊎ (IsName Flag flag × (bytes_eq flag t ≡ true)))) → AreFlags (take (i + 1) texts) new

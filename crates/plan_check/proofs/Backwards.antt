@@ -14,9 +14,6 @@ use Rattle.plan_law.specs.Lives.{Life, Moment, commit}
 use Rattle.plan_check.specs.Clearings.{AreClearings, life_at, moment_at, place_at}
 use Rattle.plan_check.specs.Lives.{life, lives_behind}
 
-pub reverse_push : {A : Type 0} (xs : List A) (x : A) → reverse (xs ++ x ∷ []) ≡ x ∷ reverse xs
-reverse_push xs x = reverse-append xs (x ∷ [])
-
 abbrev Places : Type 0
 Places = List (List ℕ × ℕ)
 
