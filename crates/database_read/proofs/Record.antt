@@ -1,6 +1,6 @@
 -- What the texts of the files in a package's folder tell is what the folder tells.
 use Rattle.std.proofs.Common.{◌≡◌, ◌∙◌, ℕ, List, Result, Ok, Err, MatchResult, ap, sym, subst, inl, inr}
-use Rattle.dep_atom.specs.Ids.{IsId, id_text}
+use Rattle.dep_atom.specs.Ids.{IsId, IsIdOf, id_text}
 use Rattle.dep_atom.specs.declared.package.PackageId.{PackageId}
 use Rattle.file_tree.specs.Disk.{Map}
 use Rattle.file_tree.specs.declared.fault.TreeFault.TheVariants as trees
@@ -11,13 +11,13 @@ use Rattle.record_read.specs.Faults.{FirstFault}
 use Rattle.record_read.specs.Texts.{Tell, Texts, folder_texts}
 use Rattle.record_read.specs.declared.fault.RecordFault.{RecordFault}
 use Rattle.database_read.specs.Faults.{FolderFault, located}
-use Rattle.database_read.specs.Telling.{IsOwner, Tells, texts_at}
+use Rattle.database_read.specs.Telling.{Tells, texts_at}
 use Rattle.database_read.specs.Machine.{IsOfMachine}
 use Rattle.database_read.specs.declared.fault.DatabaseFault.{DatabaseFault}
 use Rattle.database_read.specs.declared.fault.DatabaseFault.TheVariants.{Tree}
 use Rattle.database_read.proofs.Files.{own_texts}
 
-module _ (m : Map) (text : List ℕ) (id : PackageId) (owner : IsOwner text id) (t : Texts) (are : t ≡ texts_at m text) where
+module _ (m : Map) (text : List ℕ) (id : PackageId) (owner : IsIdOf text id) (t : Texts) (are : t ≡ texts_at m text) where
   own : t ≡ folder_texts (folder m id)
   own = are ∙ own_texts m id text owner.named
 

@@ -3,7 +3,7 @@ use Rattle.std.specs.Prelude.{◌≡◌, ◌⊎◌, ℕ, List, ◌∷◌, ◌++�
 use Rattle.std.specs.declared.cmp.Ordering.TheVariants.{Less}
 use Rattle.basics.specs.Members.{Has}
 use Rattle.pms_names.specs.Flags.{byte_order}
-use Rattle.dep_atom.specs.Ids.{IsId, id_text}
+use Rattle.dep_atom.specs.Ids.{IsId, IsNoId, id_text}
 use Rattle.dep_atom.specs.declared.package.PackageId.{PackageId}
 use Rattle.file_tree.specs.Disk.{Map}
 use Rattle.file_tree.specs.declared.fault.TreeFault.TheVariants as trees
@@ -21,7 +21,7 @@ use Rattle.path_overlap.specs.declared.overlap.Overlap.TheVariants as overlaps
 use Rattle.database_read.specs.Folders.{IsFolder}
 use Rattle.database_read.specs.Limits.{AreMany, AreWithin}
 use Rattle.database_read.specs.Owned.{IsAbove, IsOwnedBelow, IsOwnedTwice}
-use Rattle.database_read.specs.Telling.{IsNameless, Tells, file_path, folder_path}
+use Rattle.database_read.specs.Telling.{Tells, file_path, folder_path}
 use Rattle.database_read.specs.declared.fault.DatabaseFault.{DatabaseFault}
 use Rattle.database_read.specs.declared.fault.DatabaseFault.TheVariants.{Name, Missing, Eapi, Text, Dep, Limit, OwnedTwice, Nested, Tree}
 
@@ -35,7 +35,7 @@ located text record_faults.Memory = Tree trees.Memory
 
 -- no package has the folder of this text, and its path is told
 pub record IsBadName (text : List ℕ) (fault : DatabaseFault) : Type 0 where
-  pub nameless : IsNameless text
+  pub nameless : IsNoId text
   pub told : fault ≡ Name (folder_path text)
 
 -- a package has the folder of this text, and the first fault of its record is told

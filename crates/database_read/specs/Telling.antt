@@ -1,8 +1,7 @@
 -- What the folders of a map's database tell of their packages.
 use Rattle.std.specs.Prelude.{◌≡◌, ℕ, List, ◌∷◌, ◌++◌, codes}
 use Rattle.std.specs.List.{AllZip}
-use Rattle.dep_atom.specs.Ids.{IsId, id_text}
-use Rattle.dep_atom.specs.declared.package.PackageId.{PackageId}
+use Rattle.dep_atom.specs.Ids.{IsId}
 use Rattle.file_tree.specs.Disk.{Map}
 use Rattle.database_law.specs.Database.{folder, folder_name}
 use Rattle.database_law.specs.Fields.{Field, Says, name_of, text_of}
@@ -20,16 +19,6 @@ file_path text k = codes "var/db/pkg/" ++ (text ++ (47 ∷ name_of k))
 -- the texts of the files in the folder of this text
 abbrev pub texts_at : Map → List ℕ → Texts
 texts_at m text k = text_of (m (file_path text k))
-
--- no package has the folder of this text
-abbrev pub IsNameless : List ℕ → Type 0
-IsNameless text = (id : PackageId) → IsId id → ¬ (text ≡ id_text id)
-
--- this package, and no other, has the folder of this text
-pub record IsOwner (text : List ℕ) (id : PackageId) : Type 0 where
-  pub is : IsId id
-  pub named : text ≡ id_text id
-  pub only : (other : PackageId) → IsId other → text ≡ id_text other → other ≡ id
 
 -- the folder of this text tells this package
 pub record Tells (m : Map) (text : List ℕ) (p : Installed) : Type 0 where

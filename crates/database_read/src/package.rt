@@ -1,4 +1,4 @@
-ghost use Rattle.std.specs.Prelude.{◌≡◌, ◌⊎◌, IfErr, IfOk, IsErrOf, IsTrue, MatchOption};
+ghost use Rattle.std.specs.Prelude.{◌≡◌, ◌⊎◌, IfErr, IfOk, IsErrOf, IsTrue};
 ghost use Rattle.std.specs.Prelude.{MatchResult};
 ghost use Rattle.file_tree.specs.Disk.{CountsFault};
 ghost use Rattle.database_law.specs.Packages.{Installed as InstalledValue};
@@ -8,13 +8,13 @@ ghost use Rattle.record_read.specs.Views.{texts_in};
 ghost use Rattle.record_read.specs.declared.fault.RecordFault.{RecordFault as RecordFaultValue};
 ghost use Rattle.database_read.specs.Faults.{FolderFault, located};
 ghost use Rattle.database_read.specs.Machine.{IsOfMachine};
-ghost use Rattle.database_read.specs.Telling.{IsNameless, IsOwner, Tells};
+ghost use Rattle.database_read.specs.Telling.{Tells};
 
 use crate::fault::DatabaseFault;
 use crate::paths::{file_path, folder_path};
 use crate::texts::read_texts;
 use basics::Text;
-use dep_atom::{AtomFault, PackageId};
+use dep_atom::PackageId;
 use file_tree::{Tree, TreeFault};
 use record_read::{Installed, RecordFault, RecordFile, RecordTexts, read_record};
 use std::alloc::{AllocError, Global};
@@ -37,7 +37,7 @@ pub(crate) fn read_package<T: Tree>(
         (T.faults tree.old) (T.faults tree.new) }
 {
     let folder = folder.as_str();
-    let Some(id) = package_of(alloc, folder)? else {
+    let Some(id) = PackageId::from_text(alloc, folder)? else {
         let path = folder_path(alloc, folder)?;
         return Err(DatabaseFault::Name { path });
     };
@@ -63,22 +63,6 @@ fn package_in(
     match read_record(alloc, id, texts) {
         Ok(package) => Ok(package),
         Err(fault) => Err(located(alloc, folder, fault)?),
-    }
-}
-
-/// The package whose folder has this text.
-fn package_of(alloc: Global, folder: &str) -> Result<Option<PackageId>, AllocError>
-    ensures { IfOk result (λ r. MatchOption r (IsNameless folder.now) (IsOwner folder.now)) }
-{
-    let Some((category, pf)) = folder.split_once('/') else {
-        return Ok(None);
-    };
-    match PackageId::parse(alloc, category, pf) {
-        Ok(id) => Ok(Some(id)),
-        Err(fault) => match fault {
-            AtomFault::Memory => Err(AllocError),
-            _ => Ok(None),
-        },
     }
 }
 

@@ -1,6 +1,7 @@
 use Rattle.std.proofs.Common.{◌≡◌, ◌⊎◌, ◌∙◌, List, ap, inl, inr, subst, ℕ}
 use Rattle.std.proofs.lemmas.Option.{MatchOption-at_some}
 use Rattle.std.proofs.lemmas.Result.{IfErr-weaker, IfOk-weaker}
+use Rattle.dep_atom.specs.Ids.{IsIdOf, IsNoId}
 use Rattle.dep_atom.specs.declared.package.PackageId.{PackageId}
 use Rattle.file_tree.specs.declared.fault.TreeFault.TheVariants as trees
 use Rattle.record_read.specs.Faults.{FirstFault}
@@ -9,7 +10,7 @@ use Rattle.record_read.specs.Views.{texts_in}
 use Rattle.record_read.specs.declared.fault.RecordFault.{RecordFault}
 use Rattle.database_read.specs.Faults.{FolderFault, located}
 use Rattle.database_read.specs.Machine.{IsOfMachine}
-use Rattle.database_read.specs.Telling.{IsNameless, IsOwner, Tells, texts_at}
+use Rattle.database_read.specs.Telling.{Tells, texts_at}
 use Rattle.database_read.specs.declared.fault.DatabaseFault.TheVariants.{Tree}
 use Rattle.database_read.proofs.Record.{bad_record, of_machine, tells, told_by}
 use Rattle.database_read.proofs.package.read_package.Goals as goal
@@ -21,7 +22,7 @@ returns-clause-found g c t =
     let spelled : List ℕ = c.as_str-folder.result.now in
     let same : spelled ≡ text = c.as_str-folder.ensures in
     let id : PackageId = c.in-Some.id in
-    let owner : IsOwner text id = subst (λ (s : List ℕ). IsOwner s id) same (MatchOption-at_some (IsNameless spelled) (IsOwner spelled) id c.in-Some.is c.in_ok-id.ensures) in
+    let owner : IsIdOf text id = subst (λ (s : List ℕ). IsIdOf s id) same (MatchOption-at_some (IsNoId spelled) (IsIdOf spelled) id c.in-Some.is c.in_ok-id.ensures) in
     let texts = texts_in c.in_ok-texts.texts in
     let are = c.in_ok-texts.ensures.texts t ∙ ap (λ (s : List ℕ). texts_at m s) same in
     IfOk-weaker c.package_in.result (Tell texts id) (Tells m text) (tells m text id owner texts are) c.package_in.ensures.found
@@ -33,7 +34,7 @@ returns-clause-only g c t p h =
     let spelled : List ℕ = c.as_str-folder.result.now in
     let same : spelled ≡ text = c.as_str-folder.ensures in
     let id : PackageId = c.in-Some.id in
-    let owner : IsOwner text id = subst (λ (s : List ℕ). IsOwner s id) same (MatchOption-at_some (IsNameless spelled) (IsOwner spelled) id c.in-Some.is c.in_ok-id.ensures) in
+    let owner : IsIdOf text id = subst (λ (s : List ℕ). IsIdOf s id) same (MatchOption-at_some (IsNoId spelled) (IsIdOf spelled) id c.in-Some.is c.in_ok-id.ensures) in
     let texts = texts_in c.in_ok-texts.texts in
     let are = c.in_ok-texts.ensures.texts t ∙ ap (λ (s : List ℕ). texts_at m s) same in
     of_machine c.package_in.result (λ r. r ≡ p) (c.package_in.ensures.only p (told_by m text id owner texts are p h))
@@ -45,7 +46,7 @@ returns-clause-fault g c t =
     let spelled : List ℕ = c.as_str-folder.result.now in
     let same : spelled ≡ text = c.as_str-folder.ensures in
     let id : PackageId = c.in-Some.id in
-    let owner : IsOwner text id = subst (λ (s : List ℕ). IsOwner s id) same (MatchOption-at_some (IsNameless spelled) (IsOwner spelled) id c.in-Some.is c.in_ok-id.ensures) in
+    let owner : IsIdOf text id = subst (λ (s : List ℕ). IsIdOf s id) same (MatchOption-at_some (IsNoId spelled) (IsIdOf spelled) id c.in-Some.is c.in_ok-id.ensures) in
     let texts = texts_in c.in_ok-texts.texts in
     let are = c.in_ok-texts.ensures.texts t ∙ ap (λ (s : List ℕ). texts_at m s) same in
     IfErr-weaker c.package_in.result (λ e. (e ≡ Tree trees.Memory) ⊎ ((f : RecordFault) × FirstFault texts f × (e ≡ located spelled f))) (λ e. IsOfMachine e ⊎ FolderFault m text e)
