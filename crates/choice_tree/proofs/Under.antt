@@ -6,7 +6,7 @@ use Rattle.std.specs.BTreeMap.{get_by_text}
 use Rattle.std.specs.List.{flat_map, list_any}
 use Rattle.std.specs.Option.{option_and_then, option_map_or}
 use Rattle.std.proofs.Math.Seq.{get_or-append_seam}
-use Rattle.std.proofs.lemmas.Bool.{cases_Bool, or_left, or_parts}
+use Rattle.std.proofs.lemmas.Bool.{cases_Bool, or_left, or_parts, or_right}
 use Rattle.std.proofs.lemmas.Bool.Decides.{eqb_tells}
 use Rattle.std.proofs.lemmas.List.{append-nil, length-append, length-map}
 use Rattle.std.proofs.lemmas.List.Elements.{filter-append}
@@ -33,10 +33,6 @@ use Rattle.choice_tree.specs.declared.key.Key.TheVariants.{Own}
 use Rattle.choice_tree.proofs.Numbers.{numbers_have, numbers_last}
 use Rattle.choice_tree.proofs.Packages.{any_here}
 use Rattle.choice_tree.proofs.Turned.{offer_in}
-
-or_right : (a b : Bool) → b ≡ true → (a || b) ≡ true
-or_right true b e = refl
-or_right false b e = e
 
 nat_eq_itself : (l : ℕ) → nat_eq l l ≡ true
 nat_eq_itself l = elim (eqb_tells l l) [ inl r ↦ r.0 | inr r ↦ absurd (r.1 refl) ]

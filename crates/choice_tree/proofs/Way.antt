@@ -16,14 +16,11 @@ use Rattle.choice_tree.specs.declared.turn.Turn.{Turn}
 use Rattle.choice_tree.proofs.Numbers.{get_mapped, get_numbered, length_numbers}
 use Rattle.choice_tree.proofs.Turned.{placed_after}
 
-pub newest_first : {A : Type 0} (trail : List A) (t : A) → reverse (trail ++ t ∷ []) ≡ t ∷ reverse trail
-newest_first trail t = reverse-append trail (t ∷ [])
-
 pub here_more : (trail now : List Turn) (t : Turn) → now ≡ trail ++ t ∷ [] → here now ≡ decision_as t.decision ∷ here trail
-here_more trail now t is = ap here is ∙ ap choice_of (newest_first trail t)
+here_more trail now t is = ap here is ∙ ap choice_of (reverse-append trail (t ∷ []))
 
 pub above_more : (trail now : List Turn) (t : Turn) → now ≡ trail ++ t ∷ [] → above now ≡ (if t.begins then here trail ∷ above trail else above trail)
-above_more trail now t is = ap above is ∙ ap begun_of (newest_first trail t)
+above_more trail now t is = ap above is ∙ ap begun_of (reverse-append trail (t ∷ []))
 
 tail_same : {A : Type 0} (x y : A) (xs ys : List A) → ◌≡◌ {A = List A} (x ∷ xs) (y ∷ ys) → (x ≡ y) × (xs ≡ ys)
 tail_same x y xs ys e = (cc e, cc e)
@@ -95,18 +92,18 @@ way_on u old new t ss ts pushed there done =
 
 pub before_on : (u : Universe) (old new : List Turn) (t : Turn) → new ≡ old ++ t ∷ [] → AreBefore u (reverse old) → option_map value_of t.before ≡ decided (here old) t.decision.line → AreBefore u (reverse new)
 before_on u old new t pushed are was =
-    subst (λ (ts : List Turn). AreBefore u ts) (sym (ap reverse pushed ∙ newest_first old t)) (before_more u (reverse old) t are was)
+    subst (λ (ts : List Turn). AreBefore u ts) (sym (ap reverse pushed ∙ reverse-append old (t ∷ []))) (before_more u (reverse old) t are was)
 
 -- .. and back
 pub way_back : (u : Universe) (old new : List Turn) (t : Turn) (ss ts : List Place) → old ≡ new ++ t ∷ [] → ss ≡ places u (here old) → AreBefore u (reverse old) → ts ≡ with_decided ss t.decision.line (option_map value_of t.before) → ts ≡ places u (here new)
 way_back u old new t ss ts is there are done =
-    let turned : reverse old ≡ t ∷ reverse new = ap reverse is ∙ newest_first new t in
+    let turned : reverse old ≡ t ∷ reverse new = ap reverse is ∙ reverse-append new (t ∷ []) in
     done ∙ (ap (λ (rs : List Place). with_decided rs t.decision.line (option_map value_of t.before)) (there ∙ ap (places u) (here_more new old t is))
     ∙ gone_back u (here new) (decision_as t.decision) (option_map value_of t.before) (λ less. are t [] (reverse new) turned less))
 
 pub before_back : (u : Universe) (old new : List Turn) (t : Turn) → old ≡ new ++ t ∷ [] → AreBefore u (reverse old) → AreBefore u (reverse new)
 before_back u old new t is are =
-    before_less u (reverse new) t (subst (λ (ts : List Turn). AreBefore u ts) (ap reverse is ∙ newest_first new t) are)
+    before_less u (reverse new) t (subst (λ (ts : List Turn). AreBefore u ts) (ap reverse is ∙ reverse-append new (t ∷ [])) are)
 
 -- a decision that doesn't begin a step is none from which one began
 pub above_same : (old new : List Turn) (t : Turn) → old ≡ new ++ t ∷ [] → t.begins ≡ false → above old ≡ above new
