@@ -33,15 +33,6 @@ fn is_new(value: Value) -> bool
     }
 }
 
-fn value(offer: &Offer, decided: Option<Value>) -> Value
-    ensures { value_of result ≡ value_of_line offer.now decided }
-{
-    match decided {
-        Some(value) => value,
-        None => offer.as_is(),
-    }
-}
-
 impl<'a> Place<'a> {
     pub(crate) fn new(
         alloc: Global,
@@ -51,7 +42,7 @@ impl<'a> Place<'a> {
         ensures offer { IfOk result (λ p. p.offer.now ≡ offer.now) }
         ensures decided { IfOk result (λ p. p.decided ≡ decided) }
     {
-        let value = value(offer, decided);
+        let value = offer.value(decided);
         let standing = match offer.package(value) {
             Some(owner) => Some(Standing::new(alloc, owner, is_new(value))?),
             None => None,

@@ -1,6 +1,7 @@
 ghost use Rattle.std.specs.Prelude.{◌≡◌};
 ghost use Rattle.std.specs.Option.{option_map};
 ghost use Rattle.choice_law.specs.Universe.{package_of, standing};
+ghost use Rattle.choice_tree.specs.Lines.{value_of_line};
 ghost use Rattle.choice_tree.specs.Views.{offer_of, value_of};
 
 use crate::value::Value;
@@ -32,6 +33,16 @@ impl Offer {
         match self.installed {
             Some(_) => Value::Keep,
             None => Value::Absent,
+        }
+    }
+
+    /// The value of a line of which this is decided.
+    pub fn value(&self, decided: Option<Value>) -> Value
+        ensures { value_of result ≡ value_of_line self.now decided }
+    {
+        match decided {
+            Some(value) => value,
+            None => self.as_is(),
         }
     }
 

@@ -1,7 +1,6 @@
 ghost use Rattle.std.specs.Prelude.{◌≡◌, ◌++◌, IfOk, OnOk, map};
 ghost use Rattle.std.specs.Option.{option_map};
 ghost use Rattle.choice_law.specs.Universe.{as_list};
-ghost use Rattle.choice_tree.specs.Lines.{value_of_line};
 ghost use Rattle.choice_tree.specs.Views.{offer_of, universe_of, value_of};
 ghost use Rattle.single_plan.specs.Changes.{arriving, leaving, part_of, those};
 
@@ -9,15 +8,6 @@ use crate::part::Part;
 use choice_tree::{Choice, Offer, Universe, Value};
 use pkg_state::Pkg;
 use std::alloc::{AllocError, Global};
-
-fn value_on(offer: &Offer, decided: Option<Value>) -> Value
-    ensures { value_of result ≡ value_of_line offer.now decided }
-{
-    match decided {
-        Some(value) => value,
-        None => offer.as_is(),
-    }
-}
 
 fn leaving(offer: &Offer, value: Value) -> Option<&Pkg>
     ensures { option_map (λ p. p.now) result ≡ leaving (offer_of offer.now) (value_of value) }
@@ -76,7 +66,7 @@ pub(crate) fn those<'a>(
 {
     let mut out = Vec::new(alloc);
     for (line, offer) in universe.offers.iter().enumerate() {
-        let value = value_on(offer, choice.decided(line));
+        let value = offer.value(choice.decided(line));
         push_part(part, offer, value, &mut out)?;
     }
     Ok(out)

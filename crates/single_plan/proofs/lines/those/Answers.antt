@@ -29,5 +29,5 @@ loop-line-preserved c =
     let part = c.args.part in
     gathered_more part (universe_of u) c.args.choice.now _ _ l (omega (arith, long, test))
     (c.in_ok-push_part.ensures ∙ ap (λ os. map (λ p. p.now) c.loop-line.out.items ++ as_list os)
-    (ap (λ (v : Value). part_of part (offer_of c.offer-item.result) v) c.value_on-value.ensures ∙ ap (part_in part) place))
+    (ap (λ (v : Value). part_of part (offer_of c.offer-item.result) v) c.value-value.ensures ∙ ap (part_in part) place))
     c.loop-line.invariant
