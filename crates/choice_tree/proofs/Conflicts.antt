@@ -2,18 +2,15 @@
 use Rattle.std.proofs.Common.{◌≡◌, ◌||◌, ◌&&◌, ◌++◌, Bool, true, false, cond, List, [], ◌∷◌, filter, refl, ap, ◌∙◌}
 use Rattle.std.specs.List.{list_any}
 use Rattle.std.proofs.lemmas.List.Folds.{list_any-append}
-use Rattle.pms_names.specs.Flags.{has}
 use Rattle.dep_atom.specs.Match.{value_matches}
 use Rattle.dep_atom.specs.Values.{AtomValue}
-use Rattle.dep_group.specs.Trees.{all_leaves}
 use Rattle.dep_tree.specs.Grammar.{is_block}
-use Rattle.dep_tree.specs.Truth.{kind}
-use Rattle.pkg_state.specs.Consistent.{class_blocks}
-use Rattle.pkg_state.specs.Package.{Package, tree_of}
+use Rattle.pkg_state.specs.Consistent.{blocks_in, class_blocks, leaves_in}
+use Rattle.pkg_state.specs.Package.{Package}
 use Rattle.pkg_state.specs.declared.class.Class.{Class}
 use Rattle.pkg_state.specs.declared.class.Class.TheVariants.{Bdepend, Depend, Idepend, Pdepend, Rdepend}
 use Rattle.choice_law.specs.Universe.{conflicts, same_version}
-use Rattle.choice_tree.specs.Blocks.{blocks_in, blocks_of, build_blocks, hit}
+use Rattle.choice_tree.specs.Blocks.{blocks_of, build_blocks, hit}
 
 filter_step : {A : Type 0} (b : Bool) (test : A → Bool) (x : A) (xs : List A) → list_any test (cond b (x ∷ xs) xs) ≡ ((b && test x) || list_any test xs)
 filter_step true test x xs = refl
@@ -27,7 +24,7 @@ any_kept keep test (x ∷ xs) =
 module _ (p q : Package) where
   class_hit : (class : Class) → hit (blocks_in class p) p q ≡ class_blocks class p q
   class_hit class =
-      any_kept is_block (λ a. value_matches a q.facts p.facts.enabled) (all_leaves kind (has p.facts.enabled) (tree_of class p))
+      any_kept is_block (λ a. value_matches a q.facts p.facts.enabled) (leaves_in class p)
 
   both : (xs ys : List AtomValue) → hit (xs ++ ys) p q ≡ (hit xs p q || hit ys p q)
   both xs ys = list_any-append (λ a. value_matches a q.facts p.facts.enabled) xs ys

@@ -11,13 +11,12 @@ use Rattle.dep_atom.specs.Values.{AtomValue}
 use Rattle.dep_atom.specs.declared.package.Facts.{Facts}
 use Rattle.dep_tree.specs.Grammar.{is_block}
 use Rattle.dep_tree.specs.Truth.{is_fact, some_match}
-use Rattle.pkg_state.specs.Consistent.{facts_of, fits_required, is_met}
+use Rattle.pkg_state.specs.Consistent.{facts_of, fits_required, is_met, leaves_in}
 use Rattle.pkg_state.specs.Package.{Package, tree_of}
 use Rattle.pkg_state.specs.declared.class.Class.{Class}
 use Rattle.pkg_state.proofs.Lists.{find_map}
 use Rattle.choice_law.specs.Tree.{Obligation, conflict, required, tree}
 use Rattle.choice_law.specs.Universe.{conflicts, counts, is_new}
-use Rattle.choice_tree.specs.Keys.{leaves_in}
 use Rattle.choice_tree.specs.Open.{classes, is_open_of, obligations_of, opposes}
 use Rattle.choice_tree.specs.Places.{Place, is_one, no_place, numbers, package_in, packages_in, value_in}
 use Rattle.choice_tree.proofs.Packages.{any_here}

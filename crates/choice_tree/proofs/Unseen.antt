@@ -11,14 +11,14 @@ use Rattle.dep_atom.specs.Ids.{id_text}
 use Rattle.dep_atom.specs.Match.{value_matches}
 use Rattle.dep_atom.specs.Values.{AtomValue}
 use Rattle.dep_tree.specs.Grammar.{is_block}
-use Rattle.pkg_state.specs.Consistent.{class_blocks}
+use Rattle.pkg_state.specs.Consistent.{class_blocks, leaves_in}
 use Rattle.pkg_state.specs.Package.{Package}
 use Rattle.pkg_state.specs.declared.class.Class.{Class}
 use Rattle.pkg_state.specs.declared.class.Class.TheVariants.{Bdepend, Depend, Idepend, Pdepend, Rdepend}
 use Rattle.pkg_state.proofs.Lists.{any_none, none_passes}
 use Rattle.pkg_state.proofs.Named.{same_package}
 use Rattle.choice_law.specs.Universe.{conflicts, no_offer}
-use Rattle.choice_tree.specs.Keys.{AreKeyed, Lists, has_key, keyed, leaves_in, lines_at, names_in, offers_in, offers_key}
+use Rattle.choice_tree.specs.Keys.{AreKeyed, Lists, has_key, keyed, lines_at, names_in, offers_in, offers_key}
 use Rattle.choice_tree.specs.Open.{classes}
 use Rattle.choice_tree.specs.Places.{Place, is_one, no_place, numbers, package_in}
 use Rattle.choice_tree.specs.Settled.{lines_about, lines_around}

@@ -1,18 +1,11 @@
 -- Which blocks of a package count against the others.
-use Rattle.std.specs.Prelude.{Bool, ◌++◌, List, [], filter, if◌then◌else◌}
+use Rattle.std.specs.Prelude.{Bool, ◌++◌, List, [], if◌then◌else◌}
 use Rattle.std.specs.List.{list_any}
-use Rattle.pms_names.specs.Flags.{has}
 use Rattle.dep_atom.specs.Match.{value_matches}
 use Rattle.dep_atom.specs.Values.{AtomValue}
-use Rattle.dep_group.specs.Trees.{all_leaves}
-use Rattle.dep_tree.specs.Grammar.{is_block}
-use Rattle.dep_tree.specs.Truth.{kind}
-use Rattle.pkg_state.specs.Package.{Package, tree_of}
-use Rattle.pkg_state.specs.declared.class.Class.{Class}
+use Rattle.pkg_state.specs.Consistent.{blocks_in}
+use Rattle.pkg_state.specs.Package.{Package}
 use Rattle.pkg_state.specs.declared.class.Class.TheVariants.{Bdepend, Depend, Idepend, Pdepend, Rdepend}
-
-abbrev pub blocks_in : Class → Package → List AtomValue
-blocks_in class p = filter is_block (all_leaves kind (has p.facts.enabled) (tree_of class p))
 
 -- those of its build count while it is new
 abbrev pub build_blocks : Package → List AtomValue

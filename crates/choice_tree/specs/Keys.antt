@@ -4,12 +4,9 @@ use Rattle.std.specs.Global.{Global}
 use Rattle.std.specs.BTreeMap.{BTreeMap, get_by_text}
 use Rattle.std.specs.List.{list_any}
 use Rattle.std.specs.Option.{option_map_or}
-use Rattle.pms_names.specs.Flags.{has}
 use Rattle.dep_atom.specs.Ids.{id_text}
-use Rattle.dep_atom.specs.Values.{AtomValue}
-use Rattle.dep_group.specs.Trees.{all_leaves}
-use Rattle.dep_tree.specs.Truth.{kind}
-use Rattle.pkg_state.specs.Package.{Package, tree_of}
+use Rattle.pkg_state.specs.Consistent.{leaves_in}
+use Rattle.pkg_state.specs.Package.{Package}
 use Rattle.pkg_state.specs.declared.class.Class.{Class}
 use Rattle.choice_law.specs.Universe.{Offer, no_offer}
 use Rattle.choice_tree.specs.Open.{classes}
@@ -23,9 +20,6 @@ Lists = BTreeMap (String Global) (Vec ℕ Global)
 -- the lines that stand under a text
 abbrev pub lines_at : Lists → List ℕ → List ℕ
 lines_at lists text = option_map_or (λ v. v.items) (get_by_text lists text) []
-
-abbrev pub leaves_in : Class → Package → List AtomValue
-leaves_in class p = all_leaves kind (has p.facts.enabled) (tree_of class p)
 
 -- a leaf of the class has this name
 abbrev pub names_in : List ℕ → Package → Class → Bool

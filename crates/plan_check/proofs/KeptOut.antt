@@ -7,14 +7,14 @@ use Rattle.basics.proofs.Tests.{and-true}
 use Rattle.dep_atom.specs.Match.{value_matches}
 use Rattle.dep_atom.specs.Values.{AtomValue}
 use Rattle.dep_tree.specs.Grammar.{is_block}
-use Rattle.pkg_state.specs.Consistent.{blocks, class_blocks, shares_line}
+use Rattle.pkg_state.specs.Consistent.{blocks, blocks_in, class_blocks, leaves_in, shares_line}
 use Rattle.pkg_state.specs.Package.{Package, line_of}
 use Rattle.pkg_state.specs.declared.class.Class.{Class}
 use Rattle.pkg_state.specs.declared.class.Class.TheVariants.{Bdepend, Depend, Idepend, Pdepend, Rdepend}
 use Rattle.plan_law.specs.Plans.{Group}
 use Rattle.plan_law.specs.Lives.{Life, Meets, Stretch, stretch_of, until}
 use Rattle.plan_law.specs.Sound.{bars, class_blocks_strongly, is_strong_block}
-use Rattle.plan_check.specs.Keeping.{IsMet, barring_blocks, blocks_in, is_kept_out, leaves_of, running_blocks, strong_blocks_in}
+use Rattle.plan_check.specs.Keeping.{IsMet, barring_blocks, is_kept_out, running_blocks, strong_blocks_in}
 use Rattle.plan_check.specs.Refusals.{Refusal as refused}
 use Rattle.plan_check.specs.Verdicts.{each, refuse}
 
@@ -31,10 +31,10 @@ module _ (p q : Package) where
   f a = value_matches a q.facts p.facts.enabled
 
   in_class : (class : Class) → list_any f (blocks_in class p) ≡ class_blocks class p q
-  in_class class = any_filter is_block f (leaves_of class p)
+  in_class class = any_filter is_block f (leaves_in class p)
 
   strongly : (class : Class) → list_any f (strong_blocks_in class p) ≡ class_blocks_strongly class p q
-  strongly class = any_filter (λ (a : AtomValue). is_strong_block a.block) f (leaves_of class p)
+  strongly class = any_filter (λ (a : AtomValue). is_strong_block a.block) f (leaves_in class p)
 
   joined : (one two : List AtomValue) (a b : Bool) → list_any f one ≡ a → list_any f two ≡ b → list_any f (one ++ two) ≡ (a || b)
   joined one two a b e h = list_any-append f one two ∙ (λ i. e i || h i)

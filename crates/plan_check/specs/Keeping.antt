@@ -1,28 +1,19 @@
 -- What the blocks of a package keep out.
 use Rattle.std.specs.Prelude.{◌≡◌, ◌&&◌, ◌++◌, ℕ, Bool, true, not, List, Option, None, Some, bytes_eq, filter}
 use Rattle.std.specs.List.{list_any}
-use Rattle.pms_names.specs.Flags.{has}
 use Rattle.dep_atom.specs.Match.{value_matches}
 use Rattle.dep_atom.specs.Values.{AtomValue}
-use Rattle.dep_group.specs.Trees.{all_leaves}
-use Rattle.dep_tree.specs.Grammar.{is_block}
-use Rattle.dep_tree.specs.Truth.{kind}
-use Rattle.pkg_state.specs.Package.{Package, line_of, tree_of}
+use Rattle.pkg_state.specs.Consistent.{blocks_in, leaves_in}
+use Rattle.pkg_state.specs.Package.{Package, line_of}
 use Rattle.pkg_state.specs.declared.class.Class.{Class}
 use Rattle.pkg_state.specs.declared.class.Class.TheVariants.{Bdepend, Depend, Idepend, Pdepend, Rdepend}
 use Rattle.plan_law.specs.Plans.{Group}
 use Rattle.plan_law.specs.Lives.{Life, Meets, Stretch}
 use Rattle.plan_law.specs.Sound.{is_strong_block}
 
--- the leaves of a class that count
-abbrev pub leaves_of : Class → Package → List AtomValue
-leaves_of class p = all_leaves kind (has p.facts.enabled) (tree_of class p)
-
-abbrev pub blocks_in : Class → Package → List AtomValue
-blocks_in class p = filter is_block (leaves_of class p)
-
+-- the strong blocks of a class that count
 abbrev pub strong_blocks_in : Class → Package → List AtomValue
-strong_blocks_in class p = filter (λ a. is_strong_block a.block) (leaves_of class p)
+strong_blocks_in class p = filter (λ a. is_strong_block a.block) (leaves_in class p)
 
 -- the blocks of a package that count while it is there
 abbrev pub running_blocks : Package → List AtomValue

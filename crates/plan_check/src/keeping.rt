@@ -3,11 +3,9 @@ ghost use Rattle.std.specs.List.{list_any};
 ghost use Rattle.dep_atom.specs.Match.{value_matches};
 ghost use Rattle.dep_atom.specs.Values.{atom_value};
 ghost use Rattle.plan_law.specs.Sound.{is_strong_block};
-ghost use Rattle.plan_check.specs.Keeping.{barring_blocks, blocks_in, running_blocks};
-ghost use Rattle.plan_check.specs.Keeping.{strong_blocks_in};
+ghost use Rattle.plan_check.specs.Keeping.{barring_blocks, running_blocks, strong_blocks_in};
 
 use dep_atom::{Atom, Block};
-use dep_tree::is_block;
 use pkg_state::{Class, Pkg};
 use pms_names::Flags;
 use std::alloc::{AllocError, Global};
@@ -19,24 +17,6 @@ fn is_strong_block(atom: &Atom) -> bool
         Block::No | Block::Weak => false,
         Block::Strong => true,
     }
-}
-
-fn add_blocks<'a>(
-    alloc: Global,
-    pkg: &'a Pkg,
-    class: Class,
-    blocks: &mut Vec<&'a Atom>,
-) -> Result<(), AllocError>
-    ensures { OnOk result (map (λ atom. atom_value atom.now) blocks.new.items ≡
-        map (λ atom. atom_value atom.now) blocks.old.items ++ blocks_in class pkg.now) }
-{
-    let leaves = pkg.tree(class).leaves(alloc, &pkg.facts.enabled)?;
-    for &atom in &leaves {
-        if is_block(atom) {
-            blocks.push(atom)?;
-        }
-    }
-    Ok(())
 }
 
 fn add_strong_blocks<'a>(
@@ -63,8 +43,8 @@ pub(crate) fn running_blocks<'a>(alloc: Global, pkg: &'a Pkg) -> Result<Vec<&'a 
         running_blocks pkg.now) }
 {
     let mut blocks = Vec::new(alloc);
-    add_blocks(alloc, pkg, Class::Rdepend, &mut blocks)?;
-    add_blocks(alloc, pkg, Class::Pdepend, &mut blocks)?;
+    pkg.push_blocks(alloc, Class::Rdepend, &mut blocks)?;
+    pkg.push_blocks(alloc, Class::Pdepend, &mut blocks)?;
     Ok(blocks)
 }
 
@@ -76,9 +56,9 @@ pub(crate) fn barring_blocks<'a>(alloc: Global, pkg: &'a Pkg) -> Result<Vec<&'a 
     let mut blocks = Vec::new(alloc);
     add_strong_blocks(alloc, pkg, Class::Rdepend, &mut blocks)?;
     add_strong_blocks(alloc, pkg, Class::Pdepend, &mut blocks)?;
-    add_blocks(alloc, pkg, Class::Depend, &mut blocks)?;
-    add_blocks(alloc, pkg, Class::Bdepend, &mut blocks)?;
-    add_blocks(alloc, pkg, Class::Idepend, &mut blocks)?;
+    pkg.push_blocks(alloc, Class::Depend, &mut blocks)?;
+    pkg.push_blocks(alloc, Class::Bdepend, &mut blocks)?;
+    pkg.push_blocks(alloc, Class::Idepend, &mut blocks)?;
     Ok(blocks)
 }
 

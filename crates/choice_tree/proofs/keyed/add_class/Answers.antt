@@ -7,8 +7,9 @@ use Rattle.dep_atom.specs.declared.atom.Atom.{Atom}
 use Rattle.dep_group.specs.Trees.{all_leaves}
 use Rattle.dep_tree.specs.Truth.{kind}
 use Rattle.dep_tree.specs.View.{trees}
+use Rattle.pkg_state.specs.Consistent.{leaves_in}
 use Rattle.pkg_state.specs.Package.{Package}
-use Rattle.choice_tree.specs.Keys.{last_if, leaves_in, lines_at}
+use Rattle.choice_tree.specs.Keys.{last_if, lines_at}
 use Rattle.choice_tree.proofs.Packages.{any_map}
 use Rattle.choice_tree.proofs.keyed.add_class.Goals as goal
 

@@ -1,8 +1,0 @@
-use Rattle.std.proofs.Common.{◌≡◌, ◌++◌, drop, filter, map}
-use Rattle.dep_atom.specs.Values.{atom_value}
-use Rattle.dep_tree.specs.Grammar.{is_block}
-use Rattle.choice_tree.specs.Blocks.{blocks_in}
-use Rattle.choice_tree.proofs.blocks.push_blocks.Given as goal
-
-abbrev pub invariant-loop-atom : goal.invariant-loop-atom
-invariant-loop-atom l = map (λ a. atom_value a.now) l.blocks.items ++ filter is_block (map (λ a. atom_value a.now) (drop l.atom-index l.atom-items)) ≡ map (λ a. atom_value a.now) l.fn.blocks.items ++ blocks_in l.fn.class l.fn.owner
