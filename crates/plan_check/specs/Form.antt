@@ -2,10 +2,7 @@
 use Rattle.std.specs.Prelude.{◌<◌, ◌≤◌, ℕ, List, length}
 use Rattle.basics.specs.Members.{Has}
 use Rattle.plan_law.specs.Plans.{Group, WaitsForEarlier}
-
--- the most groups that a plan has
-abbrev pub most_groups : ℕ
-most_groups = 4096
+use Rattle.plan_text.specs.Texts.{most_groups}
 
 -- all of these are below
 abbrev pub AreBelow : List ℕ → ℕ → Type 0

@@ -77,6 +77,6 @@ pub use binding::greater;
 pub use checking::check;
 pub use life::{Life, Moment};
 pub use lives::lives_of;
-pub use plan::{Group, MOST_GROUPS, Plan, Removal};
+pub use plan::{Group, Plan, Removal};
 pub use reach::Reach;
 pub use refusal::PlanRefused;

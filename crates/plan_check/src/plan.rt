@@ -4,11 +4,9 @@ ghost use Rattle.plan_check.specs.Form.{AreBelow, IsPlanInForm};
 
 use dep_atom::PackageId;
 use pkg_state::Pkg;
+use plan_text::MOST_GROUPS;
 use pms_names::SlotName;
 use std::marker::Model;
-
-/// The most groups that a plan has.
-pub const MOST_GROUPS: usize = 4_096;
 
 /// A package that goes, with its slot.
 #[derive(Debug, Drop)]
@@ -97,7 +95,7 @@ impl Plan {
 fn is_in_form(groups: &[Group]) -> bool
     ensures { IsTrue result ↔ IsPlanInForm groups.now }
 {
-    groups.len() <= MOST_GROUPS && waits_for_earlier(groups)
+    groups.len() <= MOST_GROUPS as usize && waits_for_earlier(groups)
 }
 
 fn waits_for_earlier(groups: &[Group]) -> bool

@@ -2,6 +2,7 @@ ghost use Rattle.std.specs.Prelude.{◌<◌, length};
 ghost use Rattle.plan_check.specs.Form.{IsPlanInForm};
 ghost use Rattle.plan_check.specs.Refusals.{Says};
 ghost use Rattle.plan_check.specs.Rules.{apart_rule, single_rule};
+ghost use Rattle.plan_text.specs.Texts.{most_groups};
 
 use crate::plan::Group;
 use crate::refusal::PlanRefused;
@@ -9,7 +10,7 @@ use pkg_state::first_twins;
 use std::alloc::Global;
 
 fn judge_group(alloc: Global, g: usize, group: &Group) -> Result<(), PlanRefused>
-    requires { g < 4096 }
+    requires { g < most_groups }
     ensures { Says (apart_rule g group.now) result }
 {
     if let Some((one, other)) = first_twins(alloc, &group.additions)? {

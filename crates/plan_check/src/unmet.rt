@@ -7,6 +7,7 @@ ghost use Rattle.plan_check.specs.Lives.{life_of};
 ghost use Rattle.plan_check.specs.PackageRules.{if_left, left_of, satisfied_rule};
 ghost use Rattle.plan_check.specs.Refusals.{Says};
 ghost use Rattle.plan_check.specs.Stretches.{IsWithin};
+ghost use Rattle.plan_text.specs.Texts.{most_groups};
 
 use crate::home::there_at;
 use crate::index::Index;
@@ -19,7 +20,7 @@ use std::alloc::Global;
 
 /// Whether what a package needs while it runs is among these.
 fn judge_among(packages: &Packages<'_>, x: &Life<'_>) -> Result<(), PlanRefused>
-    requires { IsWithin 4096 (life_of x.now).birth }
+    requires { IsWithin most_groups (life_of x.now).birth }
     ensures { Says (met_rule (life_of x.now) (map (λ p. p.now) packages.now.all.items)) result }
 {
     let pkg = x.pkg;

@@ -8,6 +8,7 @@ ghost use Rattle.plan_check.specs.Lives.{life_of, moment_of};
 ghost use Rattle.plan_check.specs.Refusals.{Says};
 ghost use Rattle.plan_check.specs.Rules.{AreOneVersion, number_of, versions_of, versions_rule};
 ghost use Rattle.plan_check.specs.Stretches.{IsStretchWithin, IsWithin, stretch_value};
+ghost use Rattle.plan_text.specs.Texts.{most_groups};
 
 use crate::index::Index;
 use crate::life::{Life, Moment};
@@ -67,7 +68,7 @@ fn are_one_version(
 
 /// The number of the group that brings what is there from this moment on.
 pub(crate) fn number_of(moment: Moment) -> usize
-    requires { IsWithin 4096 (moment_of moment) }
+    requires { IsWithin most_groups (moment_of moment) }
     ensures { result ≡ number_of (moment_of moment) }
 {
     match moment {

@@ -9,7 +9,7 @@ use Rattle.plan_law.specs.Plans as law
 use Rattle.plan_law.specs.Plans.{group_at}
 use Rattle.plan_text.specs.Numbers.{rise_between}
 use Rattle.plan_text.specs.Plans.{GroupValue}
-use Rattle.plan_text.specs.Texts.{AreGroups, IsPlan}
+use Rattle.plan_text.specs.Texts.{AreGroups, IsPlan, most_groups}
 use Rattle.plan_check.specs.Form.{IsPlanInForm}
 use Rattle.plan_link.specs.Linked.{IsLinked, IsLinkedGroup}
 use Rattle.plan_link.proofs.Pairs.{zip_length}
@@ -49,7 +49,7 @@ earlier offered n (t ∷ text) (x ∷ plan) form linked (suc g) h has =
 pub linked_form : (offered : List Package) (text : List GroupValue) (plan : List law.Group) → IsPlan text → IsLinked offered text plan → IsPlanInForm plan
 linked_form offered text plan form linked =
     let same : length plan ≡ length text = zip_length (IsLinkedGroup offered) text plan linked in
-    let few : length text ≤ 4096 = form.few in
+    let few : length text ≤ most_groups = form.few in
     record {
       few = omega (arith, same, few);
       earlier = λ g h has. (let lt : h + 1 < 1 + g = earlier offered 1 text plan form.groups linked g h has in omega (arith, lt));

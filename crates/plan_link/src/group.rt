@@ -1,6 +1,7 @@
 ghost use Rattle.std.specs.Prelude.{◌≡◌, ◌-◌, ◌<◌, IfOk, map};
 ghost use Rattle.std.specs.List.{AllZip};
 ghost use Rattle.plan_text.specs.Plans.{addition_value, group_value};
+ghost use Rattle.plan_text.specs.Texts.{most_groups};
 ghost use Rattle.plan_check.specs.Verdicts.{each};
 ghost use Rattle.plan_link.specs.Faults.{Says, addition_rule, flag_rule, group_rule};
 ghost use Rattle.plan_link.specs.Linked.{IsLinkedGroup, removal_of};
@@ -17,7 +18,7 @@ use std::alloc::{AllocError, Global};
 
 /// Whether the package knows each flag of the addition.
 fn judge_flags(g: usize, addition: &Addition, pkg: &Pkg) -> Result<(), LinkFault>
-    requires { g < 4096 }
+    requires { g < most_groups }
     ensures { Says (each (addition_value addition.now).enabled
         (flag_rule g (addition_value addition.now) pkg.now)) result }
 {
@@ -42,7 +43,7 @@ fn link_addition(
     g: usize,
     addition: &Addition,
 ) -> Result<Pkg, LinkFault>
-    requires { g < 4096 }
+    requires { g < most_groups }
     ensures brings { IfOk result (λ q.
         Brings offers.now.offered.now (addition_value addition.now) q) }
     ensures says { Says (addition_rule offers.now.offered.now g (addition_value addition.now))
@@ -65,7 +66,7 @@ fn link_additions(
     g: usize,
     additions: &[Addition],
 ) -> Result<Vec<Pkg>, LinkFault>
-    requires { g < 4096 }
+    requires { g < most_groups }
     ensures brings { IfOk result (λ linked.
         AllZip (Brings offers.now.offered.now) (map addition_value additions.now) linked.items) }
     ensures says { Says (each (map addition_value additions.now)
@@ -114,7 +115,7 @@ pub(crate) fn link_group(
     g: usize,
     group: &Group,
 ) -> Result<check::Group, LinkFault>
-    requires { g < 4096 }
+    requires { g < most_groups }
     ensures linked { IfOk result (λ r.
         IsLinkedGroup offers.now.offered.now (group_value group.now) r) }
     ensures says { Says (group_rule offers.now.offered.now g (group_value group.now)) result }

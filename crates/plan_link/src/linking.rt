@@ -1,6 +1,6 @@
 ghost use Rattle.std.specs.Prelude.{◌≡◌, ◌≢◌, ◌≤◌, IfErr, IfOk, None, Some, length, map};
 ghost use Rattle.plan_text.specs.Plans.{group_value, plan_value};
-ghost use Rattle.plan_text.specs.Texts.{IsPlan};
+ghost use Rattle.plan_text.specs.Texts.{IsPlan, most_groups};
 ghost use Rattle.plan_link.specs.Faults.{Says, link_rule};
 ghost use Rattle.plan_link.specs.Linked.{IsLinked};
 ghost use Rattle.plan_link.specs.declared.fault.LinkFault.TheVariants.{Memory};
@@ -18,7 +18,7 @@ fn link_groups(
     offers: &Offers<'_>,
     groups: &[Group],
 ) -> Result<Vec<check::Group>, LinkFault>
-    requires { length groups.now ≤ 4096 }
+    requires { length groups.now ≤ most_groups }
     ensures linked { IfOk result (λ plan.
         IsLinked offers.now.offered.now (map group_value groups.now) plan.items) }
     ensures says { Says (link_rule offers.now.offered.now (map group_value groups.now)) result }

@@ -1,6 +1,7 @@
 use Rattle.std.proofs.Common.{◌≡◌, length, map, subst, sym}
 use Rattle.pkg_state.specs.Package.{Package}
 use Rattle.plan_law.specs.Lives as law
+use Rattle.plan_text.specs.Texts.{most_groups}
 use Rattle.plan_check.specs.Home.{AreThereAt, IsThereAt}
 use Rattle.plan_check.specs.Index.{plan_of, start_of}
 use Rattle.plan_check.specs.Lives.{life_of, moment_of}
@@ -13,7 +14,7 @@ pub there_at-requires-clause-moment : goal.there_at-requires-clause-moment
 there_at-requires-clause-moment c = (lives_within (plan_of c.args.index.now) (start_of c.args.index.now) (life_of c.args.x.now) c.requires.x).0
 
 pub judge_among-requires : goal.judge_among-requires
-judge_among-requires c = within_more (length (plan_of c.args.index.now)) 4096 c.requires.is.reach_is.form.few (moment_of c.args.x.now.birth) (lives_within (plan_of c.args.index.now) (start_of c.args.index.now) (life_of c.args.x.now) c.requires.x).0
+judge_among-requires c = within_more (length (plan_of c.args.index.now)) most_groups c.requires.is.reach_is.form.few (moment_of c.args.x.now.birth) (lives_within (plan_of c.args.index.now) (start_of c.args.index.now) (life_of c.args.x.now) c.requires.x).0
 
 pub returns : goal.returns
 returns c =

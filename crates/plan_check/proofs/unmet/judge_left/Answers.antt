@@ -2,6 +2,7 @@ use Rattle.std.proofs.Common.{◌≡◌, List, length, map, subst, sym}
 use Rattle.pkg_state.specs.Package.{Package}
 use Rattle.plan_law.specs.Accepted.{AreLeft}
 use Rattle.plan_law.specs.Lives as law
+use Rattle.plan_text.specs.Texts.{most_groups}
 use Rattle.plan_check.specs.Home.{among, met_rule}
 use Rattle.plan_check.specs.Index.{plan_of, start_of}
 use Rattle.plan_check.specs.Lives.{life_of, moment_of}
@@ -15,7 +16,7 @@ use Rattle.plan_check.proofs.Within.{lives_within}
 use Rattle.plan_check.proofs.unmet.judge_left.Goals as goal
 
 pub judge_among-requires : goal.judge_among-requires
-judge_among-requires c = within_more (length (plan_of c.args.index.now)) 4096 c.requires.is.reach_is.form.few (moment_of c.args.x.now.birth) (lives_within (plan_of c.args.index.now) (start_of c.args.index.now) (life_of c.args.x.now) c.requires.x).0
+judge_among-requires c = within_more (length (plan_of c.args.index.now)) most_groups c.requires.is.reach_is.form.few (moment_of c.args.x.now.birth) (lives_within (plan_of c.args.index.now) (start_of c.args.index.now) (life_of c.args.x.now) c.requires.x).0
 
 pub returns-in-Never : goal.returns-in-Never
 returns-in-Never c =

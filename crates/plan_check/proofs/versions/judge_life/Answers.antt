@@ -2,6 +2,7 @@ use Rattle.std.proofs.Common.{◌≡◌, ◌∙◌, Option, None, Some, ap, leng
 use Rattle.dep_atom.specs.declared.package.PackageId.{PackageId}
 use Rattle.pkg_state.specs.Package.{Package}
 use Rattle.plan_law.specs.Lives as law
+use Rattle.plan_text.specs.Texts.{most_groups}
 use Rattle.plan_check.specs.Index.{all_lives, name_key, plan_of, start_of}
 use Rattle.plan_check.specs.Lives.{life_of, lives_of, moment_of}
 use Rattle.plan_check.specs.Refusals.{Refusal, Refusal as refused}
@@ -22,7 +23,7 @@ are_one_version-requires-clause-y c =
 pub number_of-requires : goal.number_of-requires
 number_of-requires c =
     let index = c.args.index.now in
-    within_more (length (plan_of index)) 4096 c.requires.is.reach_is.form.few (moment_of c.args.x.now.birth) (lives_within (plan_of index) (start_of index) (life_of c.args.x.now) c.requires.x).0
+    within_more (length (plan_of index)) most_groups c.requires.is.reach_is.form.few (moment_of c.args.x.now.birth) (lives_within (plan_of index) (start_of index) (life_of c.args.x.now) c.requires.x).0
 
 pub returns-then-branch : goal.returns-then-branch
 returns-then-branch c =
