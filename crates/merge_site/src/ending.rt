@@ -4,8 +4,7 @@ ghost use Rattle.merge_core.specs.Event.{Acknowledge, SyncClosed};
 ghost use Rattle.merge_core.specs.Steps.{IsTaken};
 ghost use Rattle.merge_site.specs.Site.{Adds, Writes};
 
-use crate::calls;
-use crate::site::{Site, enter};
+use crate::site::{Site, enter, sync_step};
 use file_tree::{Failed, Sink, Tree};
 use merge_core::Step;
 
@@ -18,18 +17,15 @@ impl<T: Tree, S: Sink> Site<T, S> {
         ensures faults { CountsFault (IsErr result) (T.faults self.old.tree)
             (T.faults self.new.tree) }
     {
-        let needs = self.core.needs_sync(group);
-        let answer = calls::sync_group(&mut self.tree, group, needs);
-        let ok = answer.is_ok();
-        enter(
+        let answer = sync_step(
+            &mut self.tree,
             &mut self.core,
             &mut self.log,
             self.alloc,
             group,
             Step::SyncClosed,
-            ok,
         );
-        if ok {
+        if answer.is_ok() {
             self.book.settle(group);
         }
         answer

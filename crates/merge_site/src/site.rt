@@ -1,5 +1,6 @@
 ghost use Rattle.std.specs.Prelude.{◌≡◌, ◌<◌, ◌≤◌, ◌^◌, ◌++◌, ◌∷◌, ◌+◌, [], ℕ, true, false};
-ghost use Rattle.std.specs.Prelude.{Ok, Some, IfOk, IfErr, IsTrue, OnErr, OnOk, length};
+ghost use Rattle.std.specs.Prelude.{Ok, Some, IfOk, IfErr, IsErr, IsTrue, OnErr, OnOk};
+ghost use Rattle.std.specs.Prelude.{is_ok, length};
 ghost use Rattle.file_tree.specs.Disk.{CountsFault};
 ghost use Rattle.file_tree.specs.Thing.{plain};
 ghost use Rattle.journal.specs.Judging.{IsStaged};
@@ -10,12 +11,13 @@ ghost use Rattle.merge_core.specs.Event.{Admits, Claim, PutRecord, PutStage, ans
 ghost use Rattle.merge_core.specs.Keeping.{machine_of};
 ghost use Rattle.merge_core.specs.Payloads.{IsApart, IsAt};
 ghost use Rattle.merge_core.specs.Site.{Performs};
-ghost use Rattle.merge_core.specs.Steps.{IsTaken, event_of};
+ghost use Rattle.merge_core.specs.Steps.{IsTaken, event_of, is_sync};
 
+use crate::calls;
 use crate::group::SiteGroup;
 use crate::history::Happened;
 use crate::job::Job;
-use file_tree::{Object, Path, Sink, Tree};
+use file_tree::{Failed, Object, Path, Sink, Tree};
 use http_server::Log;
 use merge_core::{Core, Phase, Refusal, Step};
 use merge_record::Placement;
@@ -86,6 +88,32 @@ pub(crate) fn enter(
     }
     let event = Happened::step(group, step);
     *log = log.and(&event, &ok);
+}
+
+/// Syncs the tree where the group needs that, and takes the step that asks for it into the machine
+/// and the log.
+pub(crate) fn sync_step<T: Tree>(
+    tree: &mut T,
+    core: &mut Core,
+    log: &mut Log<Happened, bool>,
+    alloc: Global,
+    group: u32,
+    step: Step,
+) -> Result<(), Failed>
+    requires sync { IsTrue (is_sync step) }
+    requires taken { IsTaken core.old group step }
+    ensures machine { machine_of core.new ≡
+        answered (machine_of core.old) (event_of group step) (is_ok result) }
+    ensures groups { length core.new.standings ≡ length core.old.standings }
+    ensures log { log.new.items ≡ log.old.items ++ (event_of group step, is_ok result) ∷ [] }
+    ensures performs { IsTrue T.tells → Performs (machine_of core.old) (event_of group step)
+        (is_ok result) (T.story tree.old) (T.story tree.new) }
+    ensures faults { CountsFault (IsErr result) (T.faults tree.old) (T.faults tree.new) }
+{
+    let needs = core.needs_sync(group);
+    let answer = calls::sync_group(tree, group, needs);
+    enter(core, log, alloc, group, step, answer.is_ok());
+    answer
 }
 
 /// Takes the claim of a sealed group into the machine and the log. It takes no memory.

@@ -6,7 +6,7 @@ ghost use Rattle.merge_core.specs.Steps.{IsTaken};
 ghost use Rattle.merge_site.specs.Site.{Adds};
 
 use crate::calls;
-use crate::site::{Site, enter};
+use crate::site::{Site, enter, sync_step};
 use file_tree::{Failed, Sink, Tree};
 use merge_core::Step;
 
@@ -53,18 +53,14 @@ impl<T: Tree, S: Sink> Site<T, S> {
         ensures faults { CountsFault (IsErr result) (T.faults self.old.tree)
             (T.faults self.new.tree) }
     {
-        let needs = self.core.needs_sync(group);
-        let answer = calls::sync_group(&mut self.tree, group, needs);
-        let ok = answer.is_ok();
-        enter(
+        sync_step(
+            &mut self.tree,
             &mut self.core,
             &mut self.log,
             self.alloc,
             group,
             Step::SyncSealed,
-            ok,
-        );
-        answer
+        )
     }
 
     /// Makes the opened gate of a group durable.
@@ -75,18 +71,14 @@ impl<T: Tree, S: Sink> Site<T, S> {
         ensures faults { CountsFault (IsErr result) (T.faults self.old.tree)
             (T.faults self.new.tree) }
     {
-        let needs = self.core.needs_sync(group);
-        let answer = calls::sync_group(&mut self.tree, group, needs);
-        let ok = answer.is_ok();
-        enter(
+        sync_step(
+            &mut self.tree,
             &mut self.core,
             &mut self.log,
             self.alloc,
             group,
             Step::SyncGate,
-            ok,
-        );
-        answer
+        )
     }
 
     /// Makes the changed paths of a group durable.
@@ -97,18 +89,14 @@ impl<T: Tree, S: Sink> Site<T, S> {
         ensures faults { CountsFault (IsErr result) (T.faults self.old.tree)
             (T.faults self.new.tree) }
     {
-        let needs = self.core.needs_sync(group);
-        let answer = calls::sync_group(&mut self.tree, group, needs);
-        let ok = answer.is_ok();
-        enter(
+        sync_step(
+            &mut self.tree,
             &mut self.core,
             &mut self.log,
             self.alloc,
             group,
             Step::SyncPlaced,
-            ok,
-        );
-        answer
+        )
     }
 
     /// Removes the gate of a group whose paths are placed.
