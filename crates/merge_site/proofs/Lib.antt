@@ -1,4 +1,5 @@
 pub mod Booked
+pub mod Crossing
 pub mod Device
 pub mod Judged
 pub mod Kept
