@@ -47,9 +47,28 @@ snapshot_send T = search (sendable, crosses) depth 20
 -- in the order of the fields of `Site`
 fields_send : (T S : RattleType) (t : Tree T.Denot) (s : Sink S.Denot) → IsSend T → IsSend S → AllSend (declared.fields (Inside.the_type T S t s))
 fields_send T S t s a b =
-    let heap : IsSend (Heap.the_field).row = search (sendable, crosses) depth 20 in
-    (heap, (a, (b, (core_send, (Vec-send _ group_send, (Vec-send _ job_send, (Vec-send _ (Vec-send _ wish_send),
-    (book_send, (snapshot_send OwnerBook.the_row, (object_send, (snapshot_send T, (log_send _ _ happened_send (search sendable), tt))))))))))))
+    let heap : IsSend (Heap.the_field).row = search (sendable, crosses) depth 20 in (
+      heap,
+      (
+        a,
+        (
+          b,
+          (
+            core_send,
+            (
+              Vec-send _ group_send,
+              (
+                Vec-send _ job_send,
+                (
+                  Vec-send _ (Vec-send _ wish_send),
+                  (book_send, (snapshot_send OwnerBook.the_row, (object_send, (snapshot_send T, (log_send _ _ happened_send (search sendable), tt))))),
+                ),
+              ),
+            ),
+          ),
+        ),
+      ),
+    )
 
 pub site_send : (T S : RattleType) (t : Tree T.Denot) (s : Sink S.Denot) → IsSend T → IsSend S → IsSend (the_row T S t s)
 site_send T S t s a b =

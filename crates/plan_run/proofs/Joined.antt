@@ -51,7 +51,7 @@ module _ {T S B : Type 0} (trees : Tree T) (sinks : Sink S) (builders : Builder 
       → IsUnderWay trees.tells (trees.story start).now.holds [] [] [] begun → begun.opened ≡ start → begun.opened_book ≡ task.book → begun.groups ≡ course.groups.items → begun.tree ≡ start → begun.sink ≡ sink
       → MergesGroups trees sinks builders plan task.jobs.items course.places begun last old pool course.progress progress before
       → ((turns : List Turn) (history told : List ℕ) → IsOver trees.tells (trees.story last.opened).now.holds turns history told (merge_end tt before) last → IsTrue trees.tells
-        → WentWith (AreFirst (trees.story last.opened).now.holds last.opened_book last.groups turns) (trees.story last.opened) (trees.story tree) history (merge_end tt end))
+      → WentWith (AreFirst (trees.story last.opened).now.holds last.opened_book last.groups turns) (trees.story last.opened) (trees.story tree) history (merge_end tt end))
       → ClosesAs before end → trees.faults last.tree ≤ trees.faults tree
       → (IsErrOf end (stops.Merge (merges.Tree causes.Failed)) → (IsErrOf before (stops.Merge (merges.Tree causes.Failed)) → ⊥) → Rose (trees.faults last.tree) (trees.faults tree))
       → MergesPlan trees sinks builders ps plan task start sink old pool closed
