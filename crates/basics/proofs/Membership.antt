@@ -1,4 +1,5 @@
 -- What appending, mapping and filtering do to membership, and membership by place.
+use Rattle.std.specs.List.{flat_map}
 use Rattle.std.specs.Prelude.{map, filter, slice_get, Contains}
 use Rattle.std.proofs.Common.{◌≡◌, ◌⊎◌, ◌<◌, ◌∙◌, ℕ, zero, suc, Bool, true, false, cond, Some, List, [], ◌∷◌, ◌++◌, get_or, length, inl, inr, ap, arith, refl, subst, sym}
 use Rattle.std.proofs.lemmas.Option.{get_or_from_slice_get, slice_get_within}
@@ -27,6 +28,19 @@ pub has-map_back : {A B : Type 0} (f : A → B) (xs : List A) (y : B) → Has (m
 has-map_back f [] y h = absurd h
 has-map_back f (x ∷ xs) y (inl e) = (x, inl refl, e)
 has-map_back f (x ∷ xs) y (inr h) = let k = has-map_back f xs y h in (k.0, inr k.1, k.2)
+
+-- the pieces of a `flat_map`: what one of them has, and back
+pub has-flat_map : {A B : Type 0} (f : A → List B) (xs : List A) (x : A) (y : B) → Has xs x → Has (f x) y → Has (flat_map f xs) y
+has-flat_map f [] x y h k = absurd h
+has-flat_map f (z ∷ xs) x y (inl e) k = has-append_left (f z) (flat_map f xs) y (subst (λ w. Has (f w) y) (sym e) k)
+has-flat_map f (z ∷ xs) x y (inr h) k = has-append_right (f z) (flat_map f xs) y (has-flat_map f xs x y h k)
+
+pub has-flat_map_back : {A B : Type 0} (f : A → List B) (xs : List A) (y : B) → Has (flat_map f xs) y → (x : A) × Has xs x × Has (f x) y
+has-flat_map_back f [] y h = absurd h
+has-flat_map_back f (x ∷ xs) y h = elim (has-append_cases (f x) (flat_map f xs) y h) [
+  | inl here ↦ (x, inl refl, here)
+  | inr later ↦ (let r = has-flat_map_back f xs y later in (r.0, inr r.1, r.2))
+]
 
 module _ {A : Type 0} (test : A → Bool) where
   filter_cases : (b : Bool) (y : A) (ys : List A) (x : A) → Has (cond b (y ∷ ys) ys) x → ((b ≡ true) × (y ≡ x)) ⊎ Has ys x

@@ -4,7 +4,7 @@ use Rattle.std.specs.Ordering.{is_gt}
 use Rattle.std.proofs.lemmas.Bool.{and_parts, cases_Bool, cases_lt, eqb-true, lt-ltb, not-true}
 use Rattle.std.proofs.lemmas.List.{get_or_past, length-map}
 use Rattle.basics.specs.Members.{Has}
-use Rattle.basics.proofs.Membership.{has-append_cases, has-append_left, has-append_right, has-filter, has-filter_back, has-map, has-map_back}
+use Rattle.basics.proofs.Membership.{has-append_cases, has-append_left, has-append_right, has-filter, has-filter_back, has-flat_map, has-flat_map_back, has-map, has-map_back}
 use Rattle.pms_names.specs.Flags.{has}
 use Rattle.dep_atom.specs.Match.{value_matches}
 use Rattle.dep_atom.specs.Values.{AtomValue}
@@ -20,7 +20,7 @@ use Rattle.choice_tree.specs.Open.{opposes}
 use Rattle.choice_tree.specs.Options.{OptionsAreThose, beside, decision_of, decisions, in_order, is_among, leaving, needs, once_onto, options, others, ousting, same_value, second_part, served, serving}
 use Rattle.choice_tree.specs.Places.{Place, no_place, numbers, package_in, place_at, places}
 use Rattle.choice_tree.proofs.Numbers.{has_numbers, length_numbers, numbers_have}
-use Rattle.choice_tree.proofs.Pick.{flat_has, has_flat, opposed, opposing, place_is, place_past, stands, there}
+use Rattle.choice_tree.proofs.Pick.{opposed, opposing, place_is, place_past, stands, there}
 
 -- what is put and ranked is what was there
 put_step : (b : Bool) (x y : Candidate) (ys rest : List Candidate) (z : Candidate) → (Has rest z → (x ≡ z) ⊎ Has ys z) → Has (cond b (x ∷ y ∷ ys) (y ∷ rest)) z → (x ≡ z) ⊎ Has (y ∷ ys) z
@@ -284,10 +284,10 @@ module _ (update : Bool) (u : Universe) (c : Choice) where
       (keeping_has l (place l).offer v p (ap (λ (o : Offer). package_of o v) (offer_is l) ∙ is))
 
   all_free_is : (x : Candidate) → Has (all_free ss) x → IsFree x
-  all_free_is x h = let r = flat_has (λ l. free_line true ss l) (numbers (length ss) 0) x h in line_free true r.0 x (of_lines r.0 r.1) r.2
+  all_free_is x h = let r = has-flat_map_back (λ l. free_line true ss l) (numbers (length ss) 0) x h in line_free true r.0 x (of_lines r.0 r.1) r.2
 
   all_free_has : (l : ℕ) (v : Value) (p : Package) → MayBe u c l v → package_of (offer_at u l) v ≡ Some p → Has (all_free ss) (cand l v p)
-  all_free_has l v p may is = has_flat (λ l. free_line true ss l) (numbers (length ss) 0) l (cand l v p) (in_lines l may.there) (free_line_has l v p may is)
+  all_free_has l v p may is = has-flat_map (λ l. free_line true ss l) (numbers (length ss) 0) l (cand l v p) (in_lines l may.there) (free_line_has l v p may is)
 
   served_is : (asker : List (List ℕ)) (a : AtomValue) (d : ℕ × Value) → Has (served update ss asker a) d → MayBe u c d.0 d.1 × Serves u d.0 d.1 a asker
   served_is asker a d h =
@@ -432,7 +432,7 @@ module _ (update : Bool) (u : Universe) (c : Choice) where
     by_case : (x : Option Package) → package_in (place l) ≡ x → Has (serving update ss class x) d → (a : AtomValue) × (p : Package) × Stands u (filling u c) l p × Has (all_leaves kind (has p.facts.enabled) (tree_of class p)) a × (is_block a ≡ false) × MayBe u c d.0 d.1 × Serves u d.0 d.1 a p.facts.enabled
     by_case None e k = absurd k
     by_case (Some p) e k =
-        let r = flat_has (λ a. served update ss p.facts.enabled a) (needs class p) d k in
+        let r = has-flat_map_back (λ a. served update ss p.facts.enabled a) (needs class p) d k in
         let leaf = has-filter_back (λ a. not (is_block a)) (all_leaves kind (has p.facts.enabled) (tree_of class p)) r.0 r.1 in
         let s = served_is p.facts.enabled r.0 d r.2 in
         (r.0, p, there u c l p e, leaf.0, not-true (is_block r.0) leaf.1, s.0, s.1)
@@ -440,7 +440,7 @@ module _ (update : Bool) (u : Universe) (c : Choice) where
   serving_has : (l : ℕ) (class : Class) (a : AtomValue) (p : Package) (m : ℕ) (v : Value) → Stands u (filling u c) l p → Has (all_leaves kind (has p.facts.enabled) (tree_of class p)) a → is_block a ≡ false → MayBe u c m v → Serves u m v a p.facts.enabled → Has (serving update ss class (package_in (place l))) (m, v)
   serving_has l class a p m v st leaf open_leaf may s =
       subst (λ (x : Option Package). Has (serving update ss class x) (m, v)) (sym (stands u c l p st))
-      (has_flat (λ a. served update ss p.facts.enabled a) (needs class p) a (m, v)
+      (has-flat_map (λ a. served update ss p.facts.enabled a) (needs class p) a (m, v)
       (has-filter (λ a. not (is_block a)) (all_leaves kind (has p.facts.enabled) (tree_of class p)) a leaf (ap not open_leaf))
       (served_has p.facts.enabled a m v may s))
 
@@ -452,7 +452,7 @@ module _ (update : Bool) (u : Universe) (c : Choice) where
     by_case : (x : Option Package) → (place l).offer.installed ≡ x → Has (ousting update ss x) d → IsOption u c (absence l) e
     by_case None was k = absurd k
     by_case (Some z) was k =
-        let r = flat_has (λ m. in_order update (filter (ousts z) (free_line false ss m))) (numbers (length ss) 0) d k in
+        let r = has-flat_map_back (λ m. in_order update (filter (ousts z) (free_line false ss m))) (numbers (length ss) 0) d k in
         let j = in_order_is update (filter (ousts z) (free_line false ss r.0)) d r.2 in
         let t = has-filter_back (ousts z) (free_line false ss r.0) j.0 j.1 in
         let f = line_free false r.0 j.0 (of_lines r.0 r.1) t.0 in
@@ -461,7 +461,7 @@ module _ (update : Bool) (u : Universe) (c : Choice) where
   ousting_has : (l m : ℕ) (v : Value) (q z : Package) → MayBe u c m v → is_new v ≡ true → package_of (offer_at u m) v ≡ Some q → (offer_at u l).installed ≡ Some z → conflicts true q z ≡ true → Has (ousting update ss (place l).offer.installed) (m, v)
   ousting_has l m v q z may new means was loud =
       subst (λ (x : Option Package). Has (ousting update ss x) (m, v)) (sym (ap (λ (o : Offer). o.installed) (offer_is l) ∙ was))
-      (has_flat (λ m. in_order update (filter (ousts z) (free_line false ss m))) (numbers (length ss) 0) m (m, v) (in_lines m may.there)
+      (has-flat_map (λ m. in_order update (filter (ousts z) (free_line false ss m))) (numbers (length ss) 0) m (m, v) (in_lines m may.there)
       (in_order_has update (filter (ousts z) (free_line false ss m)) (cand m v q)
       (has-filter (ousts z) (free_line false ss m) (cand m v q)
       (if_free_has (place m).decided (of_line false m (place m).offer) (cand m v q) (decided_is m may.there ∙ may.free)

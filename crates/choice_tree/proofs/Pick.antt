@@ -5,7 +5,7 @@ use Rattle.std.specs.Option.{option_and_then}
 use Rattle.std.proofs.lemmas.Bool.{and_from, and_parts, cases_Bool, cases_lt, eq-eqb, eqb-true, not-true}
 use Rattle.std.proofs.lemmas.List.{length-map}
 use Rattle.basics.specs.Members.{Has}
-use Rattle.basics.proofs.Membership.{has-append_cases, has-append_left, has-append_right, has-map, has-map_back}
+use Rattle.basics.proofs.Membership.{has-append_cases, has-append_left, has-append_right, has-flat_map, has-flat_map_back, has-map, has-map_back}
 use Rattle.dep_atom.specs.Match.{value_matches}
 use Rattle.dep_atom.specs.Values.{AtomValue}
 use Rattle.pkg_state.specs.Consistent.{facts_of, fits_required, is_met}
@@ -36,18 +36,6 @@ get_past : {A : Type 0} (xs : List A) (l : ℕ) (d : A) → length xs ≤ l → 
 get_past [] l d past = refl
 get_past (x ∷ xs) zero d past = absurd (omega (arith, past))
 get_past (x ∷ xs) (suc l) d past = get_past xs l d (omega (arith, past))
-
-pub has_flat : {A B : Type 0} (f : A → List B) (xs : List A) (x : A) (y : B) → Has xs x → Has (f x) y → Has (flat_map f xs) y
-has_flat f [] x y h k = absurd h
-has_flat f (z ∷ xs) x y (inl e) k = has-append_left (f z) (flat_map f xs) y (subst (λ w. Has (f w) y) (sym e) k)
-has_flat f (z ∷ xs) x y (inr h) k = has-append_right (f z) (flat_map f xs) y (has_flat f xs x y h k)
-
-pub flat_has : {A B : Type 0} (f : A → List B) (xs : List A) (y : B) → Has (flat_map f xs) y → (x : A) × Has xs x × Has (f x) y
-flat_has f [] y h = absurd h
-flat_has f (x ∷ xs) y h = elim (has-append_cases (f x) (flat_map f xs) y h) [
-  | inl here ↦ (x, inl refl, here)
-  | inr later ↦ (let r = flat_has f xs y later in (r.0, inr r.1, r.2))
-]
 
 module _ (u : Universe) (c : Choice) where
   abbrev ss : List Place
@@ -106,7 +94,7 @@ module _ (u : Universe) (c : Choice) where
   in_line l o less h =
       has-append_right (map (λ a. wanted a) u.wanted) (flat_map (λ l. obligations_of (lines u) l) (numbers (lines u) 0) ++ map (λ l. absence l) (numbers (lines u) 0)) o
       (has-append_left (flat_map (λ l. obligations_of (lines u) l) (numbers (lines u) 0)) (map (λ l. absence l) (numbers (lines u) 0)) o
-      (has_flat (λ l. obligations_of (lines u) l) (numbers (lines u) 0) l o (has_numbers (lines u) 0 l (omega arith) (omega (arith, less))) h))
+      (has-flat_map (λ l. obligations_of (lines u) l) (numbers (lines u) 0) l o (has_numbers (lines u) 0 l (omega arith) (omega (arith, less))) h))
 
   some_class : (class : Class) → Has classes class
   some_class Rdepend = inl refl
@@ -126,7 +114,7 @@ module _ (u : Universe) (c : Choice) where
   is_wanted a h = elim (has-append_cases (map (λ a. wanted a) u.wanted) (flat_map (λ l. obligations_of (lines u) l) (numbers (lines u) 0) ++ map (λ l. absence l) (numbers (lines u) 0)) (wanted a) h) [
     | inl one ↦ (let r = has-map_back (λ a. wanted a) u.wanted (wanted a) one in let e = r.2 in let same : r.0 ≡ a = cc e in subst (λ x. Has u.wanted x) same r.1)
     | inr rest ↦ absurd (elim (has-append_cases (flat_map (λ l. obligations_of (lines u) l) (numbers (lines u) 0)) (map (λ l. absence l) (numbers (lines u) 0)) (wanted a) rest) [
-      | inl one ↦ (let r = flat_has (λ l. obligations_of (lines u) l) (numbers (lines u) 0) (wanted a) one in not_of_line r.0 a r.2)
+      | inl one ↦ (let r = has-flat_map_back (λ l. obligations_of (lines u) l) (numbers (lines u) 0) (wanted a) one in not_of_line r.0 a r.2)
       | inr other ↦ (let r = has-map_back (λ l. absence l) (numbers (lines u) 0) (wanted a) other in let e = r.2 in cc e)
     ])
   ]

@@ -2,6 +2,7 @@
 use Rattle.std.proofs.Common.{◌≡◌, ℕ, zero, suc, Bool, List, [], ◌∷◌, Option, None, Some, ap, arith, inl, inr, refl, subst, sym}
 use Rattle.std.specs.Option.{option_map}
 use Rattle.basics.specs.Members.{Has}
+use Rattle.basics.proofs.Membership.{has-flat_map, has-flat_map_back}
 use Rattle.choice_law.specs.Universe.{Filling, Universe}
 use Rattle.choice_law.specs.Solutions.{IsSolution}
 use Rattle.choice_law.specs.Tree.{Choice, IsGoodLeaf, IsNode, Obligation, filling, option, root}
@@ -9,7 +10,6 @@ use Rattle.choice_law.specs.Laws.{GoodLeavesAreSolutions, IsUniverse, SolutionsH
 use Rattle.choice_tree.specs.Open.{FirstOpenIsAPick, first_open}
 use Rattle.choice_tree.specs.Options.{options}
 use Rattle.choice_tree.proofs.Among.{options_all, options_are}
-use Rattle.choice_tree.proofs.Pick.{flat_has, has_flat}
 use Rattle.tree_search.specs.Laws.{IsDeep}
 use Rattle.tree_search.specs.Leaves.{Leaf, dead, first_good, good, leaves, leaves_by, leaves_within}
 use Rattle.tree_search.proofs.Deep.{same_leaves}
@@ -46,7 +46,7 @@ module _ (update : Bool) (u : Universe) where
   here n e c node below (Some []) is (inl same) = absurd (let bad : ◌≡◌ {A = Leaf Choice} (dead e) (good c) = same in cc bad)
   here n e c node below (Some []) is (inr h) = absurd h
   here n e c node below (Some (d ∷ ds)) is h =
-      let r = flat_has (leaves_within tried n) (d ∷ ds) (good c) h in
+      let r = has-flat_map_back (leaves_within tried n) (d ∷ ds) (good c) h in
       let o = some_open update u e (d ∷ ds) is in
       below r.0 (option e r.0 o.0 node o.1 (options_are update u e o.0 r.0 (subst (λ (xs : List Choice). Has xs r.0) (sym o.2) r.1))) r.2
 
@@ -56,7 +56,7 @@ module _ (update : Bool) (u : Universe) where
 
   inside : (b e : Choice) (l : Leaf Choice) (f : Choice → List (Leaf Choice)) (ds : List Choice) → Has ds e → Has (f e) l → Has (leaves_by f b (Some ds)) l
   inside b e l f [] h k = absurd h
-  inside b e l f (d ∷ ds) h k = has_flat f (d ∷ ds) e l h k
+  inside b e l f (d ∷ ds) h k = has-flat_map f (d ∷ ds) e l h k
 
   up : (b e : Choice) (o : Obligation) (l : Leaf Choice) → first_open u b ≡ Some o → Has (options update u b o) e → Has (leaves tried room e) l → Has (leaves tried room b) l
   up b e o l picked h k =

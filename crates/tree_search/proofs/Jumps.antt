@@ -3,13 +3,13 @@ use Rattle.std.proofs.Common.{◌≡◌, ◌<◌, ◌∙◌, ◌++◌, ◌⊎◌
 use Rattle.std.specs.List.{flat_map, list_all}
 use Rattle.std.specs.Option.{is_some}
 use Rattle.basics.specs.Members.{Has}
-use Rattle.basics.proofs.Membership.{has-append_cases}
+use Rattle.basics.proofs.Membership.{has-append_cases, has-flat_map_back}
 use Rattle.tree_search.specs.Jumping.{Agrees, AgreesNew, AgreesOn, IsJumping, LosesNothing, nothing}
 use Rattle.tree_search.specs.Leaves.{Leaf, dead, first_good, good, leaves_by, leaves_within}
 use Rattle.tree_search.specs.Shape.{Shape}
 use Rattle.tree_search.specs.Visit.{End, Visit, after, barren, behind, joined, over, reached, seen_as, visit_by, visit_within}
 use Rattle.tree_search.proofs.Causes.{all_has, joined_new, joined_old}
-use Rattle.tree_search.proofs.Parts.{IsRight, flat_has, none_good, right_dead, right_good, right_jump, right_next, right_reached}
+use Rattle.tree_search.proofs.Parts.{IsRight, none_good, right_dead, right_good, right_jump, right_next, right_reached}
 
 is_there : {V : Type 0} (x : Option V) → is_some x ≡ true → (v : V) × (x ≡ Some v)
 is_there None e = absurd (cc e)
@@ -100,7 +100,7 @@ module _ {C V : Type 0} (shape : Shape C) (decided : C → ℕ → Option V) (fi
   good_by n c g fit (Some []) is below (inl same) = absurd (let bad : ◌≡◌ {A = Leaf C} (dead c) (good g) = same in cc bad)
   good_by n c g fit (Some []) is below (inr h) = absurd h
   good_by n c g fit (Some (d ∷ ds)) is below h =
-      let r = flat_has (leaves_within shape.options n) (d ∷ ds) (good g) h in
+      let r = has-flat_map_back (leaves_within shape.options n) (d ∷ ds) (good g) h in
       let s = below r.0 (j.stays c r.0 (d ∷ ds) fit is r.1) r.2 in
       (s.0, s.1, λ l v e. s.2 l v (j.extends c r.0 (d ∷ ds) fit is r.1 l v e))
 
@@ -115,7 +115,7 @@ module _ {C V : Type 0} (shape : Shape C) (decided : C → ℕ → Option V) (fi
     -- no leaf further on is good, where no solution agrees with the choice on these lines
     no_rest : (ds : List C) (why : List ℕ) → ((d : C) → Has ds d → Has all d) → Denies c why → first_good (flat_map found ds) ≡ None
     no_rest ds why inside denies = none_good (flat_map found ds) (λ g h.
-        let r = flat_has found ds (good g) h in
+        let r = has-flat_map_back found ds (good g) h in
         let s = good_below n r.0 g (j.stays c r.0 all fit is (inside r.0 r.1)) r.2 in
         denies s.0 s.1 (λ l v in_why e. s.2 l v (j.extends c r.0 all fit is (inside r.0 r.1) l v e)))
 

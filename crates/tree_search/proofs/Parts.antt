@@ -7,13 +7,6 @@ use Rattle.tree_search.specs.Jumping.{IsPart, nothing, with_it, without}
 use Rattle.tree_search.specs.Leaves.{Leaf, dead, dead_before, first_good, good}
 use Rattle.tree_search.specs.Visit.{Visit, barren, behind, ending, reached, seen_as}
 
-pub flat_has : {A B : Type 0} (f : A → List B) (xs : List A) (y : B) → Has (flat_map f xs) y → (x : A) × Has xs x × Has (f x) y
-flat_has f [] y h = absurd h
-flat_has f (x ∷ xs) y h = elim (has-append_cases (f x) (flat_map f xs) y h) [
-  | inl here ↦ (x, inl refl, here)
-  | inr later ↦ (let r = flat_has f xs y later in (r.0, inr r.1, r.2))
-]
-
 empty_part : {A : Type 0} (ys : List A) → IsPart [] ys
 empty_part [] = nothing
 empty_part (y ∷ ys) = without y [] ys (empty_part ys)
