@@ -9,7 +9,7 @@ use Rattle.plan_text.specs.Lines.{LineValue, line_of}
 use Rattle.plan_text.specs.Numbers.{IsNumber, rise_between}
 use Rattle.plan_text.specs.Plans.{AdditionValue, GroupValue}
 use Rattle.plan_text.specs.Standing.{StandingValue, ends, may_end, runs, standing, start}
-use Rattle.plan_text.specs.Texts.{AreGroups, IsAddition, IsPlan, addition_lines, after_lines, group_lines, groups_lines, plan_lines, remove_line}
+use Rattle.plan_text.specs.Texts.{AreGroups, IsAddition, IsPlan, addition_lines, after_lines, group_lines, groups_lines, most_groups, plan_lines, remove_line}
 use Rattle.plan_text.specs.Words.{IsBind, IsEntry, IsRemoval, rise}
 use Rattle.plan_text.specs.declared.kind.Kind.TheVariants as kinds
 use Rattle.plan_text.specs.declared.plan.Removal.{Removal}
@@ -54,7 +54,7 @@ additions_lines (a ∷ xs) h =
       all_both (map (line_of kinds.Bind) a.binds) (flat_map addition_lines xs) (bind_lines a.binds h.0.binds) (additions_lines xs h.1),
     )
 
-numbers : (low high : ℕ) (ns : List ℕ) → high ≤ 4096 → rise_between low high ns ≡ true → AllByRecursion IsNumber ns
+numbers : (low high : ℕ) (ns : List ℕ) → high ≤ most_groups → rise_between low high ns ≡ true → AllByRecursion IsNumber ns
 numbers low high [] few h = tt
 numbers low high (n ∷ ns) few h =
     let both = and_parts (nat_lt low n && nat_lt n high) (rise_between n high ns) h in
@@ -63,7 +63,7 @@ numbers low high (n ∷ ns) few h =
     let u : n < high = ltb-true n high ends_of.1 in
     (record { some = omega (arith, l); few = omega (arith, u, few) }, numbers n high ns few both.1)
 
-after_form : (high : ℕ) (ns : List ℕ) → high ≤ 4096 → rise_between 0 high ns ≡ true → AreInForm (after_lines ns)
+after_form : (high : ℕ) (ns : List ℕ) → high ≤ most_groups → rise_between 0 high ns ≡ true → AreInForm (after_lines ns)
 after_form high [] few h = tt
 after_form high (n ∷ ns) few h = ((omega arith, numbers 0 high (n ∷ ns) few h), tt)
 
@@ -73,43 +73,43 @@ pub record Ends (k : ℕ) (p : Place) (t : List ℕ) (gs : List GroupValue) : Ty
   pub follow : runs (standing k p t) (groups_lines (k + 1) gs) ≡ true
   pub ended : may_end (ends (standing k p t) (groups_lines (k + 1) gs)).place ≡ true
 
-first_number : (k : ℕ) → k + 1 ≤ 4096 → IsNumber (k + 1)
+first_number : (k : ℕ) → k + 1 ≤ most_groups → IsNumber (k + 1)
 first_number k few = record { some = omega arith; few = omega (arith, few) }
 
 abbrev inside : GroupValue → List LineValue
 inside g = after_lines g.after ++ (map remove_line g.removals ++ flat_map addition_lines g.additions)
 
-pub groups_end : (k : ℕ) (p : Place) (t : List ℕ) (gs : List GroupValue) → AreGroups (k + 1) gs → may_end p ≡ true → k + length gs ≤ 4096 → Ends k p t gs
+pub groups_end : (k : ℕ) (p : Place) (t : List ℕ) (gs : List GroupValue) → AreGroups (k + 1) gs → may_end p ≡ true → k + length gs ≤ most_groups → Ends k p t gs
 groups_end k p t [] h m few = record { follow = refl; ended = m }
 groups_end k p t (g ∷ gs) h m few =
-    let lt : k < 4096 = omega (arith, few) in
+    let lt : k < most_groups = omega (arith, few) in
     let e = inside_ends (k + 1) t g in
     let rest = groups_end (k + 1) (group_place g) e.0 gs h.1 (may_end_of g h.0.changes) (omega (arith, few)) in
     let rises : group_rises (k + 1) g ≡ true = both_true h.0.earlier (both_true h.0.removals_rise h.0.additions_rise) in
-    let here : runs (standing k p t) (group_lines (k + 1) g) ≡ true = both_true (both_true m (both_true (eq-eqb (k + 1) (k + 1) refl) (lt-ltb k 4096 lt))) (inside_runs (k + 1) t g ∙ rises) in
+    let here : runs (standing k p t) (group_lines (k + 1) g) ≡ true = both_true (both_true m (both_true (eq-eqb (k + 1) (k + 1) refl) (lt-ltb k most_groups lt))) (inside_runs (k + 1) t g ∙ rises) in
     record {
       follow = runs-append (standing k p t) (group_lines (k + 1) g) (groups_lines (k + 1 + 1) gs)
           ∙ both_true here (ap (λ s. runs s (groups_lines (k + 1 + 1) gs)) e.1 ∙ rest.follow);
       ended = ap (λ (s : StandingValue). may_end s.place) (ends-append (standing k p t) (group_lines (k + 1) g) (groups_lines (k + 1 + 1) gs) ∙ ap (λ s. ends s (groups_lines (k + 1 + 1) gs)) e.1) ∙ rest.ended;
     }
 
-pub groups_form : (k : ℕ) (gs : List GroupValue) → AreGroups (k + 1) gs → k + length gs ≤ 4096 → AreInForm (groups_lines (k + 1) gs)
+pub groups_form : (k : ℕ) (gs : List GroupValue) → AreGroups (k + 1) gs → k + length gs ≤ most_groups → AreInForm (groups_lines (k + 1) gs)
 groups_form k [] h few = tt
 groups_form k (g ∷ gs) h few =
-    let n : k + 1 ≤ 4096 = omega (arith, few) in
+    let n : k + 1 ≤ most_groups = omega (arith, few) in
     all_both (group_lines (k + 1) g) (groups_lines (k + 1 + 1) gs)
     (first_number k n, all_both (after_lines g.after) (map remove_line g.removals ++ flat_map addition_lines g.additions) (after_form (k + 1) g.after n h.0.earlier) (all_both (map remove_line g.removals) (flat_map addition_lines g.additions) (removal_lines g.removals h.0.removals) (additions_lines g.additions h.0.additions)))
     (groups_form (k + 1) gs h.1 (omega (arith, few)))
 
-pub groups_are : (k : ℕ) (p : Place) (t : List ℕ) (gs : List GroupValue) → AreInForm (groups_lines (k + 1) gs) → Ends k p t gs → k ≤ 4096 → AreGroups (k + 1) gs × (k + length gs ≤ 4096) × (may_end p ≡ true)
+pub groups_are : (k : ℕ) (p : Place) (t : List ℕ) (gs : List GroupValue) → AreInForm (groups_lines (k + 1) gs) → Ends k p t gs → k ≤ most_groups → AreGroups (k + 1) gs × (k + length gs ≤ most_groups) × (may_end p ≡ true)
 groups_are k p t [] form e few = (tt, omega (arith, few), e.ended)
 groups_are k p t (g ∷ gs) form e few =
     let ls : List LineValue = group_lines (k + 1) g in
     let more : List LineValue = groups_lines (k + 1 + 1) gs in
     let both = and_parts (runs (standing k p t) (group_lines (k + 1) g)) (runs (ends (standing k p t) (group_lines (k + 1) g)) (groups_lines (k + 1 + 1) gs)) (sym (runs-append (standing k p t) (group_lines (k + 1) g) (groups_lines (k + 1 + 1) gs)) ∙ e.follow) in
-    let first = and_parts (may_end p && (((k + 1) == (k + 1)) && nat_lt k 4096)) (runs (standing (k + 1) places.Group t) (inside g)) both.0 in
-    let head = and_parts (may_end p) (((k + 1) == (k + 1)) && nat_lt k 4096) first.0 in
-    let lt : k < 4096 = ltb-true k 4096 (and_parts ((k + 1) == (k + 1)) (nat_lt k 4096) head.1).1 in
+    let first = and_parts (may_end p && (((k + 1) == (k + 1)) && nat_lt k most_groups)) (runs (standing (k + 1) places.Group t) (inside g)) both.0 in
+    let head = and_parts (may_end p) (((k + 1) == (k + 1)) && nat_lt k most_groups) first.0 in
+    let lt : k < most_groups = ltb-true k most_groups (and_parts ((k + 1) == (k + 1)) (nat_lt k most_groups) head.1).1 in
     let at_end = inside_ends (k + 1) t g in
     let later = groups_are (k + 1) (group_place g) at_end.0 gs (all_right (group_lines (k + 1) g) (groups_lines (k + 1 + 1) gs) form) (record {
       follow = ap (λ s. runs s (groups_lines (k + 1 + 1) gs)) (sym at_end.1) ∙ both.1;

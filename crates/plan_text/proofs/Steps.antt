@@ -10,7 +10,7 @@ use Rattle.plan_text.specs.Lines.{IsLine, LineValue, Said, line_of, line_text}
 use Rattle.plan_text.specs.Plans.{GroupValue, group_value}
 use Rattle.plan_text.specs.Progress.{Grows, IsReadTo, body, body_of, is_inner}
 use Rattle.plan_text.specs.Standing.{StandingValue, ends, follows, is_start, may_end, next, runs, standing, start, takes, behind}
-use Rattle.plan_text.specs.Texts.{IsPlan, group_lines, groups_lines, plan_lines}
+use Rattle.plan_text.specs.Texts.{IsPlan, group_lines, groups_lines, most_groups, plan_lines}
 use Rattle.plan_text.specs.declared.kind.Kind.{Kind}
 use Rattle.plan_text.specs.declared.kind.Kind.TheVariants as kinds
 use Rattle.plan_text.specs.declared.standing.Place.{Place}
@@ -75,7 +75,7 @@ plan_grows s gs (Some g) fits count f = absurd (go s.place f fits)
     go places.Additions e h = absurd (let x : false ≡ true = e in cc)
 
 number_of : (s : StandingValue) (n : ℕ) → follows s (line_of kinds.Group n) ≡ true → n ≡ s.groups + 1
-number_of s n f = eqb-true n (s.groups + 1) (and_parts (n == (s.groups + 1)) (nat_lt s.groups 4096) (and_parts (may_end s.place) ((n == (s.groups + 1)) && nat_lt s.groups 4096) f).1).0
+number_of s n f = eqb-true n (s.groups + 1) (and_parts (n == (s.groups + 1)) (nat_lt s.groups most_groups) (and_parts (may_end s.place) ((n == (s.groups + 1)) && nat_lt s.groups most_groups) f).1).0
 
 bare_lines : (n : ℕ) (g : GroupValue) → FitsGroup places.Group g → group_lines n g ≡ line_of kinds.Group n ∷ []
 bare_lines n g h = go g.after g.removals g.additions h.0 h.1 h.2

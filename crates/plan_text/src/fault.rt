@@ -15,7 +15,7 @@ pub enum PlanTextFault {
     #[error("line {line} names groups that are not before this one")]
     NotBefore { line: u32 },
     /// It would be one group too many.
-    #[error("more than 4096 groups")]
+    #[error("too many groups")]
     Limit,
     /// The line isn't in form, or may not stand there, or is missing.
     #[error("line {line} is not in form")]
