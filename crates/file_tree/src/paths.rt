@@ -38,7 +38,7 @@ pub fn is_below(top: &[u8], path: &[u8]) -> bool
 }
 
 impl Path {
-    ghost use Rattle.std.specs.Prelude.{◌≡◌, true, IfErr, IfOk};
+    ghost use Rattle.std.specs.Prelude.{◌≡◌, ◌≢◌, ◌++◌, ◌∷◌, true, List, ℕ, IfErr, IfOk, MatchOption};
     ghost use Rattle.file_tree.specs.Paths.{FirstFault, is_below, is_path};
     ghost use Rattle.file_tree.specs.declared.fault.PathFault.TheVariants as faults;
 
@@ -72,6 +72,15 @@ impl Path {
         ensures { result ≡ is_below self.now other.now }
     {
         is_below(self.text().as_bytes(), other.text().as_bytes())
+    }
+
+    /// What stands behind a folder in the text of a path below it.
+    pub fn behind(&self, folder: &str) -> Option<&str>
+        ensures { MatchOption result ((rest : List ℕ) → self.now ≢ folder.now ++ 47 ∷ rest)
+            (λ rest. self.now ≡ folder.now ++ 47 ∷ rest.now) }
+    {
+        let rest = self.text().strip_prefix(folder)?;
+        rest.strip_prefix('/')
     }
 
     pub fn text(&self) -> &str
