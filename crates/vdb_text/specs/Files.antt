@@ -1,5 +1,7 @@
 -- The files of a package's record in the database of installed packages.
-use Rattle.std.specs.Prelude.{◌≡◌, ℕ, List, [], ◌∷◌, ◌++◌, codes}
+use Rattle.std.specs.Prelude.{◌≡◌, ℕ, Bool, ◌&&◌, ◌||◌, ◌==◌, ltb, leb, List, [], ◌∷◌, ◌++◌, codes, length}
+use Rattle.std.specs.Int.{is_in_range}
+use Rattle.std.specs.List.{list_all}
 use Rattle.file_tree.specs.Thing.{plain}
 use Rattle.file_tree.specs.declared.objects.Entry.{Entry}
 use Rattle.dep_atom.specs.Ids.{id_text}
@@ -12,9 +14,26 @@ use Rattle.vdb_text.specs.Contents.{IsContentsOf}
 unfoldable pub database_path : List ℕ
 database_path = codes "var/db/pkg"
 
--- a file of the package's own folder there
+-- the package's own folder there
+abbrev pub package_folder : PackageId → List ℕ
+package_folder id = codes "var/db/pkg/" ++ id_text id
+
+-- a file of that folder
 unfoldable pub record_path : PackageId → List ℕ → List ℕ
 record_path id name = codes "var/db/pkg/" ++ (id_text id ++ (47 ∷ name))
+
+-- a capital letter or an underscore
+abbrev pub is_capital : ℕ → Bool
+is_capital b = is_in_range 65 90 b || b == 95
+
+-- the most bytes of the name of a record's file
+abbrev pub most_name_bytes : ℕ
+most_name_bytes = 100
+
+-- the name of a record's file: some capital letters and underscores, and not too many
+abbrev pub is_file_name : List ℕ → Bool
+is_file_name name = ltb 0 (length name) &&
+    (leb (length name) most_name_bytes && list_all is_capital name)
 
 -- the text of EAPI
 abbrev pub eapi_text : List ℕ

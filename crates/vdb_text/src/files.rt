@@ -1,8 +1,9 @@
-ghost use Rattle.std.specs.Prelude.{◌≡◌, ◌++◌, ◌∷◌, [], IfOk, string_bytes};
+ghost use Rattle.std.specs.Prelude.{◌≡◌, ◌++◌, ◌∷◌, [], IfOk, string_bytes, true};
+ghost use Rattle.dep_atom.specs.Ids.{IsId};
 ghost use Rattle.file_tree.specs.Thing.{plain};
 ghost use Rattle.slot_value.specs.Slots.{slot_text};
-ghost use Rattle.vdb_text.specs.Files.{AreRecordOf, database_path, record_file, record_files};
-ghost use Rattle.vdb_text.specs.Files.{record_path};
+ghost use Rattle.vdb_text.specs.Files.{AreRecordOf, database_path, is_file_name, package_folder};
+ghost use Rattle.vdb_text.specs.Files.{record_file, record_files, record_path};
 
 use crate::written::text_of_contents;
 use dep_atom::{Facts, PackageId};
@@ -24,14 +25,35 @@ pub fn path_of_database(alloc: Global) -> Result<Path, AllocError>
     Path::of(alloc, DATABASE)
 }
 
+/// A law: a package is named as its type promises.
+pub fn id_is_one(id: &PackageId)
+    ensures { IsId id.now }
+{
+    let _ = id.name.category.text();
+    let _ = id.name.package.text();
+    let _ = id.version.text();
+}
+
+/// The path of the package's own folder in the database.
+pub fn path_of_package(alloc: Global, id: &PackageId) -> Result<Path, AllocError>
+    ensures { IfOk result (λ p. p ≡ package_folder id.now) }
+{
+    id_is_one(id);
+    let name = id.print(alloc)?;
+    let text = format!(in alloc; "{DATABASE}/{name}")?;
+    Path::of(alloc, text.as_str())
+}
+
 /// The path of a file of the package's record.
 #[tactic(auto, unfolding(crate::specs::Files::record_path))]
-fn path_of_record(alloc: Global, id: &PackageId, name: &str) -> Result<Path, AllocError>
+pub fn path_of_record(alloc: Global, id: &PackageId, name: &str) -> Result<Path, AllocError>
+    requires { is_file_name name.now ≡ true }
     ensures { IfOk result (λ p. p ≡ record_path id.now name.now) }
 {
+    id_is_one(id);
     let id = id.print(alloc)?;
     let text = format!(in alloc; "{DATABASE}/{id}/{name}")?;
-    Path::parse(alloc, text.as_str()).map_err(|_| AllocError)
+    Path::of(alloc, text.as_str())
 }
 
 fn record_file(
@@ -40,6 +62,7 @@ fn record_file(
     name: &str,
     bytes: Vec<u8>,
 ) -> Result<Entry, AllocError>
+    requires { is_file_name name.now ≡ true }
     ensures { IfOk result (λ e. e ≡ record_file id.now name.now bytes.items) }
 {
     let path = path_of_record(alloc, id, name)?;
