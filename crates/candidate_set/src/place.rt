@@ -25,10 +25,7 @@ pub(crate) struct Place {
 pub(crate) fn place_at(alloc: Global, path: &Path) -> Result<Option<Place>, AllocError>
     ensures { IfOk result (λ r. MatchOption r (IsNoPlace path.now) (IsPlaceAt path.now)) }
 {
-    let Some(text) = path
-        .text()
-        .strip_prefix("var/db/repos/gentoo/metadata/md5-cache/")
-    else {
+    let Some(text) = path.behind(CACHE) else {
         return Ok(None);
     };
     let Some(id) = PackageId::from_text(alloc, text)? else {

@@ -1,7 +1,6 @@
 -- The folder of a path, as it is cut out of the path's text.
 use Rattle.std.proofs.Common.{◌≡◌, ◌∙◌, ◌<◌, ◌||◌, ◌==◌, ℕ, Bool, true, false, Option, MatchOption, List, ◌∷◌, ◌++◌, length, get_or, refl, ap, sym, lit<, eq-eqb}
 use Rattle.std.specs.Prelude.{codes}
-use Rattle.std.specs.Str.Pattern.{FindsTextPrefix, StripsPrefix}
 use Rattle.std.proofs.lemmas.Bool.{ne_eqb, or_parts, true≢false}
 use Rattle.std.proofs.lemmas.List.{append_cancel_left}
 use Rattle.std.proofs.lemmas.List.Folds.{list_any_at}
@@ -15,9 +14,6 @@ no_slash_at text none i lt e = true≢false (sym (list_any_at (λ b. b == 47) te
 
 pub no_slash_if : (text : List ℕ) → ((i : ℕ) → i < length text → get_or text i 0 ≡ 47 → ⊥) → has_slash text ≡ false
 no_slash_if text none = or_from_places has_slash (λ b. b == 47) refl (λ _ _. refl) text 0 (λ i lt. ne_eqb (get_or text i 0) 47 (none i lt))
-
-pub begins_by : (path rest : List ℕ) → StripsPrefix (FindsTextPrefix (codes "var/db/pkg/")) path rest → path ≡ codes "var/db/pkg/" ++ rest
-begins_by path rest h = h.1.1 ∙ ap (λ (t : List ℕ). codes "var/db/pkg/" ++ t) (sym h.2)
 
 module _ (path rest : List ℕ) (begins : path ≡ codes "var/db/pkg/" ++ rest) (c : IsCounted path) where
   -- the category ends at the first slash behind the database's folder

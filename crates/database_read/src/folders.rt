@@ -10,7 +10,7 @@ use basics::Text;
 use file_tree::{Path, Tree, TreeFault};
 use std::alloc::{AllocError, Global};
 use std::collections::BTreeSet;
-use vdb_text::path_of_database;
+use vdb_text::{DATABASE, path_of_database};
 
 /// The folders of the database in which something stands, as `category/name-version` in byte order.
 /// Those whose name or whose category's name begins with a hyphen or a full stop are left out.
@@ -35,7 +35,7 @@ fn folders_among(alloc: Global, listed: &[Path]) -> Result<Vec<Text>, AllocError
 {
     let mut folders = BTreeSet::new(alloc);
     for path in listed {
-        let Some((category, pf)) = folder_of(path.text()) else {
+        let Some((category, pf)) = folder_of(path) else {
             continue;
         };
         folders.insert(text_of(alloc, category, pf)?)?;
@@ -63,11 +63,11 @@ fn in_order(alloc: Global, texts: BTreeSet<Text>) -> Result<Vec<Text>, AllocErro
 }
 
 /// The category, and the name with the version, of the folder in which a path is.
-fn folder_of(path: &str) -> Option<(&str, &str)>
+fn folder_of(path: &Path) -> Option<(&str, &str)>
     ensures { MatchOption result (¬ IsCounted path.now)
         (λ x. IsInFolder x.0.now x.1.now path.now) }
 {
-    let rest = path.strip_prefix("var/db/pkg/")?;
+    let rest = path.behind(DATABASE)?;
     let (category, behind) = rest.split_once('/')?;
     let (pf, _) = behind.split_once('/')?;
     if is_left_out(category, pf) {
