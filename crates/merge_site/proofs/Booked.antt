@@ -417,3 +417,11 @@ opened_booked k n ws b rest none unclaimed =
       over = λ g has. absurd has;
       owners = λ q. refl;
     }
+
+-- the book behind the last sync of a group: it is settled where that was answered Ok
+pub booked_end : (k k' : Keeping) (es es' : List trails.Entry) (ws : List (List Wish)) (o b b' : Book) (g : ℕ) (ok : Bool) → AreFresh k → IsBooked k es ws o b → Admits (machine_of k) (SyncClosed g) → (standing_in k.standings g).phase ≡ GateTaken
+    → machine_of k' ≡ answered (machine_of k) (SyncClosed g) ok → length k'.standings ≡ length k.standings → es' ≡ es ++ (SyncClosed g, ok) ∷ []
+    → (ok ≡ true → (c : Parts) → claim_in b.claims g ≡ Some c → HasSettled b b' c) → (ok ≡ true → ChangesClaim b b' g None) → (ok ≡ false → b' ≡ b) → IsBooked k' es' ws o b'
+booked_end k k' es es' ws o b b' g true fresh booked admits taken goes count log owners claims before = booked_settle k k' es es' ws o b b' g booked taken goes count log (owners refl) (claims refl)
+booked_end k k' es es' ws o b b' g false fresh booked admits taken goes count log owners claims before =
+    subst (λ (x : Book). IsBooked k' es' ws o x) (sym (before refl)) (booked_on k k' es es' ws o b (SyncClosed g) false refl fresh booked admits goes count log)

@@ -1,12 +1,26 @@
-ghost use Rattle.std.specs.Prelude.{◌≡◌, is_ok, IsErr, IsTrue};
+ghost use Rattle.std.specs.Prelude.{◌≡◌, false, is_ok, None, Some, IsErr, IsTrue};
 ghost use Rattle.file_tree.specs.Disk.{CountsFault};
 ghost use Rattle.merge_core.specs.Event.{Acknowledge, SyncClosed};
 ghost use Rattle.merge_core.specs.Steps.{IsTaken};
+ghost use Rattle.owner_book.specs.Book.{ChangesClaim, HasSettled, Parts, claim_in};
 ghost use Rattle.merge_site.specs.Site.{Adds, Writes};
 
 use crate::site::{Site, enter, sync_step};
 use file_tree::{Failed, Sink, Tree};
 use merge_core::Step;
+use owner_book::OwnerBook;
+
+/// Settles the claim of a group whose last sync was answered Ok.
+fn settle_synced(book: &mut OwnerBook, group: u32, is_synced: bool)
+    ensures owners { IsTrue is_synced → (c : Parts) →
+        claim_in book.old.claims group ≡ Some c → HasSettled book.old book.new c }
+    ensures claims { IsTrue is_synced → ChangesClaim book.old book.new group None }
+    ensures before { is_synced ≡ false → book.new ≡ book.old }
+{
+    if is_synced {
+        book.settle(group);
+    }
+}
 
 impl<T: Tree, S: Sink> Site<T, S> {
     /// Makes the closed gate of a group durable, and its claim what is owned.
@@ -25,9 +39,7 @@ impl<T: Tree, S: Sink> Site<T, S> {
             group,
             Step::SyncClosed,
         );
-        if answer.is_ok() {
-            self.book.settle(group);
-        }
+        settle_synced(&mut self.book, group, answer.is_ok());
         answer
     }
 
