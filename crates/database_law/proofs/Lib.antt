@@ -2,3 +2,4 @@ pub mod Places
 pub mod Law
 pub mod After
 pub mod Words
+pub mod FileNames

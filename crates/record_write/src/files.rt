@@ -2,7 +2,7 @@ ghost use Rattle.std.specs.Prelude.{◌≡◌, ◌++◌, IfOk, OnOk, map};
 ghost use Rattle.pms_names.specs.Flags.{IsRising};
 ghost use Rattle.database_law.specs.Fields.{Says, is_needed, name_of};
 ghost use Rattle.database_law.specs.Packages.{paths};
-ghost use Rattle.vdb_text.specs.Files.{record_file, record_path};
+ghost use Rattle.vdb_text.specs.Files.{record_file};
 ghost use Rattle.record_read.specs.Views.{field_of};
 ghost use Rattle.record_write.specs.Recorded.{IsRecordable, folder_of};
 ghost use Rattle.record_write.specs.Written.{AreFolderFiles, file_if_written, installed_with};
@@ -14,11 +14,11 @@ use crate::named::facts_are_named;
 use crate::texts::{text_of_flags, text_of_needs, text_of_required, text_of_slots};
 use contents_text::Owned;
 use dep_atom::PackageId;
-use file_tree::{Entry, Kind, Object, Path};
+use file_tree::{Entry, Kind, Object};
 use pkg_state::{Class, Pkg};
 use record_read::{Installed, RecordFile};
 use std::alloc::{AllocError, Global};
-use vdb_text::DATABASE;
+use vdb_text::path_of_record;
 
 /// The files that a folder may have, in byte order of their names.
 const FILES: [RecordFile; 11] = [
@@ -111,7 +111,7 @@ fn record_file(
 ) -> Result<Entry, AllocError>
     ensures { IfOk result (λ e. e ≡ record_file id.now (name_of (field_of file)) bytes.items) }
 {
-    let path = path_of(alloc, id, file)?;
+    let path = path_of_record(alloc, id, file.name())?;
     Ok(Entry {
         path,
         object: Object {
@@ -119,14 +119,4 @@ fn record_file(
             bytes,
         },
     })
-}
-
-#[tactic(auto, unfolding(vdb_text::specs::Files::record_path))]
-fn path_of(alloc: Global, id: &PackageId, file: RecordFile) -> Result<Path, AllocError>
-    ensures { IfOk result (λ p. p ≡ record_path id.now (name_of (field_of file))) }
-{
-    let id = id.print(alloc)?;
-    let name = file.name();
-    let text = format!(in alloc; "{DATABASE}/{id}/{name}")?;
-    Path::parse(alloc, text.as_str()).map_err(|_| AllocError)
 }
