@@ -16,7 +16,7 @@ use owner_book::OwnerBook;
 use pkg_state::Pkg;
 use record_read::Installed;
 use std::alloc::{AllocError, Global};
-use vdb_text::DATABASE;
+use vdb_text::path_of_package;
 
 /// The ownership book of a tree with these packages: each owns the paths that it recorded and the
 /// files of its own folder, and its key is its place among them.
@@ -90,7 +90,5 @@ fn add_recorded(owned: &[Owned], paths: &mut Vec<Path>) -> Result<(), AllocError
 fn folder_of(alloc: Global, pkg: &Pkg) -> Result<Path, AllocError>
     ensures { IfOk result (λ p. p ≡ codes "var/db/pkg/" ++ id_text pkg.now.facts.id) }
 {
-    let name = pkg.facts.id.print(alloc)?;
-    let text = format!(in alloc; "{DATABASE}/{name}")?;
-    Path::parse(alloc, text.as_str()).map_err(|_| AllocError)
+    path_of_package(alloc, &pkg.facts.id)
 }
