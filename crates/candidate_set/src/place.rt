@@ -1,4 +1,5 @@
 ghost use Rattle.std.specs.Prelude.{◌≡◌, IfOk, MatchOption, string_bytes};
+ghost use Rattle.dep_atom.specs.Ids.{IsId};
 ghost use Rattle.dep_atom.specs.Text.{name_text};
 ghost use Rattle.candidate_set.specs.Candidates.{cache_folder, cache_path, ebuild_name};
 ghost use Rattle.candidate_set.specs.Candidates.{ebuild_path};
@@ -54,17 +55,19 @@ pub(crate) fn folder_path(alloc: Global) -> Result<Path, AllocError>
 /// The path of the package's entry.
 #[tactic(auto, unfolding(crate::specs::Candidates::cache_path))]
 pub(crate) fn entry_path(alloc: Global, id: &PackageId) -> Result<Path, AllocError>
+    requires { IsId id.now }
     ensures { IfOk result (λ p. p ≡ cache_path id.now) }
 {
     let id = id.print(alloc)?;
     let id = id.as_str();
     let text = format!(in alloc; "{CACHE}/{id}")?;
-    Path::parse(alloc, text.as_str()).map_err(|_| AllocError)
+    Path::of(alloc, text.as_str())
 }
 
 /// The path of the package's ebuild.
 #[tactic(auto, unfolding(crate::specs::Candidates::ebuild_path))]
 pub(crate) fn ebuild_path(alloc: Global, id: &PackageId) -> Result<Path, AllocError>
+    requires { IsId id.now }
     ensures { IfOk result (λ p. p ≡ ebuild_path id.now) }
 {
     let category = id.name.category.text();
@@ -72,7 +75,7 @@ pub(crate) fn ebuild_path(alloc: Global, id: &PackageId) -> Result<Path, AllocEr
     let name = ebuild_name(alloc, id)?;
     let name = name.as_str();
     let text = format!(in alloc; "var/db/repos/gentoo/{category}/{package}/{name}")?;
-    Path::parse(alloc, text.as_str()).map_err(|_| AllocError)
+    Path::of(alloc, text.as_str())
 }
 
 fn ebuild_name(alloc: Global, id: &PackageId) -> Result<String, AllocError>
