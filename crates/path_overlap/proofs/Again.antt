@@ -1,12 +1,13 @@
 -- What the index knows once one more path is added.
-use Rattle.std.proofs.Common.{◌≡◌, ◌⊎◌, ◌∙◌, ℕ, List, [], ◌∷◌, ◌++◌, Option, Some, None, MatchOption, refl, sym, subst, inl, inr}
+use Rattle.std.proofs.Common.{◌≡◌, ◌⊎◌, ◌∙◌, ℕ, true, List, [], ◌∷◌, ◌++◌, Option, Some, None, MatchOption, refl, sym, subst, inl, inr}
 use Rattle.std.specs.BTreeSet.{insert_key}
 use Rattle.std.specs.declared.cmp.Ordering.TheVariants.{Less}
 use Rattle.basics.specs.Members.{AreDistinct, Has}
 use Rattle.basics.proofs.Membership.{has-append_cases, has-append_left, has-append_right}
 use Rattle.basics.proofs.Texts.{not_less}
 use Rattle.pms_names.specs.Flags.{IsRising, byte_order}
-use Rattle.path_overlap.specs.Indexes.{IsLesser, IsSeen, Seen}
+use Rattle.file_tree.specs.Paths.{is_path}
+use Rattle.path_overlap.specs.Indexes.{ArePaths, IsLesser, IsSeen, Seen}
 use Rattle.path_overlap.specs.Overlaps.{IsFirst, StandsTwice}
 use Rattle.path_overlap.proofs.Sets.{is_there, less_further, was_there}
 
@@ -98,3 +99,13 @@ module _ (p : List ℕ) where
     );
     twice = known_again ps x.twice r seen.twice ((seen.members p).0 there) lesser;
   }
+
+-- with one more path, the index keeps paths alone
+pub paths_more : (p : List ℕ) (x : Seen) (keys : List (List ℕ)) → ArePaths x → is_path p ≡ true → keys ≡ insert_key byte_order x.texts p → ArePaths (record { texts = keys; twice = x.twice })
+paths_more p x keys are path made = record {
+  each = λ t has. elim (was_there p x.texts t (subst (λ (l : List (List ℕ)). Has l t) made has)) [
+    | inl e ↦ subst (λ (q : List ℕ). is_path q ≡ true) e path
+    | inr there ↦ are.each t there
+  ];
+  again = are.again;
+}

@@ -1,14 +1,20 @@
 -- What the index knows of the paths that it was given.
-use Rattle.std.specs.Prelude.{◌≡◌, ◌⊎◌, ◌↔◌, ℕ, List, Option, MatchOption}
+use Rattle.std.specs.Prelude.{◌≡◌, ◌⊎◌, ◌↔◌, ℕ, true, List, Option, IfSome, MatchOption}
 use Rattle.std.specs.declared.cmp.Ordering.TheVariants.{Less}
 use Rattle.basics.specs.Members.{AreDistinct, Has}
 use Rattle.pms_names.specs.Flags.{IsRising, byte_order}
+use Rattle.file_tree.specs.Paths.{is_path}
 use Rattle.path_overlap.specs.Overlaps.{IsFirst, StandsTwice}
 
 -- the texts in byte order, and the first that was there already when it came
 pub record Seen : Type 0 where
   pub texts : List (List ℕ)
   pub twice : Option (List ℕ)
+
+-- all texts that it keeps are paths
+pub record ArePaths (x : Seen) : Type 0 where
+  pub each : (t : List ℕ) → Has x.texts t → is_path t ≡ true
+  pub again : IfSome x.twice (λ t. is_path t ≡ true)
 
 -- it is what was seen of these paths
 pub record IsSeen (ps : List (List ℕ)) (x : Seen) : Type 0 where

@@ -1,7 +1,7 @@
-ghost use Rattle.std.specs.Prelude.{◌≡◌, ◌++◌, ◌∷◌, ℕ, [], false, IfOk, List, MatchOption};
+ghost use Rattle.std.specs.Prelude.{◌≡◌, ◌++◌, ◌∷◌, ℕ, [], false, true, IfOk, List, MatchOption};
 ghost use Rattle.std.specs.Prelude.{OnErr, OnOk};
 ghost use Rattle.basics.specs.Members.{Has};
-ghost use Rattle.file_tree.specs.Paths.{is_below};
+ghost use Rattle.file_tree.specs.Paths.{is_below, is_path};
 ghost use Rattle.path_overlap.specs.Indexes.{IsLesser, IsSeen};
 ghost use Rattle.path_overlap.specs.Overlaps.{AreApart, IsFirst, IsFirstOverlap, IsUnder};
 
@@ -20,11 +20,13 @@ pub struct PathIndex {
 }
 
 impl Model for PathIndex {
-    ghost use Rattle.path_overlap.specs.Indexes.{Seen};
+    ghost use Rattle.path_overlap.specs.Indexes.{ArePaths, Seen};
 
     ghost Value = { Seen };
 
     ghost view = { λ x. record { texts = x.texts.keys; twice = x.twice } };
+
+    ghost invariant = { λ x. ArePaths (record { texts = x.texts.keys; twice = x.twice }) };
 }
 
 impl PathIndex {
@@ -109,7 +111,8 @@ fn is_below(top: &str, path: &str) -> bool
 }
 
 fn path_of(alloc: Global, text: &Text) -> Result<Path, AllocError>
+    requires { is_path text.now ≡ true }
     ensures { IfOk result (λ p. p ≡ text.now) }
 {
-    Path::parse(alloc, text.as_str()).map_err(|_| AllocError)
+    Path::of(alloc, text.as_str())
 }

@@ -1,7 +1,8 @@
-use Rattle.std.proofs.Common.{◌≡◌, ◌∙◌, ◌++◌, ◌∷◌, [], List, None, Option, ap, append_assoc, false, subst, sym, ℕ}
+use Rattle.std.proofs.Common.{◌≡◌, ◌∙◌, ◌++◌, ◌∷◌, [], List, None, Option, ap, append_assoc, false, inl, refl, subst, sym, ℕ}
 use Rattle.std.proofs.lemmas.Option.{MatchOption-at_none, MatchOption-at_some}
 use denote.Ref.{Bor}
 use Rattle.basics.specs.Members.{Has}
+use Rattle.basics.proofs.Membership.{has-append_right}
 use Rattle.file_tree.specs.Paths.{is_below}
 use Rattle.path_overlap.specs.Indexes.{Seen}
 use Rattle.path_overlap.specs.Overlaps.{IsFirst, IsOver, IsUnder}
@@ -37,3 +38,12 @@ loop-text-preserved c =
       is ∙ sym (append_assoc inv.0 (q ∷ []) c.next.new.self),
       none_over_more c.args.self.now.texts inv.0 q inv.2 (subst (λ (l : List (List ℕ)). (s : List ℕ) → Has l s → is_below q s ≡ false) texts none),
     )
+
+pub path_of-requires-in-Some-2 : goal.path_of-requires-in-Some-2
+path_of-requires-in-Some-2 c =
+    let texts = ap (λ (y : Seen). y.texts) c.self.view_is in
+    let inv = c.loop-text.invariant in
+    let q : List ℕ = c.in-Some-text.text.now in
+    let is = inv.1 ∙ ap (λ (l : List (List ℕ)). inv.0 ++ l) c.in-Some-text.ensures.steps in
+    let there : Has c.self.inside.texts.keys q = subst (λ (l : List (List ℕ)). Has l q) (sym (texts ∙ is)) (has-append_right inv.0 (q ∷ c.next.new.self) q (inl refl)) in
+    c.self.invariant.each q there
