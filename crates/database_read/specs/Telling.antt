@@ -1,8 +1,9 @@
 -- What the folders of a map's database tell of their packages.
-use Rattle.std.specs.Prelude.{◌≡◌, ℕ, List, ◌∷◌, ◌++◌, codes}
+use Rattle.std.specs.Prelude.{◌≡◌, ℕ, true, List, ◌∷◌, ◌++◌, codes}
 use Rattle.std.specs.List.{AllZip}
 use Rattle.dep_atom.specs.Ids.{IsId}
 use Rattle.file_tree.specs.Disk.{Map}
+use Rattle.file_tree.specs.Paths.{is_path}
 use Rattle.database_law.specs.Database.{folder, folder_name}
 use Rattle.database_law.specs.Fields.{Field, Says, name_of, text_of}
 use Rattle.database_law.specs.Packages.{Installed, id_of}
@@ -15,6 +16,10 @@ folder_path text = codes "var/db/pkg/" ++ text
 -- the path of a file in the folder of this text
 abbrev pub file_path : List ℕ → Field → List ℕ
 file_path text k = codes "var/db/pkg/" ++ (text ++ (47 ∷ name_of k))
+
+-- the files in the folder of this text are at paths
+abbrev pub HasFilePaths : List ℕ → Type 0
+HasFilePaths text = (k : Field) → is_path (file_path text k) ≡ true
 
 -- the texts of the files in the folder of this text
 abbrev pub texts_at : Map → List ℕ → Texts

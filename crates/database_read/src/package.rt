@@ -8,7 +8,7 @@ ghost use Rattle.record_read.specs.Views.{texts_in};
 ghost use Rattle.record_read.specs.declared.fault.RecordFault.{RecordFault as RecordFaultValue};
 ghost use Rattle.database_read.specs.Faults.{FolderFault, located};
 ghost use Rattle.database_read.specs.Machine.{IsOfMachine};
-ghost use Rattle.database_read.specs.Telling.{Tells};
+ghost use Rattle.database_read.specs.Telling.{HasFilePaths, Tells};
 
 use crate::fault::DatabaseFault;
 use crate::paths::{file_path, folder_path};
@@ -52,6 +52,7 @@ fn package_in(
     id: PackageId,
     texts: &RecordTexts,
 ) -> Result<Installed, DatabaseFault>
+    requires { HasFilePaths folder.now }
     ensures found { IfOk result (λ p. Tell (texts_in texts.now) id p) }
     ensures only { (p : InstalledValue) → Tell (texts_in texts.now) id p →
         MatchResult result (λ r. r ≡ p) (λ e. e ≡ DatabaseFault.Tree TreeFault.Memory) }
@@ -68,6 +69,7 @@ fn package_in(
 
 /// The fault of a record, by the path of its file.
 fn located(alloc: Global, folder: &str, fault: RecordFault) -> Result<DatabaseFault, AllocError>
+    requires { HasFilePaths folder.now }
     ensures told { IfOk result (λ e. e ≡ located folder.now fault) }
     ensures quiet { IfOk result (λ e. ¬ (e ≡ DatabaseFault.Tree TreeFault.Failed)) }
 {

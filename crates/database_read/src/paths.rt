@@ -1,6 +1,6 @@
 ghost use Rattle.std.specs.Prelude.{◌≡◌, IfOk};
 ghost use Rattle.record_read.specs.Views.{field_of};
-ghost use Rattle.database_read.specs.Telling.{file_path, folder_path};
+ghost use Rattle.database_read.specs.Telling.{HasFilePaths, file_path, folder_path};
 
 use file_tree::Path;
 use record_read::RecordFile;
@@ -17,11 +17,12 @@ pub(crate) fn folder_path(alloc: Global, folder: &str) -> Result<Path, AllocErro
 
 /// The path of a file in it.
 pub(crate) fn file_path(alloc: Global, folder: &str, file: RecordFile) -> Result<Path, AllocError>
+    requires { HasFilePaths folder.now }
     ensures { IfOk result (λ p. p ≡ file_path folder.now (field_of file)) }
 {
     let name = file.name();
     let text = format!(in alloc; "{DATABASE}/{folder}/{name}")?;
-    path_of(alloc, text.as_str())
+    Path::of(alloc, text.as_str())
 }
 
 /// The path that a text spells.

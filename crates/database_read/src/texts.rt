@@ -4,7 +4,7 @@ ghost use Rattle.database_law.specs.Database.{folder};
 ghost use Rattle.database_law.specs.Fields.{text_of};
 ghost use Rattle.record_read.specs.Texts.{folder_texts};
 ghost use Rattle.record_read.specs.Views.{field_of, texts_in};
-ghost use Rattle.database_read.specs.Telling.{file_path, texts_at};
+ghost use Rattle.database_read.specs.Telling.{HasFilePaths, file_path, texts_at};
 
 use crate::paths::file_path;
 use dep_atom::PackageId;
@@ -12,6 +12,7 @@ use file_tree::{Kind, Object, Tree, TreeFault};
 use pkg_state::Class;
 use record_read::{FileText, RecordFile, RecordTexts};
 use std::alloc::Global;
+use vdb_text::id_is_one;
 
 /// The texts of the files of a package's folder. A link in the place of a file counts as missing.
 pub fn read_folder<T: Tree>(
@@ -25,6 +26,7 @@ pub fn read_folder<T: Tree>(
     ensures faults { CountsFault (IsErrOf result TreeFault.Failed) (T.faults tree.old)
         (T.faults tree.new) }
 {
+    id_is_one(id);
     let folder = id.print(alloc)?;
     read_texts(alloc, tree, folder.as_str())
 }
@@ -35,6 +37,7 @@ pub(crate) fn read_texts<T: Tree>(
     tree: &mut T,
     folder: &str,
 ) -> Result<RecordTexts, TreeFault>
+    requires { HasFilePaths folder.now }
     ensures texts { IsTrue T.tells → IfOk result
         (λ r. texts_in r ≡ texts_at (T.story tree.old).now.holds folder.now) }
     ensures same { IsTrue T.tells → T.story tree.new ≡ T.story tree.old }
@@ -74,6 +77,7 @@ fn read_text<T: Tree>(
     folder: &str,
     file: RecordFile,
 ) -> Result<FileText, TreeFault>
+    requires { HasFilePaths folder.now }
     ensures text { IsTrue T.tells → IfOk result
         (λ t. t ≡ texts_at (T.story tree.old).now.holds folder.now (field_of file)) }
     ensures same { IsTrue T.tells → T.story tree.new ≡ T.story tree.old }

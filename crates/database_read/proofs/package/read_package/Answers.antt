@@ -12,6 +12,7 @@ use Rattle.database_read.specs.Faults.{FolderFault, located}
 use Rattle.database_read.specs.Machine.{IsOfMachine}
 use Rattle.database_read.specs.Telling.{Tells, texts_at}
 use Rattle.database_read.specs.declared.fault.DatabaseFault.TheVariants.{Tree}
+use Rattle.database_read.proofs.Placed.{file_paths}
 use Rattle.database_read.proofs.Record.{bad_record, of_machine, tells, told_by}
 use Rattle.database_read.proofs.package.read_package.Goals as goal
 
@@ -55,3 +56,17 @@ returns-clause-fault g c t =
       | inr f ↦ inr (bad_record m text id owner texts are f.0 e f.1 (f.2 ∙ ap (λ (s : List ℕ). located s f.0) same))
     ])
     c.package_in.ensures.fault
+
+pub read_texts-requires : goal.read_texts-requires
+read_texts-requires g c =
+    let spelled : List ℕ = c.as_str-folder.result.now in
+    let id : PackageId = c.in-Some.id in
+    let owner : IsIdOf spelled id = MatchOption-at_some (IsNoId spelled) (IsIdOf spelled) id c.in-Some.is c.in_ok-id.ensures in
+    file_paths id spelled owner.is owner.named
+
+pub package_in-requires : goal.package_in-requires
+package_in-requires g c =
+    let spelled : List ℕ = c.as_str-folder.result.now in
+    let id : PackageId = c.in-Some.id in
+    let owner : IsIdOf spelled id = MatchOption-at_some (IsNoId spelled) (IsIdOf spelled) id c.in-Some.is c.in_ok-id.ensures in
+    file_paths id spelled owner.is owner.named

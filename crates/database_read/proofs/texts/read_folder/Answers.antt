@@ -5,6 +5,7 @@ use Rattle.record_read.specs.Views.{texts_in}
 use Rattle.database_law.specs.Database.{folder}
 use Rattle.database_read.specs.Telling.{texts_at}
 use Rattle.database_read.proofs.Files.{own_texts}
+use Rattle.database_read.proofs.Placed.{file_paths}
 use Rattle.database_read.proofs.texts.read_folder.Goals as goal
 
 pub returns-clause-texts : goal.returns-clause-texts
@@ -14,3 +15,6 @@ returns-clause-texts g c t =
     let id = c.args.id.now in
     IfOk-weaker c.read_texts.result (λ r. texts_in r ≡ texts_at m text) (λ r. texts_in r ≡ folder_texts (folder m id))
     (λ r e. e ∙ own_texts m id text (c.as_str.ensures.value ∙ c.in_ok-folder.ensures)) (c.read_texts.ensures.texts t)
+
+pub read_texts-requires : goal.read_texts-requires
+read_texts-requires g c = file_paths c.args.id.now c.as_str.result.now c.id_is_one.ensures (c.as_str.ensures.value ∙ c.in_ok-folder.ensures)
