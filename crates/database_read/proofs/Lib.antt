@@ -1,5 +1,6 @@
 mod Cuts
 mod Files
+mod Fronts
 mod Listed
 mod Owners
 mod Placed

@@ -1,6 +1,7 @@
 -- What the folders of a map's database tell of their packages.
 use Rattle.std.specs.Prelude.{◌≡◌, ℕ, true, List, ◌∷◌, ◌++◌, codes}
 use Rattle.std.specs.List.{AllZip}
+use Rattle.basics.specs.Members.{Has}
 use Rattle.dep_atom.specs.Ids.{IsId}
 use Rattle.file_tree.specs.Disk.{Map}
 use Rattle.file_tree.specs.Paths.{is_path}
@@ -12,6 +13,10 @@ use Rattle.record_read.specs.Texts.{Texts}
 -- the path of the folder of this text
 abbrev pub folder_path : List ℕ → List ℕ
 folder_path text = codes "var/db/pkg/" ++ text
+
+-- each of these folders is at a path
+abbrev pub AreAtPaths : List (List ℕ) → Type 0
+AreAtPaths texts = (t : List ℕ) → Has texts t → is_path (folder_path t) ≡ true
 
 -- the path of a file in the folder of this text
 abbrev pub file_path : List ℕ → Field → List ℕ

@@ -5,7 +5,7 @@ ghost use Rattle.database_law.specs.Packages.{Installed as InstalledValue};
 ghost use Rattle.database_read.specs.Faults.{ArePast, FirstFault, IsFirstBadFolder, IsFirstOf};
 ghost use Rattle.database_read.specs.Limits.{AreWithin};
 ghost use Rattle.database_read.specs.Machine.{IsOfMachine};
-ghost use Rattle.database_read.specs.Telling.{TellAll};
+ghost use Rattle.database_read.specs.Telling.{AreAtPaths, TellAll};
 
 use crate::fault::DatabaseFault;
 use crate::folders::list_folders;
@@ -63,6 +63,7 @@ fn read_packages<T: Tree>(
     tree: &mut T,
     folders: &[Text],
 ) -> Result<Vec<Installed>, DatabaseFault>
+    requires { AreAtPaths folders.now }
     ensures found { IsTrue T.tells → IfOk result
         (λ v. TellAll (T.story tree.old).now.holds folders.now v.items) }
     ensures only { IsTrue T.tells → (ps : List InstalledValue) →

@@ -1,10 +1,13 @@
-ghost use Rattle.std.specs.Prelude.{◌≡◌, ◌↔◌, ◌||◌, ℕ, List, IfOk, IsErrOf, IsTrue};
+ghost use Rattle.std.specs.Prelude.{◌≡◌, ◌↔◌, ◌||◌, ℕ, List, true, IfOk, IsErrOf, IsTrue};
 ghost use Rattle.std.specs.Prelude.{MatchOption};
+ghost use Rattle.std.specs.List.{AllByRecursion};
 ghost use Rattle.basics.specs.Members.{Has};
 ghost use Rattle.database_law.specs.Database.{IsCounted, is_skipped};
 ghost use Rattle.file_tree.specs.Disk.{CountsFault};
+ghost use Rattle.file_tree.specs.Paths.{is_path};
 ghost use Rattle.pms_names.specs.Flags.{IsRising};
 ghost use Rattle.database_read.specs.Folders.{AreFolders, IsAmong, IsInFolder, folder_text};
+ghost use Rattle.database_read.specs.Telling.{AreAtPaths};
 
 use basics::Text;
 use file_tree::{Path, Tree, TreeFault};
@@ -18,13 +21,24 @@ pub fn list_folders<T: Tree>(alloc: Global, tree: &mut T) -> Result<Vec<Text>, T
     ensures folders { IsTrue T.tells → IfOk result
         (λ v. AreFolders (T.story tree.old).now.holds v.items) }
     ensures rising { IfOk result (λ v. IsRising v.items) }
+    ensures paths { IfOk result (λ v. AreAtPaths v.items) }
     ensures same { IsTrue T.tells → T.story tree.new ≡ T.story tree.old }
     ensures faults { CountsFault (IsErrOf result TreeFault.Failed) (T.faults tree.old)
         (T.faults tree.new) }
 {
     let database = path_of_database(alloc)?;
     let listed = tree.list(&database)?;
+    are_paths(&listed);
     Ok(folders_among(alloc, &listed)?)
+}
+
+/// A law: these paths are some, as their type promises.
+fn are_paths(listed: &[Path])
+    ensures { AllByRecursion (λ p. is_path p ≡ true) listed.now }
+{
+    for path in listed {
+        let _ = path.text();
+    }
 }
 
 /// The folders in which these paths are.

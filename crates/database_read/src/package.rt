@@ -1,6 +1,7 @@
-ghost use Rattle.std.specs.Prelude.{◌≡◌, ◌⊎◌, IfErr, IfOk, IsErrOf, IsTrue};
+ghost use Rattle.std.specs.Prelude.{◌≡◌, ◌⊎◌, true, IfErr, IfOk, IsErrOf, IsTrue};
 ghost use Rattle.std.specs.Prelude.{MatchResult};
 ghost use Rattle.file_tree.specs.Disk.{CountsFault};
+ghost use Rattle.file_tree.specs.Paths.{is_path};
 ghost use Rattle.database_law.specs.Packages.{Installed as InstalledValue};
 ghost use Rattle.record_read.specs.Faults.{FirstFault};
 ghost use Rattle.record_read.specs.Texts.{Tell};
@@ -8,7 +9,7 @@ ghost use Rattle.record_read.specs.Views.{texts_in};
 ghost use Rattle.record_read.specs.declared.fault.RecordFault.{RecordFault as RecordFaultValue};
 ghost use Rattle.database_read.specs.Faults.{FolderFault, located};
 ghost use Rattle.database_read.specs.Machine.{IsOfMachine};
-ghost use Rattle.database_read.specs.Telling.{HasFilePaths, Tells};
+ghost use Rattle.database_read.specs.Telling.{HasFilePaths, Tells, folder_path};
 
 use crate::fault::DatabaseFault;
 use crate::paths::{file_path, folder_path};
@@ -25,6 +26,7 @@ pub(crate) fn read_package<T: Tree>(
     tree: &mut T,
     folder: &Text,
 ) -> Result<Installed, DatabaseFault>
+    requires { is_path (folder_path folder.now) ≡ true }
     ensures found { IsTrue T.tells → IfOk result
         (Tells (T.story tree.old).now.holds folder.now) }
     ensures only { IsTrue T.tells → (p : InstalledValue) →

@@ -1,4 +1,5 @@
-ghost use Rattle.std.specs.Prelude.{◌≡◌, IfOk};
+ghost use Rattle.std.specs.Prelude.{◌≡◌, true, IfOk};
+ghost use Rattle.file_tree.specs.Paths.{is_path};
 ghost use Rattle.record_read.specs.Views.{field_of};
 ghost use Rattle.database_read.specs.Telling.{HasFilePaths, file_path, folder_path};
 
@@ -9,10 +10,11 @@ use vdb_text::DATABASE;
 
 /// The path of the folder of this text.
 pub(crate) fn folder_path(alloc: Global, folder: &str) -> Result<Path, AllocError>
+    requires { is_path (folder_path folder.now) ≡ true }
     ensures { IfOk result (λ p. p ≡ folder_path folder.now) }
 {
     let text = format!(in alloc; "{DATABASE}/{folder}")?;
-    path_of(alloc, text.as_str())
+    Path::of(alloc, text.as_str())
 }
 
 /// The path of a file in it.
@@ -23,11 +25,4 @@ pub(crate) fn file_path(alloc: Global, folder: &str, file: RecordFile) -> Result
     let name = file.name();
     let text = format!(in alloc; "{DATABASE}/{folder}/{name}")?;
     Path::of(alloc, text.as_str())
-}
-
-/// The path that a text spells.
-fn path_of(alloc: Global, text: &str) -> Result<Path, AllocError>
-    ensures { IfOk result (λ p. p ≡ text.now) }
-{
-    Path::parse(alloc, text).map_err(|_| AllocError)
 }

@@ -5,7 +5,7 @@ use Rattle.database_law.specs.Database.{IsDatabase}
 use Rattle.database_read.specs.Faults.{IsFirstBadFolder, IsFirstOf}
 use Rattle.database_read.specs.Folders.{AreFolders}
 use Rattle.database_read.specs.Machine.{IsOfMachine}
-use Rattle.database_read.specs.Telling.{TellAll}
+use Rattle.database_read.specs.Telling.{AreAtPaths, TellAll}
 use Rattle.database_read.proofs.Whole.{first_fault, is_database, tell_all}
 use Rattle.database_read.proofs.database.read_folders.Goals as goal
 
@@ -38,3 +38,6 @@ returns-clause-fault g c t =
     IfErr-weaker c.read_packages.result (λ e. IsOfMachine e ⊎ IsFirstOf n texts e) (λ e. IsOfMachine e ⊎ IsFirstBadFolder m e)
     (λ e h. elim h [ inl machine ↦ inl machine | inr f ↦ inr (first_fault m texts are e (subst (λ (y : Map). IsFirstOf y texts e) same f)) ])
     (c.read_packages.ensures.fault t)
+
+pub read_packages-requires : goal.read_packages-requires
+read_packages-requires g c = subst AreAtPaths (sym c.deref.ensures.value) c.in_ok-folders.ensures.paths

@@ -1,5 +1,6 @@
 use Rattle.std.proofs.Common.{◌≡◌, ◌∙◌, ◌++◌, ◌+◌, ◌∷◌, [], List, ap, arith, drop, inl, inr, subst, sym, take, ℕ}
 use Rattle.std.proofs.lemmas.Result.{err_from_is_err_and}
+use Rattle.basics.proofs.Membership.{has-at}
 use Rattle.file_tree.specs.Disk.{Map, Story}
 use Rattle.file_tree.specs.declared.fault.TreeFault.TheVariants as trees
 use Rattle.database_law.specs.Packages.{Installed}
@@ -69,3 +70,8 @@ pub returns-in_err-push-clause-fault : goal.returns-in_err-push-clause-fault
 returns-in_err-push-clause-fault g c t =
     let q = err_from_is_err_and c.from_residual-in_err-push.result c.from_residual-in_err-push.ensures.1 in
     rw q.1 (inl (trees.Memory, q.2))
+
+pub read_package-requires : goal.read_package-requires
+read_package-requires g c =
+    let x : List ℕ = c.folder-item.result in
+    c.requires x (has-at c.args.folders.now c.loop-folder.folder-index x c.loop-folder-test.true c.folder-item.is)

@@ -1,8 +1,9 @@
-use Rattle.std.proofs.Common.{◌≡◌, ◌⊎◌, ◌∙◌, List, ap, inl, inr, subst, ℕ}
+use Rattle.std.proofs.Common.{◌≡◌, ◌⊎◌, ◌∙◌, List, ap, inl, inr, subst, sym, true, ℕ}
 use Rattle.std.proofs.lemmas.Option.{MatchOption-at_some}
 use Rattle.std.proofs.lemmas.Result.{IfErr-weaker, IfOk-weaker}
 use Rattle.dep_atom.specs.Ids.{IsIdOf, IsNoId}
 use Rattle.dep_atom.specs.declared.package.PackageId.{PackageId}
+use Rattle.file_tree.specs.Paths.{is_path}
 use Rattle.file_tree.specs.declared.fault.TreeFault.TheVariants as trees
 use Rattle.record_read.specs.Faults.{FirstFault}
 use Rattle.record_read.specs.Texts.{Tell}
@@ -10,7 +11,7 @@ use Rattle.record_read.specs.Views.{texts_in}
 use Rattle.record_read.specs.declared.fault.RecordFault.{RecordFault}
 use Rattle.database_read.specs.Faults.{FolderFault, located}
 use Rattle.database_read.specs.Machine.{IsOfMachine}
-use Rattle.database_read.specs.Telling.{Tells, texts_at}
+use Rattle.database_read.specs.Telling.{Tells, folder_path, texts_at}
 use Rattle.database_read.specs.declared.fault.DatabaseFault.TheVariants.{Tree}
 use Rattle.database_read.proofs.Placed.{file_paths}
 use Rattle.database_read.proofs.Record.{bad_record, of_machine, tells, told_by}
@@ -70,3 +71,6 @@ package_in-requires g c =
     let id : PackageId = c.in-Some.id in
     let owner : IsIdOf spelled id = MatchOption-at_some (IsNoId spelled) (IsIdOf spelled) id c.in-Some.is c.in_ok-id.ensures in
     file_paths id spelled owner.is owner.named
+
+pub folder_path-requires : goal.folder_path-requires
+folder_path-requires g c = subst (λ (t : List ℕ). is_path (folder_path t) ≡ true) (sym c.as_str-folder.ensures) c.requires

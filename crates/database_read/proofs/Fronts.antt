@@ -1,0 +1,64 @@
+-- What stands before a slash of a path is a path.
+use Rattle.std.proofs.Common.{◌≡◌, ◌==◌, ◌<◌, ◌≤◌, ◌-◌, ◌&&◌, ◌||◌, ℕ, zero, suc, Bool, true, false, cond, not, List, [], ◌∷◌, ◌++◌, length, take, drop, refl, sym, ap, ◌∙◌, arith}
+use Rattle.std.specs.Prelude.{bytes_eq}
+use Rattle.std.proofs.lemmas.Bool.{or_parts, true≢false}
+use Rattle.std.proofs.lemmas.List.{drop-append-le, get_or_append_left, length-append, length-take, take-append-le}
+use Rattle.std.proofs.lemmas.List.Sums.{take_while-cons}
+use Rattle.std.proofs.lemmas.Slice.Eq.{bytes_eq-Decides}
+use Rattle.basics.proofs.Texts.{bytes_eq-apart}
+use Rattle.file_tree.specs.Paths.{bad_at, bad_part_at, begins_badly, first_part, is_bad_part, is_path, part_begins}
+use Rattle.file_tree.proofs.Grammar.{HasForm, form_of_path, is_path_if_good}
+
+-- the first part of a text is that of what stands before a slash
+front_part : (d r : List ℕ) → first_part (d ++ 47 ∷ r) ≡ first_part d
+front_part [] r = take_while-cons (λ b. not (b == 47)) 47 r
+front_part (x ∷ d) r =
+    take_while-cons (λ b. not (b == 47)) x (d ++ 47 ∷ r)
+    ∙ ap (λ (l : List ℕ). cond (not (x == 47)) (x ∷ l) []) (front_part d r)
+    ∙ sym (take_while-cons (λ b. not (b == 47)) x d)
+
+-- what a text doesn't begin with, no front of it does
+not_begun : (n d rest : List ℕ) → bytes_eq n (take (length n) (d ++ rest)) ≡ false → bytes_eq n (take (length n) d) ≡ false
+not_begun n d rest h = bytes_eq-apart n (take (length n) d) (λ e. begun e)
+  where
+    begun : n ≡ take (length n) d → ⊥
+    begun e =
+        let size : length n ≡ length (take (length n) d) = ap length e in
+        let within : length n ≤ length d = omega (arith, size, length-take (length n) d) in
+        let same : n ≡ take (length n) (d ++ rest) = e ∙ sym (take-append-le (length n) d rest within) in
+        true≢false (sym ((bytes_eq-Decides n (take (length n) (d ++ rest))).1 same) ∙ h)
+
+neither : (a b c : Bool) → a ≡ false → b ≡ false → c ≡ false → (a || (b || c)) ≡ false
+neither a b c p q r = rw (p, q, r) refl
+
+good_front : (d rest : List ℕ) → begins_badly (d ++ rest) ≡ false → begins_badly d ≡ false
+good_front d rest h =
+    let x = d ++ rest in
+    let one = or_parts (bytes_eq (10 ∷ []) (take 1 x)) (bytes_eq (0 ∷ []) (take 1 x) || bytes_eq (32 ∷ 45 ∷ 62 ∷ []) (take 3 x)) h in
+    let two = or_parts (bytes_eq (0 ∷ []) (take 1 x)) (bytes_eq (32 ∷ 45 ∷ 62 ∷ []) (take 3 x)) one.1 in
+    neither _ _ _ (not_begun (10 ∷ []) d rest one.0) (not_begun (0 ∷ []) d rest two.0) (not_begun (32 ∷ 45 ∷ 62 ∷ []) d rest two.1)
+
+begins_same : (a rest : List ℕ) (k : ℕ) → k ≤ length a → part_begins (a ++ rest) k ≡ part_begins a k
+begins_same a rest zero le = refl
+begins_same a rest (suc k) le = ap (λ (b : ℕ). (suc k == 0) || (b == 47)) (get_or_append_left a rest 0 (suc k - 1) (omega (arith, le)))
+
+either : (a b : Bool) → a ≡ false → b ≡ false → (a || b) ≡ false
+either a b p q = rw (p, q) refl
+
+good_before : (a r : List ℕ) (k : ℕ) → k ≤ length a → bad_at (a ++ 47 ∷ r) k ≡ false → bad_at a k ≡ false
+good_before a r k le h =
+    let whole = a ++ 47 ∷ r in
+    let dropped : drop k whole ≡ drop k a ++ 47 ∷ r = drop-append-le k a (47 ∷ r) le in
+    let parts = or_parts (bad_part_at whole k) (begins_badly (drop k whole)) h in
+    let same : first_part (drop k whole) ≡ first_part (drop k a) = ap first_part dropped ∙ front_part (drop k a) r in
+    let moved : bad_part_at whole k ≡ bad_part_at a k =
+    ap (λ (b : Bool). b && is_bad_part (first_part (drop k whole))) (begins_same a (47 ∷ r) k le)
+    ∙ ap (λ (l : List ℕ). part_begins a k && is_bad_part l) same in
+    either _ _ (sym moved ∙ parts.0) (good_front (drop k a) (47 ∷ r) (sym (ap begins_badly dropped) ∙ parts.1))
+
+pub front_is_path : (a r : List ℕ) → 0 < length a → is_path (a ++ 47 ∷ r) ≡ true → is_path a ≡ true
+front_is_path a r some path =
+    let form : HasForm (a ++ 47 ∷ r) = form_of_path (a ++ 47 ∷ r) path in
+    let short : length (a ++ 47 ∷ r) ≤ 4095 = form.short in
+    let size = length-append a (47 ∷ r) in
+    is_path_if_good a some (omega (arith, short, size)) (λ k lt. good_before a r k (omega (arith, lt)) (form.good k (omega (arith, lt, size))))
