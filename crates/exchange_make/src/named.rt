@@ -1,12 +1,11 @@
 ghost use Rattle.std.specs.List.{AllByRecursion};
-ghost use Rattle.dep_atom.specs.Ids.{IsId};
 ghost use Rattle.merge_record.specs.Spelling.{IsPathText};
 ghost use Rattle.exchange_make.specs.Made.{IsNamed};
 
 use crate::newcomer::Newcomer;
-use dep_atom::PackageId;
 use file_tree::{Entry, Path};
 use record_write::facts_are_named;
+use vdb_text::id_is_one;
 
 /// A law: the packages that come are named as their types promise.
 pub fn newcomers_are_named(newcomers: &[Newcomer])
@@ -23,14 +22,6 @@ fn newcomer_is_named(newcomer: &Newcomer)
     facts_are_named(&newcomer.pkg.facts);
     id_is_one(&newcomer.pkg.facts.id);
     paths_are_texts(&newcomer.image);
-}
-
-fn id_is_one(id: &PackageId)
-    ensures { IsId id.now }
-{
-    let _ = id.name.category.text();
-    let _ = id.name.package.text();
-    let _ = id.version.text();
 }
 
 fn paths_are_texts(image: &[Entry])

@@ -1,19 +1,10 @@
 ghost use Rattle.std.specs.Prelude.{map};
 ghost use Rattle.std.specs.List.{AllByRecursion};
-ghost use Rattle.dep_atom.specs.Ids.{IsId};
 ghost use Rattle.single_plan.specs.Named.{IsNamed};
 
-use dep_atom::PackageId;
 use pkg_state::Pkg;
 use record_write::facts_are_named;
-
-fn id_is_one(id: &PackageId)
-    ensures { IsId id.now }
-{
-    let _ = id.name.category.text();
-    let _ = id.name.package.text();
-    let _ = id.version.text();
-}
+use vdb_text::id_is_one;
 
 /// A law: a package is named as its types promise.
 pub(crate) fn package_is_named(pkg: &Pkg)
