@@ -1,4 +1,5 @@
 pub mod Caused
+pub mod Changed
 pub mod Cleared
 pub mod Drove
 pub mod Granted

@@ -398,11 +398,3 @@ taken_at k g s p at phase due = record {
 -- a group that may begin runs
 pub runs_if_taken : (k : Keeping) (g : ℕ) → IsTaken k g steps.Begin → IsRunning k g
 runs_if_taken k g taken = (taken.comes.0, elim taken.comes.1 [ inl e ↦ e | inr a ↦ absurd (cc a) ])
-
-removed_answered : (m : Machine) (g : ℕ) (ok : Bool) → ((answered m (PlacePath g) ok).roll.standing g).removed ≡ (m.roll.standing g).removed
-removed_answered m g true = ap (λ (s : Standing). s.removed) (set_here m.roll g _)
-removed_answered m g false = ap (λ (s : Standing). s.removed) (set_here m.roll g _)
-
--- to place a path removes none
-pub removed_kept : {T S : Type 0} (old new : Account T S) (g : ℕ) (ok : Bool) → Adds old new (PlacePath g) ok → (standing_at new g).removed ≡ (standing_at old g).removed
-removed_kept old new g ok adds = ap (λ (m : Machine). (m.roll.standing g).removed) adds.machine ∙ removed_answered (machine_of old.keeping) g ok

@@ -2,6 +2,7 @@ pub mod Applied
 pub mod Causes
 pub mod Granted
 pub mod Lines
+pub mod Paths
 pub mod Runs
 pub mod Stops
 pub mod Through

@@ -14,7 +14,7 @@ ghost use Rattle.group_run.specs.Working.{standing_at, stood_at};
 
 use crate::claiming::claim;
 use crate::files::Files;
-use crate::opening::{open, place_paths, remove_paths, settle};
+use crate::opening::{PathChange, change_paths, open, settle};
 use crate::sealing::{mark, record};
 use crate::staging::{begin, stage_packages};
 use crate::stop::Stop;
@@ -75,7 +75,7 @@ pub(crate) fn commit<T: Tree, S: Sink>(site: &mut Site<T, S>, group: u32) -> Res
         (T.faults site.old.tree) (T.faults site.new.tree) }
 {
     open(site, group)?;
-    place_paths(site, group)?;
-    remove_paths(site, group)?;
+    change_paths(site, group, PathChange::Place)?;
+    change_paths(site, group, PathChange::Remove)?;
     settle(site, group)
 }

@@ -1,12 +1,25 @@
-ghost use Rattle.std.specs.Prelude.{◌≡◌, ◌++◌, ◌∷◌, [], length, IfErr, IsErrOf, OnErr, OnOk};
+ghost use Rattle.std.specs.Prelude.{◌≡◌, ◌++◌, ◌∷◌, ◌-◌, ◌<◌, [], length, is_ok};
+ghost use Rattle.std.specs.Prelude.{IfErr, IsErr, IsErrOf, OnErr, OnOk};
 ghost use Rattle.file_tree.specs.Disk.{CountsFault};
 ghost use Rattle.merge_core.specs.Payloads.{IsAt};
+ghost use Rattle.merge_core.specs.Steps.{IsTaken, event_of};
 ghost use Rattle.merge_core.specs.declared.phase.Phase.TheVariants as phases;
+ghost use Rattle.merge_site.specs.Site.{Adds};
+ghost use Rattle.group_run.specs.Paths.{ChangesPaths, due_in, made_in, step_for};
 ghost use Rattle.group_run.specs.Working.{Works, group_in, standing_at};
 
 use crate::stop::Stop;
-use file_tree::{Sink, Tree, TreeFault};
+use file_tree::{Failed, Sink, Tree, TreeFault};
 use merge_site::Site;
+
+/// What becomes of a path of a group.
+#[derive(Clone, Copy)]
+pub(crate) enum PathChange {
+    /// A staged object is placed there.
+    Place,
+    /// What is there goes.
+    Remove,
+}
 
 /// Opens the gate of a claimed group: from here on a crash may leave its changes.
 pub(crate) fn open<T: Tree, S: Sink>(site: &mut Site<T, S>, group: u32) -> Result<(), Stop>
@@ -27,52 +40,57 @@ pub(crate) fn open<T: Tree, S: Sink>(site: &mut Site<T, S>, group: u32) -> Resul
     Ok(())
 }
 
-/// Places all paths of an open group.
-pub(crate) fn place_paths<T: Tree, S: Sink>(site: &mut Site<T, S>, group: u32) -> Result<(), Stop>
-    requires at { IsAt site.old.keeping group phases.Open }
-    requires placed { (standing_at site.old group).placed ≡ 0 }
-    requires removed { (standing_at site.old group).removed ≡ 0 }
-    ensures works { Works group site.old site.new }
-    ensures order { site.new.keeping.order ≡ site.old.keeping.order }
-    ensures at { OnOk result (IsAt site.new.keeping group phases.Open) }
-    ensures placed { OnOk result ((standing_at site.new group).placed ≡
-        length (standing_at site.new group).placements) }
-    ensures removed { (standing_at site.new group).removed ≡ 0 }
-    ensures group { group_in site.new group ≡ group_in site.old group }
-    ensures only { IfErr result (λ e. e ≡ Stop.Tree TreeFault.Failed) }
-    ensures sink { site.new.sink ≡ site.old.sink }
-    ensures faults { CountsFault (IsErrOf result (Stop.Tree TreeFault.Failed))
-        (T.faults site.old.tree) (T.faults site.new.tree) }
+/// How many paths of this kind an open group has still to change.
+fn count_left<T: Tree, S: Sink>(site: &Site<T, S>, group: u32, change: PathChange) -> usize
+    requires { group < length site.now.keeping.standings }
+    ensures { result ≡ due_in (standing_at site.now group) change -
+        made_in (standing_at site.now group) change }
 {
-    let (count, _) = site.left(group);
-    for _ in 0..count {
-        site.place(group)?;
+    let (places, removals) = site.left(group);
+    match change {
+        PathChange::Place => places,
+        PathChange::Remove => removals,
     }
+}
+
+/// Changes the next path of this kind.
+fn change_path<T: Tree, S: Sink>(
+    site: &mut Site<T, S>,
+    group: u32,
+    change: PathChange,
+) -> Result<(), Failed>
+    requires taken { IsTaken site.old.keeping group (step_for change) }
+    ensures event { Adds site.old site.new (event_of group (step_for change)) (is_ok result) }
+    ensures sink { site.new.sink ≡ site.old.sink }
+    ensures faults { CountsFault (IsErr result) (T.faults site.old.tree) (T.faults site.new.tree) }
+{
+    match change {
+        PathChange::Place => site.place(group)?,
+        PathChange::Remove => site.remove_path(group)?,
+    };
     Ok(())
 }
 
-/// Removes the paths of an open group that go with it, behind its places.
-pub(crate) fn remove_paths<T: Tree, S: Sink>(site: &mut Site<T, S>, group: u32) -> Result<(), Stop>
+/// Changes all paths of this kind of an open group.
+pub(crate) fn change_paths<T: Tree, S: Sink>(
+    site: &mut Site<T, S>,
+    group: u32,
+    change: PathChange,
+) -> Result<(), Stop>
     requires at { IsAt site.old.keeping group phases.Open }
-    requires placed { (standing_at site.old group).placed ≡
-        length (standing_at site.old group).placements }
-    requires removed { (standing_at site.old group).removed ≡ 0 }
-    ensures works { Works group site.old site.new }
-    ensures order { site.new.keeping.order ≡ site.old.keeping.order }
+    requires none { made_in (standing_at site.old group) change ≡ 0 }
+    ensures paths { ChangesPaths change group site.old site.new }
     ensures at { OnOk result (IsAt site.new.keeping group phases.Open) }
-    ensures placed { OnOk result ((standing_at site.new group).placed ≡
-        length (standing_at site.new group).placements) }
-    ensures removed { OnOk result ((standing_at site.new group).removed ≡
-        length (standing_at site.new group).removals) }
-    ensures group { group_in site.new group ≡ group_in site.old group }
+    ensures all { OnOk result (made_in (standing_at site.new group) change ≡
+        due_in (standing_at site.new group) change) }
     ensures only { IfErr result (λ e. e ≡ Stop.Tree TreeFault.Failed) }
     ensures sink { site.new.sink ≡ site.old.sink }
     ensures faults { CountsFault (IsErrOf result (Stop.Tree TreeFault.Failed))
         (T.faults site.old.tree) (T.faults site.new.tree) }
 {
-    let (_, count) = site.left(group);
+    let count = count_left(site, group, change);
     for _ in 0..count {
-        site.remove_path(group)?;
+        change_path(site, group, change)?;
     }
     Ok(())
 }
