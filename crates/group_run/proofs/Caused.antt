@@ -1,9 +1,9 @@
 -- Why the run of a group was stopped, by what its calls said.
 use Rattle.std.proofs.Common.{◌≡◌, ◌⊎◌, ◌<◌, ◌++◌, ◌∙◌, ℕ, Bool, true, List, [], ◌∷◌, Result, Ok, Err, inl, inr, refl, ap, subst, sym, length, take, get_or, map, append_assoc, arith}
-use Rattle.std.specs.Prelude.{IfErr, replicate}
+use Rattle.std.specs.Prelude.{IfErr}
 use Rattle.std.specs.List.{AllByRecursion}
 use Rattle.std.proofs.lemmas.Grind.{flat_map-append}
-use Rattle.std.proofs.lemmas.List.{get_or-set_same, length-append, length-map, length-replicate, length-set, length_push, map-append, take_more}
+use Rattle.std.proofs.lemmas.List.{get_or-set_same, length-append, length-map, length-set, length_push, map-append, take_more}
 use Rattle.basics.proofs.Each.{all-append}
 use Rattle.file_tree.specs.Disk.{Map}
 use Rattle.file_tree.specs.Faults.{IsOfMachine}

@@ -1,5 +1,5 @@
 -- What the groups of some turns leave: the map, the owners, and the rest of the run.
-use Rattle.std.proofs.Common.{◌≡◌, ◌⊎◌, ◌<◌, ◌≤◌, ◌++◌, ◌||◌, ◌∙◌, ℕ, zero, suc, Bool, true, false, cond, not, filter, Option, List, [], ◌∷◌, None, inl, inr, refl, sym, ap, subst, length, take, drop, get_or, map, is_some, append_assoc, arith}
+use Rattle.std.proofs.Common.{◌≡◌, ◌⊎◌, ◌<◌, ◌≤◌, ◌+◌, ◌++◌, ◌||◌, ◌∙◌, ℕ, zero, suc, Bool, true, false, cond, not, filter, Option, List, [], ◌∷◌, None, inl, inr, refl, sym, ap, subst, length, take, drop, get_or, map, is_some, append_assoc, arith}
 use Rattle.std.specs.Map.{lookup}
 use Rattle.std.specs.Prelude.{bytes_eq}
 use Rattle.std.proofs.Math.Seq.{drop-cons, take-append_seam}
@@ -8,7 +8,7 @@ use Rattle.std.proofs.lemmas.List.{length-append, map-append, take-append-drop}
 use Rattle.std.proofs.lemmas.Map.Entries.{lookup-filter-keys}
 use Rattle.std.proofs.lemmas.Slice.Eq.{bytes_eq-Decides}
 use Rattle.basics.specs.Members.{AreDistinct, Has}
-use Rattle.basics.proofs.Membership.{distinct-apart}
+use Rattle.basics.proofs.Membership.{distinct-apart, has-append_right}
 use Rattle.file_tree.specs.Disk.{Map}
 use Rattle.file_tree.specs.Paths.{is_below}
 use Rattle.journal.specs.Judging.{is_in}
@@ -50,6 +50,14 @@ has_take (x ∷ xs) ys zero h le has = absurd (omega (arith, le))
 has_take (x ∷ xs) ys (suc n) h le (inl e) = inl e
 has_take (x ∷ xs) ys (suc n) h le (inr has) = inr (has_take xs ys n h (omega (arith, le)) has)
 
+-- what is among the first of a list is so with more behind it
+pub has_longer : (xs ys : List ℕ) (n h : ℕ) → Has (take n xs) h → Has (take n (xs ++ ys)) h
+has_longer [] ys zero h has = absurd has
+has_longer [] ys (suc n) h has = absurd has
+has_longer (x ∷ xs) ys zero h has = absurd has
+has_longer (x ∷ xs) ys (suc n) h (inl e) = inl e
+has_longer (x ∷ xs) ys (suc n) h (inr has) = inr (has_longer xs ys n h has)
+
 pub numbers_then : (ts us : List Turn) → numbers (ts ++ us) ≡ numbers ts ++ numbers us
 numbers_then ts us = map-append (λ (t : Turn). t.group) ts us
 
@@ -66,10 +74,39 @@ beginning xs ys = (length xs, sym (take-append_seam xs ys))
 pub beginning_of : (whole xs ys : List ℕ) → whole ≡ xs ++ ys → IsBeginning whole xs
 beginning_of whole xs ys is = subst (λ (l : List ℕ). IsBeginning l xs) (sym is) (beginning xs ys)
 
+pub begins_longer : (ts us : List Turn) (xs : List ℕ) → IsBeginning (numbers ts) xs → IsBeginning (numbers (ts ++ us)) xs
+begins_longer ts us xs begins =
+    let n : ℕ = begins.0 in
+    let rest = drop n (numbers ts) in
+    beginning_of (numbers (ts ++ us)) xs (rest ++ numbers us)
+    (numbers_then ts us
+    ∙ (ap (λ (l : List ℕ). l ++ numbers us) (sym (take-append-drop n (numbers ts)))
+    ∙ (append_assoc (take n (numbers ts)) rest (numbers us) ∙ ap (λ (l : List ℕ). l ++ (rest ++ numbers us)) (sym begins.1))))
+
 -- a turn of a run in which each number stands once is new
 pub new_turn : (ts us : List Turn) (t : Turn) → AreDistinct (numbers (ts ++ t ∷ us)) → Has (numbers ts) t.group → ⊥
 new_turn ts us t once has =
     distinct-apart (numbers ts) (numbers (t ∷ us)) t.group (subst (λ (l : List ℕ). AreDistinct l) (numbers_then ts (t ∷ us)) once) has (inl refl)
+
+-- a loop over turns, each with a number of its own, has come to this one behind those
+pub record Comes (all ts : List Turn) (t : Turn) : Type 0 where
+  pub behind : List Turn
+  pub split : all ≡ ts ++ t ∷ behind
+  pub new : Has (numbers ts) t.group → ⊥
+  pub has : Has all t
+  pub count : length ts + suc (length behind) ≡ length all
+
+pub comes : (all ts : List Turn) (t : Turn) → ts ≡ take (length ts) all → length ts < length all → t ≡ get_or all (length ts) t → AreDistinct (numbers all) → Comes all ts t
+comes all ts t front lt at once =
+    let us = drop (suc (length ts)) all in
+    let split = split_at all ts t front lt at in
+    record {
+      behind = us;
+      split = split;
+      new = new_turn ts us t (subst (λ (l : List Turn). AreDistinct (numbers l)) split once);
+      has = subst (λ (l : List Turn). Has l t) (sym split) (has-append_right ts (t ∷ us) t (inl refl));
+      count = sym (ap length split ∙ length-append ts (t ∷ us));
+    }
 
 -- what a turn adds to the history and to the acknowledged groups
 pub one_longer : (old new : List ℕ) (g : ℕ) → (new ≡ old) ⊎ (new ≡ old ++ g ∷ []) → length old ≤ length new
@@ -165,6 +202,12 @@ pub plain_behind : (tells : Bool) (m : Map) (b : Book) (groups : List SiteGroup)
 plain_behind tells m b groups [] n e h = h
 plain_behind tells m b groups (t ∷ ts) zero e h = plain_run tells m b groups (changes_of t) t.group e h
 plain_behind tells m b groups (t ∷ ts) (suc n) e h = plain_behind tells (applied m (group_for t ∷ [])) (settled (changes_of t) b) groups ts n e h
+
+-- with more turns behind it is the same
+pub stops_longer : (tells : Bool) (m : Map) (b : Book) (groups : List SiteGroup) (ts us : List Turn) (n : ℕ) (e : Stop) → StopsBehind tells m b groups ts n e → StopsBehind tells m b groups (ts ++ us) n e
+stops_longer tells m b groups [] us n e h = plain_behind tells m b groups us n e h
+stops_longer tells m b groups (t ∷ ts) us zero e h = h
+stops_longer tells m b groups (t ∷ ts) us (suc n) e h = stops_longer tells (applied m (group_for t ∷ [])) (settled (changes_of t) b) groups ts us n e h
 
 pub stops_behind : (tells : Bool) (m : Map) (b : Book) (groups : List SiteGroup) (ts us : List Turn) (t : Turn) (e : Stop) → StopsChanges tells (left_all m ts) (settled_all ts b) groups (changes_of t) t.group e
     → StopsBehind tells m b groups (ts ++ t ∷ us) (length ts) e

@@ -5,8 +5,7 @@ use Rattle.std.proofs.lemmas.Bool.{cases_eq}
 use Rattle.std.proofs.lemmas.List.{length-append, length-map, map-append}
 use Rattle.basics.specs.Members.{Has}
 use Rattle.basics.proofs.Membership.{has-append_cases, has-append_left, has-append_right}
-use Rattle.file_tree.specs.Disk.{Map, Story}
-use Rattle.file_tree.proofs.Moments.{since_weaker}
+use Rattle.file_tree.specs.Disk.{Map}
 use Rattle.journal.specs.Group.{Group, groups, with_groups}
 use Rattle.owner_book.specs.Book.{Book, HasOwnersOf, HasSettled}
 use Rattle.merge_core.specs.Keeping.{machine_of}
@@ -25,7 +24,6 @@ use Rattle.group_run.specs.Causes.{IsOfGroup, StopsChanges}
 use Rattle.group_run.specs.Granted.{IsAdmitted, IsOutside}
 use Rattle.group_run.specs.Through.{HasEnded, HasStood, IsThrough, settled_all}
 use Rattle.group_run.specs.Turns.{AreFirst, AreLetIn, StopsBehind, changes_of, group_for, numbers}
-use Rattle.group_run.specs.Went.{WentWith}
 use Rattle.group_run.specs.Working.{IsAlone, Works, group_in, is_shut, standing_at, stood_at}
 use Rattle.group_run.specs.declared.stop.Stop.{Stop}
 use Rattle.group_run.specs.declared.stop.Stop.TheVariants as stops

@@ -1,7 +1,7 @@
 -- A site on its way through the turns of a run.
 use Rattle.file_tree.specs.declared.fault.TreeFault.TheVariants as trees
 use Rattle.std.specs.Prelude.{◌≡◌, ◌+◌, ◌≤◌, ℕ, Bool, true, false, List, [], ◌∷◌, map}
-use Rattle.std.specs.Prelude.{IsErrOf, IsTrue, Result, Vec, length, vec_capacity, vec_len}
+use Rattle.std.specs.Prelude.{IsErrOf, IsTrue, Result, Vec, vec_capacity, vec_len}
 use Rattle.std.specs.Global.{Global}
 use Rattle.basics.specs.Members.{Has}
 use Rattle.file_tree.specs.Disk.{Map}

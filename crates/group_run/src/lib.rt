@@ -36,6 +36,7 @@
 
 mod claiming;
 mod clearing;
+mod driving;
 mod ends;
 mod files;
 mod merging;

@@ -1,4 +1,4 @@
-ghost use Rattle.std.specs.Prelude.{◌≡◌, ◌<◌, ◌++◌, ◌∷◌, [], ℕ, List, suc, true, length};
+ghost use Rattle.std.specs.Prelude.{◌<◌, ◌++◌, ◌∷◌, [], ℕ, List, suc, length};
 ghost use Rattle.std.specs.Prelude.{IfErr, IsErrOf, IsTrue, OnOk};
 ghost use Rattle.file_tree.specs.Disk.{CountsFault};
 ghost use Rattle.group_run.specs.Lines.{AreLines, Wrote, line_in};

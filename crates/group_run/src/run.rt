@@ -11,7 +11,7 @@ ghost use Rattle.group_run.specs.Went.{HaveRun, WentWith};
 ghost use Rattle.group_run.specs.declared.turn.Turn.{Turn};
 
 use crate::clearing::clear;
-use crate::running::drive;
+use crate::driving::drive;
 use crate::stop::Stop;
 use crate::turn::Turn;
 use file_tree::{Sink, Tree, TreeFault};

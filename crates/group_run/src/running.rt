@@ -1,34 +1,26 @@
 ghost use Rattle.std.specs.Prelude.{◌≡◌, ◌⊎◌, ◌++◌, ◌∷◌, ◌<◌, [], ℕ, List, suc, true, length, map};
-ghost use Rattle.std.specs.Prelude.{take, IfErr, IsErrOf, IsTrue, OnErr, OnOk};
-ghost use Rattle.basics.specs.Members.{AreDistinct, Has};
+ghost use Rattle.std.specs.Prelude.{IfErr, IsErrOf, IsTrue, OnErr, OnOk};
 ghost use Rattle.file_tree.specs.Disk.{CountsFault};
 ghost use Rattle.owner_book.specs.Book.{HasSettled};
 ghost use Rattle.merge_core.specs.Payloads.{IsAt};
 ghost use Rattle.merge_core.specs.Phase.{was_opened};
-ghost use Rattle.merge_core.specs.Roll.{resting};
 ghost use Rattle.merge_core.specs.Steps.{IsTaken};
 ghost use Rattle.merge_core.specs.declared.phase.Phase.TheVariants as phases;
 ghost use Rattle.merge_core.specs.declared.step.Step.TheVariants as steps;
 ghost use Rattle.merge_site.specs.Booking.{wishes_at};
-ghost use Rattle.merge_site.specs.Site.{IsOpened};
 ghost use Rattle.group_run.specs.Applied.{number};
 ghost use Rattle.group_run.specs.Causes.{IsOfGroup, StopsChanges};
 ghost use Rattle.group_run.specs.Granted.{IsAdmitted, changes_in, wishes_of};
-ghost use Rattle.group_run.specs.Lines.{AreLines, AreTold, IsBeginning, Wrote, line_in};
-ghost use Rattle.group_run.specs.Through.{HasEnded, HasRoom, IsThrough};
-ghost use Rattle.merge_site.specs.Site.{IsSameSite};
-ghost use Rattle.group_run.specs.Turns.{AreFirst, StopsBehind, numbers};
-ghost use Rattle.group_run.specs.Went.{DroveWith, HaveRun};
+ghost use Rattle.group_run.specs.Lines.{AreLines, Wrote, line_in};
+ghost use Rattle.group_run.specs.Through.{HasRoom};
 ghost use Rattle.group_run.specs.Working.{IsAlone, Works, changing, group_in, is_shut};
 ghost use Rattle.group_run.specs.Working.{standing_at, stood_at};
-ghost use Rattle.group_run.specs.declared.turn.Turn.{Turn};
 
 use crate::files::Files;
 use crate::merging::{build, commit};
 use crate::opening::close;
 use crate::stop::Stop;
 use crate::telling::{add, tell};
-use crate::turn::Turn;
 use file_tree::{Path, Sink, Tree, TreeFault};
 use merge_site::Site;
 
@@ -133,95 +125,4 @@ pub(crate) fn merge_and_tell<T: Tree, S: Sink>(
     add(acknowledged, group);
     site.promise();
     Ok(())
-}
-
-/// Merges groups one after another, until one is stopped.
-fn merge_all<T: Tree, S: Sink>(
-    site: &mut Site<T, S>,
-    turns: Vec<Turn>,
-    history: &mut Vec<u32>,
-    acknowledged: &mut Vec<u32>,
-) -> Result<(), Stop>
-    requires begun { IsThrough T.tells (T.story site.old.opened).now.holds [] site.old }
-    requires count { length site.old.groups ≡ length site.old.keeping.standings }
-    requires there { (t : Turn) → Has turns.items t → t.group < length site.old.groups }
-    requires once { AreDistinct (numbers turns.items) }
-    requires room { HasRoom (length turns.items) history.old }
-    requires more { HasRoom (length turns.items) acknowledged.old }
-    requires none { history.old.items ≡ [] }
-    requires untold { acknowledged.old.items ≡ [] }
-    ensures same { IsSameSite site.old site.new }
-    ensures ended { HasEnded T.tells (T.story site.new.opened).now.holds turns.items site.new
-        result }
-    ensures rest { (h : ℕ) →
-        ¬ Has (take (suc (length history.new.items)) (numbers turns.items)) h →
-        standing_at site.new h ≡ resting }
-    ensures history { history.new.items ≡ map number site.new.keeping.order }
-    ensures first { IsBeginning (numbers turns.items) history.new.items }
-    ensures kept { AreTold history.new.items acknowledged.new.items }
-    ensures all_told { IfErr result (λ e. IsOfGroup e →
-        acknowledged.new.items ≡ history.new.items) }
-    ensures merged { OnOk result (history.new.items ≡ numbers turns.items) }
-    ensures told { OnOk result (acknowledged.new.items ≡ numbers turns.items) }
-    ensures written { IsTrue S.tells → Wrote
-        (AreLines (line_in site.old.groups) history.new.items acknowledged.new.items)
-        (S.written site.old.sink) (S.written site.new.sink) }
-    ensures cause { IfErr result (StopsBehind T.tells (T.story site.new.opened).now.holds
-        site.new.opened_book site.new.groups turns.items (length history.new.items)) }
-    ensures device { CountsFault (IsErrOf result (Stop.Tree TreeFault.Failed))
-        (T.faults site.old.tree) (T.faults site.new.tree) }
-    ensures output { CountsFault (IsErrOf result Stop.Output) (S.faults site.old.sink)
-        (S.faults site.new.sink) }
-{
-    for turn in turns {
-        site.promise();
-        let Turn {
-            group,
-            removals,
-            packages,
-        } = turn;
-        merge_and_tell(site, group, removals, packages, history, acknowledged)?;
-    }
-    Ok(())
-}
-
-/// Merges groups one after another by a site that was just opened.
-pub(crate) fn drive<T: Tree, S: Sink>(
-    site: &mut Site<T, S>,
-    turns: Vec<Turn>,
-    history: &mut Vec<u32>,
-    acknowledged: &mut Vec<u32>,
-) -> Result<(), Stop>
-    requires opened { IsOpened site.old site.old.opened_book site.old.groups }
-    requires there { (t : Turn) → Has turns.items t → t.group < length site.old.groups }
-    requires once { AreDistinct (numbers turns.items) }
-    requires room { HasRoom (length turns.items) history.old }
-    requires more { HasRoom (length turns.items) acknowledged.old }
-    requires none { history.old.items ≡ [] }
-    requires untold { acknowledged.old.items ≡ [] }
-    ensures drove { IsTrue T.tells → DroveWith (AreFirst (T.story site.old.tree).now.holds
-        site.old.opened_book site.old.groups turns.items)
-        (T.story site.old.tree) (T.story site.new.tree) history.new.items result }
-    ensures machine { HaveRun (numbers turns.items) (length site.old.groups) history.new.items
-        site.new.keeping }
-    ensures first { IsBeginning (numbers turns.items) history.new.items }
-    ensures kept { AreTold history.new.items acknowledged.new.items }
-    ensures all_told { IfErr result (λ e. IsOfGroup e →
-        acknowledged.new.items ≡ history.new.items) }
-    ensures merged { OnOk result (history.new.items ≡ numbers turns.items) }
-    ensures told { OnOk result (acknowledged.new.items ≡ numbers turns.items) }
-    ensures written { IsTrue S.tells → Wrote
-        (AreLines (line_in site.old.groups) history.new.items acknowledged.new.items)
-        (S.written site.old.sink) (S.written site.new.sink) }
-    ensures cause { IfErr result (StopsBehind T.tells (T.story site.old.tree).now.holds
-        site.old.opened_book site.old.groups turns.items (length history.new.items)) }
-    ensures device { CountsFault (IsErrOf result (Stop.Tree TreeFault.Failed))
-        (T.faults site.old.tree) (T.faults site.new.tree) }
-    ensures output { CountsFault (IsErrOf result Stop.Output) (S.faults site.old.sink)
-        (S.faults site.new.sink) }
-{
-    site.promise();
-    let end = merge_all(site, turns, history, acknowledged);
-    site.promise();
-    end
 }

@@ -1,6 +1,6 @@
 -- A run of a plan, turn by turn.
-use Rattle.std.proofs.Common.{◌≡◌, ◌∙◌, ◌++◌, ◌<◌, ◌≤◌, ◌+◌, ℕ, zero, suc, Bool, List, [], ◌∷◌, Result, Ok, Err, ap, append-nil, arith, inl, inr, length, refl, subst, sym, take}
-use Rattle.std.specs.Prelude.{IfErr, OnOk}
+use Rattle.std.proofs.Common.{◌≡◌, ◌∙◌, ◌++◌, ◌<◌, ◌≤◌, ◌+◌, ℕ, zero, suc, Bool, List, [], ◌∷◌, Result, Err, ap, arith, inl, inr, length, refl, subst, sym, take}
+use Rattle.std.specs.Prelude.{IfErr}
 use Rattle.std.proofs.Math.Seq.{take-length}
 use Rattle.std.proofs.lemmas.Bool.{cases_eq}
 use Rattle.std.proofs.lemmas.List.{length-append, length-map, take-append-le}
@@ -14,12 +14,12 @@ use Rattle.plan_law.specs.Plans.{Group, group_at}
 use Rattle.database_law.specs.Packages.{Installed}
 use Rattle.group_run.specs.Causes.{IsOfGroup}
 use Rattle.group_run.specs.Lines.{IsBeginning}
-use Rattle.group_run.specs.Runs.{EndsAt, IsOver, IsUnderWay}
-use Rattle.group_run.specs.Turns.{StopsBehind, numbers}
+use Rattle.group_run.specs.Runs.{EndsAt}
+use Rattle.group_run.specs.Turns.{numbers}
 use Rattle.group_run.specs.declared.stop.Stop.{Stop}
 use Rattle.group_run.specs.declared.turn.Turn.{Turn}
-use Rattle.group_run.proofs.Left.{beginning_of, has_take, numbers_then, plain_behind}
-use Rattle.group_run.proofs.Through.{ended_now, history_now}
+use Rattle.group_run.proofs.Left.{numbers_then}
+use Rattle.group_run.proofs.Onward.{over_now}
 use Rattle.exchange_make.specs.Keys.{folders_with}
 use Rattle.exchange_make.specs.Places.{ArePlaces}
 use Rattle.exchange_make.specs.declared.newcomer.Newcomer.{Newcomer}
@@ -81,36 +81,6 @@ module _ (Image : Order → List Entry → Type 0) (ps : List Installed) (plan :
   )
 
 -- ---- a run that ends between two turns
-
-pub over_now : {T S : Type 0} (tells : Bool) (opening : Map) (ts : List Turn) (history acknowledged : List ℕ) (a : Account T S) (end : Result (Unit {0}) Stop)
-    → IsUnderWay tells opening ts history acknowledged a → IfErr end (λ s. IsOfGroup s → ⊥) → IsOver tells opening ts history acknowledged end a
-over_now tells opening ts history acknowledged a end under plain = record {
-  ended = ended_now tells opening ts a under.through end;
-  order = under.merged ∙ sym (history_now tells opening ts a under.through);
-  rest = λ h not. under.through.rest h (λ has. not (subst (λ (l : List ℕ). Has (take (suc (length history)) l) h) (append-nil (numbers ts))
-      (has_take (numbers ts) [] (suc (length history)) h (let long = ap length under.merged in omega (arith, long)) has)));
-  first = beginning_of (numbers ts) history [] (sym under.merged ∙ sym (append-nil history));
-  kept = inl (under.told ∙ sym under.merged);
-  all_told = told_by end;
-  merged = merged_by end;
-  told = acknowledged_by end;
-  cause = cause_by end plain;
-} where
-  told_by : (e : Result (Unit {0}) Stop) → IfErr e (λ s. IsOfGroup s → acknowledged ≡ history)
-  told_by (Ok x) = tt
-  told_by (Err s) = λ of. under.told ∙ sym under.merged
-
-  merged_by : (e : Result (Unit {0}) Stop) → OnOk e (history ≡ numbers ts)
-  merged_by (Ok x) = under.merged
-  merged_by (Err s) = tt
-
-  acknowledged_by : (e : Result (Unit {0}) Stop) → OnOk e (acknowledged ≡ numbers ts)
-  acknowledged_by (Ok x) = under.told
-  acknowledged_by (Err s) = tt
-
-  cause_by : (e : Result (Unit {0}) Stop) → IfErr e (λ s. IsOfGroup s → ⊥) → IfErr e (StopsBehind tells opening a.opened_book a.groups ts (length history))
-  cause_by (Ok x) no_group = tt
-  cause_by (Err s) no_group = plain_behind tells opening a.opened_book a.groups ts (length history) s no_group
 
 module _ {T S : Type 0} (Image : Order → List Entry → Type 0) (plan : List Group) (jobs : List Job) (places : Places) (held : Holdings) (tells : Bool) (opening : Map) where
   -- .. is a run of the plan so far

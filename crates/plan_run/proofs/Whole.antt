@@ -1,5 +1,5 @@
 -- The whole run of a plan, from those of its parts.
-use Rattle.std.proofs.Common.{◌≡◌, ◌⊎◌, ◌∙◌, ◌++◌, ◌∷◌, ◌≤◌, ◌+◌, ◌^◌, ℕ, zero, suc, List, [], Option, None, Some, Result, Ok, Err, ap, arith, drop, inl, inr, length, map, refl, subst, sym, take, take-append-drop}
+use Rattle.std.proofs.Common.{◌≡◌, ◌⊎◌, ◌∙◌, ◌∷◌, ◌≤◌, ◌+◌, ℕ, zero, suc, List, [], Option, None, Some, Result, Ok, Err, ap, arith, drop, inl, inr, length, map, refl, subst, sym, take, take-append-drop}
 use Rattle.std.specs.Prelude.{IfErr, IsErrOf, OnOk, slice_get}
 use Rattle.std.proofs.lemmas.List.{length-map}
 use Rattle.basics.specs.Members.{Has}
@@ -19,6 +19,7 @@ use Rattle.group_run.specs.Lines.{IsBeginning, line_in, line_or_none}
 use Rattle.group_run.specs.Went.{HaveRun}
 use Rattle.group_run.specs.declared.stop.Stop.{Stop}
 use Rattle.group_run.specs.declared.stop.Stop.TheVariants as merges
+use Rattle.group_run.proofs.Left.{has_longer}
 use Rattle.group_run.proofs.Stopped.{tree_quiet}
 use Rattle.group_run.proofs.Told.{take_none}
 use Rattle.plan_make.specs.Plans.{AreSiteGroups, bytes_of_job, dying_keys, line_bytes, line_for, line_of_job, removed_keys}
@@ -30,17 +31,11 @@ use Rattle.plan_run.specs.declared.stop.PlanStop.TheVariants as stops
 
 -- ---- beginnings
 
-has_more : (xs ys : List ℕ) (k h : ℕ) → Has (take k xs) h → Has (take k (xs ++ ys)) h
-has_more [] ys k h has = absurd (subst (λ (l : List ℕ). Has l h) (take_none k) has)
-has_more (x ∷ xs) ys zero h has = has
-has_more (x ∷ xs) ys (suc k) h (inl e) = inl e
-has_more (x ∷ xs) ys (suc k) h (inr later) = inr (has_more xs ys k h later)
-
 -- what is among the first of a beginning is among the first of the whole
 pub has_first : (whole xs : List ℕ) (k h : ℕ) → IsBeginning whole xs → Has (take k xs) h → Has (take k whole) h
 has_first whole xs k h begins has =
     subst (λ (l : List ℕ). Has (take k l) h) (take-append-drop begins.0 whole)
-    (has_more (take begins.0 whole) (drop begins.0 whole) k h (subst (λ (l : List ℕ). Has (take k l) h) begins.1 has))
+    (has_longer (take begins.0 whole) (drop begins.0 whole) k h (subst (λ (l : List ℕ). Has (take k l) h) begins.1 has))
 
 first_of_first : (whole : List ℕ) (i j : ℕ) → IsBeginning whole (take j (take i whole))
 first_of_first [] i j = (0, ap (take j) (take_none i) ∙ take_none j)

@@ -1,4 +1,4 @@
-use Rattle.std.proofs.Common.{List, ap, subst, sym}
+use Rattle.std.proofs.Common.{ap, subst, sym}
 use Rattle.file_tree.specs.Disk.{Story}
 use Rattle.group_run.specs.Turns.{AreFirst}
 use Rattle.group_run.specs.Went.{DroveWith}

@@ -1,17 +1,15 @@
 use Rattle.std.proofs.Common.{◌≡◌, ◌+◌, ◌≤◌, ℕ, length, take}
 use Rattle.std.specs.Prelude.{IsTrue}
-use Rattle.group_run.specs.Lines.{AreLines, Wrote, line_in}
-use Rattle.group_run.specs.Through.{HasRoom, IsThrough}
 use Rattle.merge_site.specs.Site.{IsSameSite}
-use Rattle.group_run.specs.Turns.{numbers}
-use Rattle.group_run.proofs.running.merge_all.Given as goal
+use Rattle.group_run.specs.Lines.{AreLines, Wrote, line_in}
+use Rattle.group_run.specs.Runs.{IsUnderWay}
+use Rattle.group_run.specs.Through.{HasRoom}
+use Rattle.group_run.proofs.driving.merge_all.Given as goal
 
 abbrev pub invariant-loop-turn : goal.invariant-loop-turn
 invariant-loop-turn g l =
-    IsThrough g.T.Tree.tells (g.T.Tree.story l.site.opened).now.holds l.yielded l.site
+    IsUnderWay g.T.Tree.tells (g.T.Tree.story l.site.opened).now.holds l.yielded l.history.items l.acknowledged.items l.site
     × IsSameSite l.fn.site l.site
-    × (l.history.items ≡ numbers l.yielded)
-    × (l.acknowledged.items ≡ numbers l.yielded)
     × ((n : ℕ) → length l.yielded + n ≡ length l.fn.turns.items → HasRoom n l.history)
     × ((n : ℕ) → length l.yielded + n ≡ length l.fn.turns.items → HasRoom n l.acknowledged)
     × (IsTrue g.S.Sink.tells → Wrote (AreLines (line_in l.fn.site.groups) l.history.items l.acknowledged.items) (g.S.Sink.written l.fn.site.sink) (g.S.Sink.written l.site.sink))
