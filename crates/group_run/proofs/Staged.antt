@@ -24,7 +24,7 @@ use Rattle.merge_site.specs.declared.fault.SiteFault.{SiteFault}
 use Rattle.merge_site.specs.declared.fault.SiteFault.TheVariants as sites
 use Rattle.merge_site.specs.declared.fault.StageFault.{StageFault}
 use Rattle.merge_site.specs.declared.fault.StageFault.TheVariants as faults
-use Rattle.group_run.specs.Working.{Changes, HasStaged, IsInTurn, Works, changing, group_in, group_of_event, is_shut, object_of, standing_at}
+use Rattle.group_run.specs.Working.{Changes, Claims, HasStaged, IsInTurn, Works, changing, group_in, group_of_event, is_shut, object_of, standing_at}
 use Rattle.group_run.proofs.Worked.{at_after, early_on, group_kept, is_early, order_kept, settles, standing_after, worked, worked_failed, worked_stage, works_same}
 
 -- what holds of a group behind a call that may have been its event
@@ -86,14 +86,6 @@ pub early_token : {A T S : Type 0} (r : Result A TreeFault) (old new : Account T
 early_token (Ok a) old new g at adds kept = let e = adds (λ x. cc x) in record { early = early_event old new (PutToken g) true at.phase refl refl refl e; group = group_kept old new (PutToken g) true e refl }
 early_token (Err trees.Failed) old new g at adds kept = let e = adds (λ x. cc x) in record { early = early_event old new (PutToken g) false at.phase refl refl refl e; group = group_kept old new (PutToken g) false e refl }
 early_token (Err trees.Memory) old new g at adds kept = let k = kept refl in record { early = early_same old new g (ap may_end at.phase) k; group = ap (λ x. group_of g (standing_in x.standings g)) k.keeping }
-
--- what holds of a group behind its claim, granted or not: its gate wasn't opened
-pub record Claims {T S : Type 0} (g : ℕ) (old new : Account T S) : Type 0 where
-  pub works : Works g old new
-  pub order : new.keeping.order ≡ old.keeping.order
-  pub group : group_in new g ≡ group_in old g
-  pub shut : is_shut (standing_at new g).phase ≡ true
-  pub unopened : was_opened (standing_at new g).phase ≡ false
 
 pub claims_on : {A T S : Type 0} (r : Result A ClaimStop) (old new : Account T S) (g : ℕ) → IsAt old.keeping g phases.Sealed → OnOk r (Adds old new (Claim g) true) → OnErr r (KeepsHistory old new) → Claims g old new
 claims_on (Ok a) old new g at adds kept =

@@ -12,7 +12,7 @@ use Rattle.merge_core.specs.Event.{SyncClosed, SyncGate, SyncPlaced, SyncSealed,
 use Rattle.merge_core.specs.Keeping.{machine_of}
 use Rattle.merge_core.specs.Phase.{Phase, Building, Claimed, Done, Emptied, GatePut, GateTaken}
 use Rattle.merge_core.specs.Phase.{Idle, Marked, Odd, Open, Placed, Recorded, Redo, Redone, Sealed}
-use Rattle.merge_core.specs.Phase.{is_live, may_end}
+use Rattle.merge_core.specs.Phase.{is_live, may_end, was_opened}
 use Rattle.merge_core.specs.Roll.{Machine, Standing, group_of, idle, phase_at, stood}
 use Rattle.merge_core.specs.Trail as trail
 use Rattle.merge_core.specs.Trail.{machine_after}
@@ -169,3 +169,12 @@ is_shut Redone = false
 is_shut Odd = false
 is_shut Emptied = false
 is_shut p = true
+
+-- a group asked for its claim, and was granted it or not: all that it has, and the groups in the
+-- tree, are the same, and its gate was never opened
+pub record Claims {T S : Type 0} (g : ℕ) (old new : Account T S) : Type 0 where
+  pub works : Works g old new
+  pub order : new.keeping.order ≡ old.keeping.order
+  pub group : group_in new g ≡ group_in old g
+  pub shut : is_shut (standing_at new g).phase ≡ true
+  pub unopened : was_opened (standing_at new g).phase ≡ false

@@ -1,12 +1,10 @@
-ghost use Rattle.std.specs.Prelude.{◌≡◌, true, false, IfErr, IsErrOf, IsTrue, OnOk};
+ghost use Rattle.std.specs.Prelude.{◌≡◌, IfErr, IsErrOf, IsTrue, OnOk};
 ghost use Rattle.file_tree.specs.Disk.{CountsFault};
 ghost use Rattle.merge_core.specs.Payloads.{IsAt};
-ghost use Rattle.merge_core.specs.Phase.{was_opened};
 ghost use Rattle.merge_core.specs.declared.phase.Phase.TheVariants as phases;
 ghost use Rattle.group_run.specs.Causes.{StopsChanges};
 ghost use Rattle.group_run.specs.Granted.{HasBuilt, MayChange};
-ghost use Rattle.group_run.specs.Working.{Changes, Works, group_in, is_shut, standing_at};
-ghost use Rattle.group_run.specs.Working.{stood_at};
+ghost use Rattle.group_run.specs.Working.{Changes, Claims, stood_at};
 
 use crate::stop::Stop;
 use file_tree::{Sink, Tree, TreeFault};
@@ -15,12 +13,8 @@ use merge_site::Site;
 /// Claims the paths of a sealed group. A claim that is stopped leaves it sealed.
 pub(crate) fn claim<T: Tree, S: Sink>(site: &mut Site<T, S>, group: u32) -> Result<(), Stop>
     requires at { IsAt site.old.keeping group phases.Sealed }
-    ensures works { Works group site.old site.new }
-    ensures order { site.new.keeping.order ≡ site.old.keeping.order }
+    ensures claims { Claims group site.old site.new }
     ensures at { OnOk result (IsAt site.new.keeping group phases.Claimed) }
-    ensures group { group_in site.new group ≡ group_in site.old group }
-    ensures shut { is_shut (standing_at site.new group).phase ≡ true }
-    ensures unopened { was_opened (standing_at site.new group).phase ≡ false }
     ensures quiet { IfErr result (λ e. ¬ (e ≡ Stop.Output)) }
     ensures granted { (c : Changes) → HasBuilt c group site.old → IsTrue T.tells →
         OnOk result (MayChange (stood_at (T.story site.old.opened).now.holds site.old)

@@ -12,55 +12,11 @@ use Rattle.group_run.proofs.Worked.{at_after}
 use Rattle.group_run.proofs.Granted.{claim_stops, granted}
 use Rattle.group_run.proofs.claiming.claim.Goals as goal
 
-pub returns-in_err-claim-clause-works : goal.returns-in_err-claim-clause-works
-returns-in_err-claim-clause-works g c =
-    let one = claims_on c.claim.result c.args.site.now c.claim.new.self c.args.group c.requires.at c.claim.ensures.event c.claim.ensures.kept in
-    one.works
+pub returns-in_err-claim-clause-claims : goal.returns-in_err-claim-clause-claims
+returns-in_err-claim-clause-claims g c = claims_on c.claim.result c.args.site.now c.claim.new.self c.args.group c.requires.at c.claim.ensures.event c.claim.ensures.kept
 
-pub returns-in_err-claim-clause-order : goal.returns-in_err-claim-clause-order
-returns-in_err-claim-clause-order g c =
-    let one = claims_on c.claim.result c.args.site.now c.claim.new.self c.args.group c.requires.at c.claim.ensures.event c.claim.ensures.kept in
-    one.order
-
-pub returns-in_err-claim-clause-group : goal.returns-in_err-claim-clause-group
-returns-in_err-claim-clause-group g c =
-    let one = claims_on c.claim.result c.args.site.now c.claim.new.self c.args.group c.requires.at c.claim.ensures.event c.claim.ensures.kept in
-    one.group
-
-pub returns-in_err-claim-clause-shut : goal.returns-in_err-claim-clause-shut
-returns-in_err-claim-clause-shut g c =
-    let one = claims_on c.claim.result c.args.site.now c.claim.new.self c.args.group c.requires.at c.claim.ensures.event c.claim.ensures.kept in
-    one.shut
-
-pub returns-in_err-claim-clause-unopened : goal.returns-in_err-claim-clause-unopened
-returns-in_err-claim-clause-unopened g c =
-    let one = claims_on c.claim.result c.args.site.now c.claim.new.self c.args.group c.requires.at c.claim.ensures.event c.claim.ensures.kept in
-    one.unopened
-
-pub returns-clause-works : goal.returns-clause-works
-returns-clause-works g c =
-    let one = claims_on c.claim.result c.args.site.now c.claim.new.self c.args.group c.requires.at c.claim.ensures.event c.claim.ensures.kept in
-    one.works
-
-pub returns-clause-order : goal.returns-clause-order
-returns-clause-order g c =
-    let one = claims_on c.claim.result c.args.site.now c.claim.new.self c.args.group c.requires.at c.claim.ensures.event c.claim.ensures.kept in
-    one.order
-
-pub returns-clause-group : goal.returns-clause-group
-returns-clause-group g c =
-    let one = claims_on c.claim.result c.args.site.now c.claim.new.self c.args.group c.requires.at c.claim.ensures.event c.claim.ensures.kept in
-    one.group
-
-pub returns-clause-shut : goal.returns-clause-shut
-returns-clause-shut g c =
-    let one = claims_on c.claim.result c.args.site.now c.claim.new.self c.args.group c.requires.at c.claim.ensures.event c.claim.ensures.kept in
-    one.shut
-
-pub returns-clause-unopened : goal.returns-clause-unopened
-returns-clause-unopened g c =
-    let one = claims_on c.claim.result c.args.site.now c.claim.new.self c.args.group c.requires.at c.claim.ensures.event c.claim.ensures.kept in
-    one.unopened
+pub returns-clause-claims : goal.returns-clause-claims
+returns-clause-claims g c = claims_on c.claim.result c.args.site.now c.claim.new.self c.args.group c.requires.at c.claim.ensures.event c.claim.ensures.kept
 
 pub returns-clause-at : goal.returns-clause-at
 returns-clause-at g c =

@@ -33,11 +33,11 @@ returns-clause-works g c =
     let one = works_then c.args.group c.args.site.now c.begin.new.site c.stage_packages.new.site c.begin.ensures.works c.stage_packages.ensures.works in
     let two = works_then c.args.group c.args.site.now c.stage_packages.new.site c.record.new.site one c.record.ensures.works in
     let three = works_then c.args.group c.args.site.now c.record.new.site c.mark.new.site two c.mark.ensures.works in
-    works_then c.args.group c.args.site.now c.mark.new.site c.claim.new.site three c.claim.ensures.works
+    works_then c.args.group c.args.site.now c.mark.new.site c.claim.new.site three c.claim.ensures.claims.works
 
 pub returns-clause-group : goal.returns-clause-group
 returns-clause-group g c =
-    ok_if c.claim.result (c.claim.ensures.group ∙ (c.mark.ensures.group ∙ c.in_ok-record.ensures.group (changes_in c.args.removals.items c.args.packages.items) c.in_ok-stage_packages.ensures.staged refl))
+    ok_if c.claim.result (c.claim.ensures.claims.group ∙ (c.mark.ensures.group ∙ c.in_ok-record.ensures.group (changes_in c.args.removals.items c.args.packages.items) c.in_ok-stage_packages.ensures.staged refl))
 
 pub returns-in_err-stage_packages-clause-shut : goal.returns-in_err-stage_packages-clause-shut
 returns-in_err-stage_packages-clause-shut g c = ends_shut _ c.stage_packages.ensures.early
@@ -59,7 +59,7 @@ returns-in_err-mark-clause-unopened g c = not_opened _ c.mark.ensures.early
 
 pub returns-clause-wishes : goal.returns-clause-wishes
 returns-clause-wishes g c =
-    ok_if c.claim.result ((c.claim.ensures.works.wishes.mine (ap is_staged c.in_ok-mark.ensures.at.phase)).1
+    ok_if c.claim.result ((c.claim.ensures.claims.works.wishes.mine (ap is_staged c.in_ok-mark.ensures.at.phase)).1
     ∙ (ap (λ l. wishes_at l c.args.group) (c.in_ok-mark.ensures.wishes ∙ c.in_ok-record.ensures.wishes) ∙ c.in_ok-stage_packages.ensures.wishes))
 
 pub returns-clause-cause : goal.returns-clause-cause
