@@ -1,11 +1,11 @@
-ghost use Rattle.std.specs.Prelude.{◌≡◌, ◌+◌, ◌<◌, ◌≤◌, ◌^◌, [], length};
+ghost use Rattle.std.specs.Prelude.{◌≡◌, ◌<◌, ◌^◌, [], length, Err, None};
 ghost use Rattle.std.specs.Prelude.{IfErr, IfOk, IsErrOf, IsTrue, MatchOption, OnOk};
-ghost use Rattle.std.specs.Prelude.{vec_capacity, vec_len};
 ghost use Rattle.basics.specs.Members.{AreDistinct, Has};
 ghost use Rattle.file_tree.specs.Disk.{CountsFault};
 ghost use Rattle.merge_core.specs.Trail.{IsAtRest};
 ghost use Rattle.group_run.specs.Causes.{IsOfGroup};
 ghost use Rattle.group_run.specs.Lines.{AreLines, AreTold, IsBeginning, Wrote, line_in};
+ghost use Rattle.group_run.specs.Through.{HasRoom};
 ghost use Rattle.group_run.specs.Turns.{AreFirst, HaveCause, numbers};
 ghost use Rattle.group_run.specs.Went.{HaveRun, WentWith};
 ghost use Rattle.group_run.specs.declared.turn.Turn.{Turn};
@@ -46,10 +46,8 @@ impl Batch {
         ensures groups { IfOk result (λ b. b.groups.items ≡ groups.items) }
         ensures none { IfOk result (λ b. b.history.items ≡ []) }
         ensures untold { IfOk result (λ b. b.acknowledged.items ≡ []) }
-        ensures room { IfOk result (λ b. vec_len b.history + length turns.items ≤
-            vec_capacity b.history) }
-        ensures more { IfOk result (λ b. vec_len b.acknowledged + length turns.items ≤
-            vec_capacity b.acknowledged) }
+        ensures room { IfOk result (λ b. HasRoom (length turns.items) b.history) }
+        ensures more { IfOk result (λ b. HasRoom (length turns.items) b.acknowledged) }
     {
         let history = Vec::with_capacity(alloc, turns.len())?;
         let acknowledged = Vec::with_capacity(alloc, turns.len())?;
@@ -77,6 +75,27 @@ pub struct Merged<T, S> {
     pub acknowledged: Vec<u32>,
 }
 
+/// What comes back where no site was opened, for want of memory.
+fn unopened<T, S>(tree: T, sink: S, history: Vec<u32>, acknowledged: Vec<u32>) -> Merged<T, S>
+    ensures { result ≡ record {
+      tree = tree;
+      sink = sink;
+      machine = None;
+      end = Err (Stop.Tree TreeFault.Memory);
+      history = history;
+      acknowledged = acknowledged;
+    } }
+{
+    Merged {
+        tree,
+        sink,
+        machine: None,
+        end: Err(Stop::Tree(TreeFault::Memory)),
+        history,
+        acknowledged,
+    }
+}
+
 /// Merges groups one after another into a tree at rest through one site, writes the line of each, and
 /// clears the journal. The first that is stopped ends the run: no later one begins.
 pub fn merge_groups<T: Tree, S: Sink>(alloc: Global, tree: T, sink: S, batch: Batch) -> Merged<T, S>
@@ -87,10 +106,8 @@ pub fn merge_groups<T: Tree, S: Sink>(alloc: Global, tree: T, sink: S, batch: Ba
     requires unclaimed { batch.book.claims ≡ [] }
     requires none { batch.history.items ≡ [] }
     requires untold { batch.acknowledged.items ≡ [] }
-    requires room { vec_len batch.history + length batch.turns.items ≤
-        vec_capacity batch.history }
-    requires more { vec_len batch.acknowledged + length batch.turns.items ≤
-        vec_capacity batch.acknowledged }
+    requires room { HasRoom (length batch.turns.items) batch.history }
+    requires more { HasRoom (length batch.turns.items) batch.acknowledged }
     ensures went { IsTrue T.tells → WentWith (AreFirst (T.story tree).now.holds batch.book
         batch.groups.items batch.turns.items)
         (T.story tree) (T.story result.tree) result.history.items result.end }
@@ -121,16 +138,7 @@ pub fn merge_groups<T: Tree, S: Sink>(alloc: Global, tree: T, sink: S, batch: Ba
     } = batch;
     let mut site = match Site::open(alloc, tree, sink, book, groups) {
         Ok(site) => site,
-        Err((_, tree, sink)) => {
-            return Merged {
-                tree,
-                sink,
-                machine: None,
-                end: Err(Stop::Tree(TreeFault::Memory)),
-                history,
-                acknowledged,
-            };
-        }
+        Err((_, tree, sink)) => return unopened(tree, sink, history, acknowledged),
     };
     let end = drive(&mut site, turns, &mut history, &mut acknowledged);
     let (mut tree, sink, machine) = site.into_parts();

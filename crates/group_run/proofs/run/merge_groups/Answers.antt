@@ -14,14 +14,16 @@ use Rattle.group_run.proofs.run.merge_groups.Goals as goal
 
 pub returns-in-Err-clause-written : goal.returns-in-Err-clause-written
 returns-in-Err-clause-written g c t =
+    rw c.unopened.ensures
     ([], lines_none (line_in c.args.batch.groups.items) c.args.batch.history.items c.args.batch.acknowledged.items c.requires.untold, ap g.S.Sink.written c.in-Err.ensures.back.1 ∙ sym (append-nil _))
 
 pub returns-in-Err-clause-went : goal.returns-in-Err-clause-went
 returns-in-Err-clause-went g c t =
     let batch = c.args.batch in
     let m = (g.T.Tree.story c.args.tree).now.holds in
-    nowhere (AreFirst m batch.book batch.groups.items batch.turns.items) (g.T.Tree.story c.args.tree) (g.T.Tree.story c.in-Err.tree) batch.history.items _ (record { first = []; rest = batch.turns.items; split = refl; are = refl; let_in = tt }) (c.requires.rest t)
-    (ap g.T.Tree.story c.in-Err.ensures.back.0) c.requires.none refl
+    rw c.unopened.ensures
+    (nowhere (AreFirst m batch.book batch.groups.items batch.turns.items) (g.T.Tree.story c.args.tree) (g.T.Tree.story c.in-Err.tree) batch.history.items _ (record { first = []; rest = batch.turns.items; split = refl; are = refl; let_in = tt }) (c.requires.rest t)
+    (ap g.T.Tree.story c.in-Err.ensures.back.0) c.requires.none refl)
 
 pub returns-clause-went : goal.returns-clause-went
 returns-clause-went g c t =
