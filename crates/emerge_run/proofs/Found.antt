@@ -2,9 +2,13 @@
 use Rattle.std.proofs.Common.{◌≡◌, ◌∙◌, ℕ, Bool, List, [], Result, Ok, Err, inr, refl, subst, sym}
 use Rattle.std.specs.Prelude.{IfErr, IfOk, IsTrue}
 use Rattle.file_tree.specs.Disk.{Map, Story}
-use Rattle.file_tree.specs.declared.limits.Quantity.TheVariants.{Candidates, Groups, Packages, Paths, RecordBytes}
+use Rattle.file_tree.specs.declared.fault.TreeFault.TheVariants as trees
+use Rattle.file_tree.specs.declared.limits.Quantity.TheVariants.{Groups}
 use Rattle.journal.specs.Recovered.{IsRecovered}
 use Rattle.database_law.specs.Packages.{Installed}
+use Rattle.database_read.specs.declared.fault.DatabaseFault.TheVariants as databases
+use Rattle.offer_read.specs.declared.fault.OffersFault.TheVariants as offers
+use Rattle.opening.specs.declared.fault.OpeningFault.TheVariants as openings
 use Rattle.plan_find.specs.declared.asked.Asked.{Asked}
 use Rattle.plan_find.specs.declared.ends.NoPlan.{NoPlan}
 use Rattle.plan_find.specs.declared.ends.NoPlan.TheVariants as ends
@@ -23,53 +27,31 @@ use Rattle.emerge_run.proofs.Endings.{early_kept, recovered_same}
 
 -- what it asks for
 refused_asks : (words : List (List ℕ)) (opening : Map) (e : NoPlan) → IsRefusedAfter words opening (status_of e) → AsksEarly words opening (status_of e)
-refused_asks words opening (ends.Text path line) asks = asks
-refused_asks words opening (ends.Limit Groups) asks = inr asks
-refused_asks words opening (ends.Limit Packages) asks = asks
-refused_asks words opening (ends.Limit Candidates) asks = asks
-refused_asks words opening (ends.Limit Paths) asks = asks
-refused_asks words opening (ends.Limit RecordBytes) asks = asks
-refused_asks words opening (ends.BadDatabase fault) asks = asks
-refused_asks words opening (ends.Inconsistent fault packages) asks = asks
-refused_asks words opening (ends.NoCandidate atom reasons packages) asks = asks
-refused_asks words opening (ends.NoSolution packages) asks = asks
-refused_asks words opening (ends.BacktrackLimit refuted packages) asks = asks
-refused_asks words opening (ends.Refused fault packages) asks = asks
-refused_asks words opening (ends.NotPlanned packages) asks = asks
-refused_asks words opening ends.Failed asks = tt
-refused_asks words opening ends.Memory asks = tt
+refused_asks words opening (ends.Offers (offers.Tree trees.Failed)) asks = tt
+refused_asks words opening (ends.Offers (offers.Tree trees.Memory)) asks = tt
+refused_asks words opening (ends.Opening (openings.Database (databases.Limit Groups))) asks = inr asks
+refused_asks words opening (ends.Opening (openings.Database (databases.Tree trees.Failed))) asks = tt
+refused_asks words opening (ends.Opening (openings.Database (databases.Tree trees.Memory))) asks = tt
+refused_asks words opening ends.Limit asks = inr asks
+refused_asks words opening (ends.Tree trees.Failed) asks = tt
+refused_asks words opening (ends.Tree trees.Memory) asks = tt
+refused_asks words opening e asks = asks
 
 -- it never comes of the words alone
 words_plan : (e : NoPlan) → IsOfWords (status_of e) → ⊥
-words_plan (ends.Text path line) of = of
-words_plan (ends.Limit quantity) of = of
-words_plan (ends.BadDatabase fault) of = of
-words_plan (ends.Inconsistent fault packages) of = of
-words_plan (ends.NoCandidate atom reasons packages) of = of
-words_plan (ends.NoSolution packages) of = of
-words_plan (ends.BacktrackLimit refuted packages) of = of
-words_plan (ends.Refused fault packages) of = of
-words_plan (ends.NotPlanned packages) of = of
-words_plan ends.Failed of = of
-words_plan ends.Memory of = of
+words_plan (ends.Offers (offers.Tree trees.Memory)) of = of
+words_plan (ends.Opening (openings.Database (databases.Tree trees.Memory))) of = of
+words_plan (ends.Tree trees.Memory) of = of
+words_plan e of = of
 
 -- nor of the journal: a plan's file with too many groups is read behind recovery
 plan_keeps : (old new : Story) (e : NoPlan) → HasRecovered old new → KeepsJournal old new (status_of e)
-plan_keeps old new (ends.Text path line) has = tt
-plan_keeps old new (ends.Limit Groups) has = inr has
-plan_keeps old new (ends.Limit Packages) has = tt
-plan_keeps old new (ends.Limit Candidates) has = tt
-plan_keeps old new (ends.Limit Paths) has = tt
-plan_keeps old new (ends.Limit RecordBytes) has = tt
-plan_keeps old new (ends.BadDatabase fault) has = tt
-plan_keeps old new (ends.Inconsistent fault packages) has = tt
-plan_keeps old new (ends.NoCandidate atom reasons packages) has = tt
-plan_keeps old new (ends.NoSolution packages) has = tt
-plan_keeps old new (ends.BacktrackLimit refuted packages) has = tt
-plan_keeps old new (ends.Refused fault packages) has = tt
-plan_keeps old new (ends.NotPlanned packages) has = tt
-plan_keeps old new ends.Failed has = tt
-plan_keeps old new ends.Memory has = tt
+plan_keeps old new (ends.Offers (offers.Tree trees.Memory)) has = tt
+plan_keeps old new (ends.Opening (openings.Database (databases.Limit Groups))) has = inr has
+plan_keeps old new (ends.Opening (openings.Database (databases.Tree trees.Memory))) has = tt
+plan_keeps old new ends.Limit has = inr has
+plan_keeps old new (ends.Tree trees.Memory) has = tt
+plan_keeps old new e has = tt
 
 -- ---- over the tree that recovery made
 

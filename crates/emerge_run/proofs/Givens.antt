@@ -3,10 +3,13 @@ use Rattle.std.proofs.Common.{◌≡◌, ◌⊎◌, ◌∙◌, ℕ, List, [], Op
 use Rattle.std.specs.Prelude.{IfSome, MatchOption}
 use Rattle.file_tree.specs.Disk.{Map, Story}
 use Rattle.file_tree.specs.declared.limits.Quantity.{Quantity}
-use Rattle.file_tree.specs.declared.limits.Quantity.TheVariants.{Candidates, Groups, Packages, Paths, RecordBytes}
+use Rattle.file_tree.specs.declared.limits.Quantity.TheVariants.{Paths, RecordBytes}
 use Rattle.database_law.specs.Packages.{Installed}
+use Rattle.database_read.specs.declared.fault.DatabaseFault.TheVariants as databases
 use Rattle.journal.specs.Recovered.{IsRecovered}
+use Rattle.offer_read.specs.declared.fault.OffersFault.TheVariants as offers
 use Rattle.opening.specs.Faults as openings
+use Rattle.opening.specs.declared.fault.OpeningFault.TheVariants as opens
 use Rattle.plan_law.specs.Plans.{Group}
 use Rattle.plan_find.specs.Choices.{AreChoices, Choices, IsFound, flips_of}
 use Rattle.plan_find.specs.Refusals.{HasNoPlan, Refuses}
@@ -79,21 +82,18 @@ module _ (m : Map) (asked : Asked) where
 
   -- what a run without a plan gives back
   pub gives_refused : (e : NoPlan) (ps : List Installed) → Refuses m asked e → ps ≡ packages_with e → Gives e ps
-  gives_refused (ends.Text path line) ps refuses is = none_given (ends.Text path line) ps (λ of. of) (λ is_paths. absurd (cc is_paths)) is
-  gives_refused (ends.Limit Groups) ps refuses is = none_given (ends.Limit Groups) ps (λ of. of) (λ is_paths. absurd (cc is_paths)) is
-  gives_refused (ends.Limit Packages) ps refuses is = none_given (ends.Limit Packages) ps (λ of. of) (λ is_paths. absurd (cc is_paths)) is
-  gives_refused (ends.Limit Candidates) ps refuses is = none_given (ends.Limit Candidates) ps (λ of. of) (λ is_paths. absurd (cc is_paths)) is
-  gives_refused (ends.Limit Paths) ps refuses is = none_given (ends.Limit Paths) ps (λ of. of) (λ is_paths. refuses.refused) is
-  gives_refused (ends.Limit RecordBytes) ps refuses is = absurd refuses.refused.2
-  gives_refused (ends.BadDatabase fault) ps refuses is = none_given (ends.BadDatabase fault) ps (λ of. of) (λ is_paths. absurd (cc is_paths)) is
-  gives_refused (ends.Inconsistent fault packages) ps refuses is = all_given (ends.Inconsistent fault packages) ps (record { database = refuses.refused.database; tidy = refuses.refused.tidy }) is
+  gives_refused (ends.Offers (offers.Tree trees.Memory)) ps refuses is = none_given (ends.Offers (offers.Tree trees.Memory)) ps (λ of. of) (λ is_paths. absurd (cc is_paths)) is
+  gives_refused (ends.Opening (opens.Database (databases.Limit Paths))) ps refuses is = none_given (ends.Opening (opens.Database (databases.Limit Paths))) ps (λ of. of) (λ is_paths. refuses.refused) is
+  gives_refused (ends.Opening (opens.Database (databases.Limit RecordBytes))) ps refuses is = absurd refuses.refused.past
+  gives_refused (ends.Opening (opens.Database (databases.Tree trees.Memory))) ps refuses is = none_given (ends.Opening (opens.Database (databases.Tree trees.Memory))) ps (λ of. of) (λ is_paths. absurd (cc is_paths)) is
+  gives_refused (ends.Opening (opens.Inconsistent fault packages)) ps refuses is = all_given (ends.Opening (opens.Inconsistent fault packages)) ps (record { database = refuses.refused.database; tidy = refuses.refused.tidy }) is
   gives_refused (ends.NoCandidate atom reasons packages) ps refuses is = all_given (ends.NoCandidate atom reasons packages) ps (beside_no_plan m asked packages.items _ refuses) is
   gives_refused (ends.NoSolution packages) ps refuses is = all_given (ends.NoSolution packages) ps (beside_no_plan m asked packages.items _ refuses) is
   gives_refused (ends.BacktrackLimit refuted packages) ps refuses is = all_given (ends.BacktrackLimit refuted packages) ps (beside_no_plan m asked packages.items _ refuses) is
   gives_refused (ends.Refused fault packages) ps refuses is = all_given (ends.Refused fault packages) ps (beside_no_plan m asked packages.items _ refuses) is
   gives_refused (ends.NotPlanned packages) ps refuses is = all_given (ends.NotPlanned packages) ps (beside_no_plan m asked packages.items _ refuses) is
-  gives_refused ends.Failed ps refuses is = none_given ends.Failed ps (λ of. of) (λ is_paths. absurd (cc is_paths)) is
-  gives_refused ends.Memory ps refuses is = none_given ends.Memory ps (λ of. of) (λ is_paths. absurd (cc is_paths)) is
+  gives_refused (ends.Tree trees.Memory) ps refuses is = none_given (ends.Tree trees.Memory) ps (λ of. of) (λ is_paths. absurd (cc is_paths)) is
+  gives_refused e ps refuses is = none_given e ps (λ of. of) (λ is_paths. absurd (cc is_paths)) is
 
 pub gives_after : (opening m : Map) (s : Status) (ps : List Installed) → IsRecovered opening m → GivesBack (AreInstalled m) (openings.HasTooMuch m) s ps → GivesBack (AreInstalledAfter opening) (HasTooMuchAfter opening) s ps
 gives_after opening m s ps is gives = record {

@@ -1,39 +1,50 @@
 -- The status that each inner fault becomes.
 use Rattle.std.specs.Prelude.{◌≡◌, ◌⊎◌, ℕ, List, [], Result, Ok, Err, ⊤}
 use Rattle.dep_atom.specs.declared.package.PackageId.{PackageId}
-use Rattle.file_tree.specs.declared.limits.Quantity.TheVariants.{Paths, RecordBytes}
+use Rattle.file_tree.specs.declared.limits.Quantity.TheVariants.{Groups, Paths, RecordBytes}
 use Rattle.merge_site.specs.declared.fault.ClaimStop.{ClaimStop}
 use Rattle.merge_site.specs.declared.fault.ClaimStop.TheVariants as claims
 use Rattle.group_run.specs.declared.stop.Stop.{Stop}
 use Rattle.group_run.specs.declared.stop.Stop.TheVariants as stops
 use Rattle.database_law.specs.Packages.{Installed}
+use Rattle.opening.specs.declared.fault.OpeningFault.{OpeningFault}
+use Rattle.opening.specs.declared.fault.OpeningFault.TheVariants as openings
 use Rattle.plan_find.specs.declared.ends.NoPlan.{NoPlan}
 use Rattle.plan_find.specs.declared.ends.NoPlan.TheVariants as ends
 use Rattle.plan_run.specs.declared.stop.PlanStop.{PlanStop}
 use Rattle.plan_run.specs.declared.stop.PlanStop.TheVariants as plans
-use Rattle.run_status.specs.Faults.{status_of_tree}
+use Rattle.run_status.specs.Faults.{status_of_database, status_of_offers, status_of_tree}
 use Rattle.run_status.specs.declared.status.Part.TheVariants.{Result as PlanResult}
 use Rattle.run_status.specs.declared.status.Status.{Status}
 use Rattle.run_status.specs.declared.status.Status.TheVariants as status
 use Rattle.emerge_run.specs.Collisions.{status_of_collision}
 
+-- why no run begins with what is installed
+abbrev pub status_of_opening : OpeningFault → Status
+status_of_opening (openings.Database fault) = status_of_database fault
+status_of_opening (openings.Inconsistent fault packages) = status.Inconsistent fault
+
 -- why there is no plan
 abbrev pub status_of : NoPlan → Status
+status_of (ends.Offers fault) = status_of_offers fault
+status_of (ends.Opening fault) = status_of_opening fault
 status_of (ends.Text path line) = status.BadText path line
-status_of (ends.Limit quantity) = status.Limit quantity
-status_of (ends.BadDatabase fault) = status.BadDatabase fault
-status_of (ends.Inconsistent fault packages) = status.Inconsistent fault
+status_of ends.Limit = status.Limit Groups
 status_of (ends.NoCandidate atom reasons packages) = status.NoCandidate atom reasons
 status_of (ends.NoSolution packages) = status.NoSolution
 status_of (ends.BacktrackLimit refuted packages) = status.BacktrackLimit refuted
 status_of (ends.Refused fault packages) = status.PlanRefused fault
 status_of (ends.NotPlanned packages) = status.NotBuilt PlanResult
-status_of ends.Failed = status.DeviceFault
-status_of ends.Memory = status.Memory
+status_of (ends.Tree fault) = status_of_tree fault
 
--- the installed packages that come with it
+-- the installed packages that come with the fault of what is installed
+abbrev pub packages_beside : OpeningFault → List Installed
+packages_beside (openings.Database fault) = []
+packages_beside (openings.Inconsistent fault packages) = packages.items
+
+-- those that come with the lack of a plan
 abbrev pub packages_with : NoPlan → List Installed
-packages_with (ends.Inconsistent fault packages) = packages.items
+packages_with (ends.Opening fault) = packages_beside fault
 packages_with (ends.NoCandidate atom reasons packages) = packages.items
 packages_with (ends.NoSolution packages) = packages.items
 packages_with (ends.BacktrackLimit refuted packages) = packages.items

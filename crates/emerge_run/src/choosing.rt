@@ -8,13 +8,15 @@ ghost use Rattle.emerge_run.specs.Openings.{AreInstalled, AreInstalledAfter, Giv
 ghost use Rattle.emerge_run.specs.Openings.{HasTooMuchAfter, IsUnread};
 ghost use Rattle.emerge_run.specs.Outcomes.{EndsEarly, HasRecovered, IsEarly};
 ghost use Rattle.emerge_run.specs.Outcomes.{IsToDo, IsWork};
-ghost use Rattle.emerge_run.specs.Refusals.{packages_with, status_of};
+ghost use Rattle.emerge_run.specs.Refusals.{packages_beside, packages_with, status_of};
+ghost use Rattle.emerge_run.specs.Refusals.{status_of_opening};
 ghost use Rattle.emerge_run.specs.Tasks.{IsAsked, IsPrepared, IsTaskOf, IsWanted};
 ghost use Rattle.emerge_run.specs.Words.{AskForMerge, IsOfWords, IsUsage};
 
 use crate::prepare::jobs_of;
 use crate::words::read_request;
-use file_tree::Tree;
+use file_tree::{Quantity, Tree};
+use opening::OpeningFault;
 use owner_book::OwnerBook;
 use plan_check::Plan;
 use plan_choose::Chosen;
@@ -160,12 +162,15 @@ fn unplanned(alloc: Global, end: NoPlan) -> Seen
     ensures opening { result.opening.items ≡ packages_with end }
 {
     match end {
+        NoPlan::Offers(fault) => ended(alloc, Status::from(fault)),
+        NoPlan::Opening(fault) => unopened(alloc, fault),
         NoPlan::Text { path, line } => ended(alloc, Status::BadText { path, line }),
-        NoPlan::Limit { quantity } => ended(alloc, Status::Limit { quantity }),
-        NoPlan::BadDatabase(fault) => ended(alloc, Status::BadDatabase(fault)),
-        NoPlan::Failed => ended(alloc, Status::DeviceFault),
-        NoPlan::Memory => ended(alloc, Status::Memory),
-        NoPlan::Inconsistent { fault, packages } => over(packages, Status::Inconsistent(fault)),
+        NoPlan::Limit => ended(
+            alloc,
+            Status::Limit {
+                quantity: Quantity::Groups,
+            },
+        ),
         NoPlan::NoCandidate {
             atom,
             reasons,
@@ -177,6 +182,20 @@ fn unplanned(alloc: Global, end: NoPlan) -> Seen
         }
         NoPlan::Refused { fault, packages } => over(packages, Status::PlanRefused(fault)),
         NoPlan::NotPlanned { packages } => over(packages, Status::NotBuilt { what: Part::Result }),
+        NoPlan::Tree(fault) => ended(alloc, Status::from(fault)),
+    }
+}
+
+/// How a run ends that can't begin with what is installed.
+fn unopened(alloc: Global, fault: OpeningFault) -> Seen
+    ensures answer { IsErrOf result.answer (status_of_opening fault) }
+    ensures opening { result.opening.items ≡ packages_beside fault }
+{
+    match fault {
+        OpeningFault::Database(fault) => ended(alloc, Status::from(fault)),
+        OpeningFault::Inconsistent { fault, packages } => {
+            over(packages, Status::Inconsistent(fault))
+        }
     }
 }
 

@@ -1,8 +1,6 @@
 -- What the profile and the user's files come to together.
-use Rattle.std.proofs.Common.{◌≡◌, ◌∙◌, ℕ, List, ap, inl, inr, subst}
+use Rattle.std.proofs.Common.{◌≡◌, ◌∙◌, ℕ, List, ap, inr, subst}
 use Rattle.file_tree.specs.Disk.{Map}
-use Rattle.file_tree.specs.declared.fault.TreeFault.{TreeFault}
-use Rattle.file_tree.specs.declared.fault.TreeFault.TheVariants as trees
 use Rattle.profile_read.specs.Faults.{IsMachine}
 use Rattle.profile_read.specs.Files.{Content}
 use Rattle.profile_read.specs.Profiles.{IsProfile}
@@ -10,7 +8,7 @@ use Rattle.profile_read.specs.declared.fault.ReadFault.{ReadFault}
 use Rattle.user_read.specs.Files.{Config, MissUser, ReadsUser, begun}
 use Rattle.user_read.proofs.UserLemmas.{user_or_not}
 use Rattle.offer_read.specs.Configured.{IsRead, MissRead, profile_path}
-use Rattle.offer_read.specs.Faults.{IsOfMachine, fault_of, fault_of_profile, fault_of_tree}
+use Rattle.offer_read.specs.Faults.{IsOfMachine, fault_of, fault_of_profile}
 
 module _ (m n : Map) (same : n ≡ m) (path : List ℕ) (path-is : path ≡ profile_path) (p : Content) (is : IsProfile m path p) where
   here : IsProfile m profile_path p
@@ -27,8 +25,4 @@ module _ (m n : Map) (same : n ≡ m) (path : List ℕ) (path-is : path ≡ prof
   read_or_not c fault read miss = user_or_not m (begun read.profile) c (begun p) fault read.user (subst (λ (y : Map). MissUser y (begun p) fault) same miss)
 
 pub machine_alike : (e : ReadFault) → IsMachine e → IsOfMachine (fault_of e)
-machine_alike e why = by_fault why.1.0 (ap fault_of why.2 ∙ ap fault_of_profile why.1.1)
-  where
-    by_fault : (of : TreeFault) → fault_of e ≡ fault_of_tree of → IsOfMachine (fault_of e)
-    by_fault trees.Failed is = inr is
-    by_fault trees.Memory is = inl is
+machine_alike e why = (why.1.0, ap fault_of why.2 ∙ ap fault_of_profile why.1.1)

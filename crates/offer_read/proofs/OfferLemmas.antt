@@ -1,5 +1,5 @@
 -- One item, one candidate more, and what offers of a setup are to a tree.
-use Rattle.std.proofs.Common.{◌≡◌, ◌∙◌, ◌+◌, ◌++◌, ◌<◌, ℕ, Bool, List, [], ◌∷◌, None, Option, Some, ap, append_assoc, cond, filter, get_or, length, map, not, refl, subst, sym, take, true}
+use Rattle.std.proofs.Common.{◌≡◌, ◌∙◌, ◌⊎◌, ◌+◌, ◌++◌, ◌<◌, ℕ, Bool, List, [], ◌∷◌, None, Option, Some, ap, append_assoc, cond, filter, get_or, inl, inr, length, map, not, refl, subst, sym, take, true}
 use Rattle.std.specs.Prelude.{is_some}
 use Rattle.std.specs.List.{AllZip}
 use Rattle.std.specs.Option.{option_map}
@@ -8,9 +8,13 @@ use Rattle.std.proofs.lemmas.List.Elements.{filter-append}
 use Rattle.candidate_rules.specs.declared.line.KeywordLine.{KeywordLine}
 use Rattle.candidate_set.specs.declared.verdict.Hidden.{Hidden as KeptBack}
 use Rattle.config_vars.proofs.Stacking.{next}
+use Rattle.config_vars.specs.Judged.{FirstFault}
+use Rattle.config_vars.specs.declared.fault.VarFault.{VarFault}
+use Rattle.config_vars.specs.declared.fault.VarFault.TheVariants as values
 use Rattle.dep_atom.specs.Values.{AtomValue, atom_value}
 use Rattle.dep_atom.specs.declared.atom.Atom.{Atom}
 use Rattle.file_tree.specs.Disk.{Map}
+use Rattle.file_tree.specs.declared.fault.TreeFault.TheVariants as trees
 use Rattle.md5_cache.specs.Entries.{Entry}
 use Rattle.offer_flags.specs.Flags.{FlagConfigValue}
 use Rattle.offer_flags.specs.Offered.{IsOffered, has_variant}
@@ -18,7 +22,7 @@ use Rattle.offer_flags.specs.declared.candidate.Candidate.{Candidate}
 use Rattle.profile_read.specs.declared.item.Item.{Item}
 use Rattle.profile_stack.proofs.Followed.{zip_more}
 use Rattle.offer_read.specs.Configured.{IsLineOf, IsSetup, Setup, is_for_some}
-use Rattle.offer_read.specs.Faults.{IsBehind, IsHeldBack}
+use Rattle.offer_read.specs.Faults.{IsBehind, IsHeldBack, IsOfMachine, fault_of_value}
 use Rattle.offer_read.specs.Offers.{AreOffers, AreOffersOf, AreTried, kept_back, refused}
 use Rattle.offer_read.specs.declared.fault.OffersFault.{OffersFault}
 use Rattle.offer_read.specs.declared.offers.Hidden.{Hidden}
@@ -68,3 +72,8 @@ module _ (m n : Map) (same : n ≡ m) (s : Setup) (is : IsSetup m s) where
 
   pub is_behind : (fault : OffersFault) → IsHeldBack n s fault → IsBehind m fault
   is_behind fault held = (s, is, subst (λ (y : Map). IsHeldBack y s fault) same held)
+
+-- what the fault of a variable's value is to the offers
+pub held_value : (m : Map) (s : Setup) (e : VarFault) → FirstFault s.files e → IsOfMachine (fault_of_value e) ⊎ IsHeldBack m s (fault_of_value e)
+held_value m s (values.Value path line) bad = inr bad
+held_value m s values.Memory bad = inl (trees.Memory, refl)

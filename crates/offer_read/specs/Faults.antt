@@ -5,7 +5,7 @@ use Rattle.config_vars.specs.Values.{expanded}
 use Rattle.config_vars.specs.declared.fault.VarFault.{VarFault}
 use Rattle.config_vars.specs.declared.fault.VarFault.TheVariants as values
 use Rattle.file_tree.specs.Disk.{Map}
-use Rattle.file_tree.specs.declared.fault.TreeFault.{TreeFault}
+use Rattle.file_tree.specs.Faults as carried
 use Rattle.file_tree.specs.declared.fault.TreeFault.TheVariants as trees
 use Rattle.md5_cache.specs.Entries.{Entry}
 use Rattle.candidate_set.specs.declared.verdict.Hidden.{Hidden as KeptBack}
@@ -16,12 +16,7 @@ use Rattle.profile_stack.specs.declared.fault.ProfileFault.TheVariants as profil
 use Rattle.offer_read.specs.Configured.{IsSetup, MissRead, Setup}
 use Rattle.offer_read.specs.Offers.{AreJudged, most_candidates}
 use Rattle.offer_read.specs.declared.fault.OffersFault.{OffersFault}
-use Rattle.offer_read.specs.declared.fault.OffersFault.TheVariants.{Failed, Limit, Memory, Text}
-
--- what a fault of a tree is called
-abbrev pub fault_of_tree : TreeFault → OffersFault
-fault_of_tree trees.Failed = Failed
-fault_of_tree trees.Memory = Memory
+use Rattle.offer_read.specs.declared.fault.OffersFault.TheVariants.{Limit, Text, Tree}
 
 -- what a fault of the profile is called; a missing folder has no line
 abbrev pub fault_of_profile : ProfileFault → OffersFault
@@ -29,7 +24,7 @@ fault_of_profile (profiles.Missing path) = Text path 0
 fault_of_profile (profiles.Loop path line) = Text path line
 fault_of_profile (profiles.Deep path line) = Text path line
 fault_of_profile (profiles.Text path line) = Text path line
-fault_of_profile (profiles.Tree fault) = fault_of_tree fault
+fault_of_profile (profiles.Tree fault) = Tree fault
 
 -- what a fault of the profile or of the user's files is called
 abbrev pub fault_of : ReadFault → OffersFault
@@ -39,11 +34,11 @@ fault_of (reads.Atom path line) = Text path line
 -- what a fault of a variable's value is called
 abbrev pub fault_of_value : VarFault → OffersFault
 fault_of_value (values.Value path line) = Text path line
-fault_of_value values.Memory = Memory
+fault_of_value values.Memory = Tree trees.Memory
 
 -- the machine failed, whatever the tree holds
 abbrev pub IsOfMachine : OffersFault → Type 0
-IsOfMachine fault = (fault ≡ Memory) ⊎ (fault ≡ Failed)
+IsOfMachine fault = carried.IsOfMachine Tree fault
 
 -- the configuration can't be read, for this reason
 abbrev pub IsUnread : Map → OffersFault → Type 0
@@ -62,8 +57,7 @@ pub record HasTooMany (m : Map) (s : Setup) : Type 0 where
 abbrev pub IsHeldBack : Map → Setup → OffersFault → Type 0
 IsHeldBack m s (Text path line) = IsBadFile (expanded s.files) s.files path line
 IsHeldBack m s Limit = HasTooMany m s
-IsHeldBack m s Failed = ⊥
-IsHeldBack m s Memory = ⊥
+IsHeldBack m s (Tree fault) = ⊥
 
 -- what keeps the offers back, once the configuration is read
 abbrev pub IsBehind : Map → OffersFault → Type 0

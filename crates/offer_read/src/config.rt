@@ -6,7 +6,7 @@ ghost use Rattle.offer_read.specs.Configured.{IsRead, MissRead, profile_path};
 ghost use Rattle.offer_read.specs.Faults.{IsOfMachine, IsUnread};
 
 use crate::fault::{OffersFault, fault_of};
-use file_tree::{Path, Tree};
+use file_tree::{Path, Tree, TreeFault};
 use profile_read::{ReadFault, read};
 use std::alloc::{AllocError, Global};
 use user_read::{MAKE_PROFILE, UserConfig, read_user};
@@ -20,8 +20,8 @@ pub(crate) fn read_config<T: Tree>(alloc: Global, tree: &mut T) -> Result<UserCo
     ensures fault { IsTrue T.tells → IfErr result
         (λ e. IsOfMachine e ⊎ IsUnread (T.story tree.old).now.holds e) }
     ensures same { IsTrue T.tells → T.story tree.new ≡ T.story tree.old }
-    ensures faults { CountsFault (IsErrOf result OffersFault.Failed) (T.faults tree.old)
-        (T.faults tree.new) }
+    ensures faults { CountsFault (IsErrOf result (OffersFault.Tree TreeFault.Failed))
+        (T.faults tree.old) (T.faults tree.new) }
 {
     match read_both(alloc, tree) {
         Ok(config) => Ok(config),

@@ -18,34 +18,30 @@ pub enum OffersFault {
     /// More candidates are visible than `MOST_CANDIDATES`.
     #[error("too many candidates are visible")]
     Limit,
-    #[error("the device failed")]
-    Failed,
-    #[error("out of memory")]
-    Memory,
+    #[error(transparent)]
+    Tree(TreeFault),
 }
 
 impl From<AllocError> for OffersFault {
     ghost use Rattle.std.specs.Prelude.{◌≡◌};
+    ghost use Rattle.file_tree.specs.declared.fault.TreeFault.TheVariants as trees;
     ghost use Rattle.offer_read.specs.declared.fault.OffersFault.TheVariants as faults;
 
-    ghost from_gives = { λ _ e. e ≡ faults.Memory };
+    ghost from_gives = { λ _ e. e ≡ faults.Tree trees.Memory };
 
     fn from(_: AllocError) -> OffersFault {
-        OffersFault::Memory
+        OffersFault::Tree(TreeFault::Memory)
     }
 }
 
 impl From<TreeFault> for OffersFault {
     ghost use Rattle.std.specs.Prelude.{◌≡◌};
-    ghost use Rattle.offer_read.specs.Faults.{fault_of_tree};
+    ghost use Rattle.offer_read.specs.declared.fault.OffersFault.TheVariants as faults;
 
-    ghost from_gives = { λ f e. e ≡ fault_of_tree f };
+    ghost from_gives = { λ f e. e ≡ faults.Tree f };
 
     fn from(fault: TreeFault) -> OffersFault {
-        match fault {
-            TreeFault::Failed => OffersFault::Failed,
-            TreeFault::Memory => OffersFault::Memory,
-        }
+        OffersFault::Tree(fault)
     }
 }
 
@@ -67,7 +63,7 @@ fn fault_of_profile(fault: ProfileFault) -> OffersFault
         ProfileFault::Loop { path, line } => OffersFault::Text { path, line },
         ProfileFault::Deep { path, line } => OffersFault::Text { path, line },
         ProfileFault::Text { path, line } => OffersFault::Text { path, line },
-        ProfileFault::Tree(fault) => OffersFault::from(fault),
+        ProfileFault::Tree(fault) => OffersFault::Tree(fault),
     }
 }
 
@@ -77,6 +73,6 @@ pub(crate) fn fault_of_value(fault: VarFault) -> OffersFault
 {
     match fault {
         VarFault::Value { path, line } => OffersFault::Text { path, line },
-        VarFault::Memory => OffersFault::Memory,
+        VarFault::Memory => OffersFault::Tree(TreeFault::Memory),
     }
 }

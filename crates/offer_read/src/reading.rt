@@ -15,7 +15,7 @@ use crate::visible::visible_by;
 use candidate_rules::FlagItems;
 use candidate_set::Candidates;
 use config_vars::{FileVars, judge};
-use file_tree::Tree;
+use file_tree::{Tree, TreeFault};
 use offer_flags::FlagConfig;
 use profile_read::DefaultsFile;
 use std::alloc::{AllocError, Global};
@@ -34,8 +34,8 @@ pub fn read_offers<T: Tree>(alloc: Global, tree: &mut T, flips: u32) -> Result<O
     ensures fault { IsTrue T.tells → IfErr result (λ e. IsOfMachine e ⊎
         FirstFault (T.story tree.old).now.holds e) }
     ensures same { IsTrue T.tells → T.story tree.new ≡ T.story tree.old }
-    ensures faults { CountsFault (IsErrOf result OffersFault.Failed) (T.faults tree.old)
-        (T.faults tree.new) }
+    ensures faults { CountsFault (IsErrOf result (OffersFault.Tree TreeFault.Failed))
+        (T.faults tree.old) (T.faults tree.new) }
 {
     let config = read_config(alloc, tree)?;
     let files = files_of(alloc, &config)?;
@@ -56,8 +56,8 @@ fn offers_by<T: Tree>(
     ensures fault { IsTrue T.tells → IfErr result (λ e. IsOfMachine e ⊎ IsHeldBack
         (T.story tree.old).now.holds (setup_of config.now files.now) e) }
     ensures same { IsTrue T.tells → T.story tree.new ≡ T.story tree.old }
-    ensures faults { CountsFault (IsErrOf result OffersFault.Failed) (T.faults tree.old)
-        (T.faults tree.new) }
+    ensures faults { CountsFault (IsErrOf result (OffersFault.Tree TreeFault.Failed))
+        (T.faults tree.old) (T.faults tree.new) }
 {
     if let Err(fault) = judge(alloc, files) {
         return Err(fault_of_value(fault));

@@ -19,6 +19,7 @@
 mod told;
 
 use asked_lines::{answer_each, cut, exit_of, not_in_form};
+use file_tree::TreeFault;
 use offer_read::{Offers, OffersFault, read_offers};
 use std::alloc::{AllocError, Global};
 use std::io;
@@ -52,7 +53,7 @@ fn answer_text(alloc: Global, answer: Result<Offers, OffersFault>) -> Result<Str
             format!(in alloc; "text {line} {path}")
         }
         Err(OffersFault::Limit) => String::from_str(alloc, "limit"),
-        Err(OffersFault::Failed) => String::from_str(alloc, "failed"),
-        Err(OffersFault::Memory) => Err(AllocError),
+        Err(OffersFault::Tree(TreeFault::Failed)) => String::from_str(alloc, "failed"),
+        Err(OffersFault::Tree(TreeFault::Memory)) => Err(AllocError),
     }
 }

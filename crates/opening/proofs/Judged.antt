@@ -1,9 +1,8 @@
 -- What comes of the judgement of the packages.
-use Rattle.std.proofs.Common.{◌≡◌, ◌⊎◌, ℕ, List, Option, Some, None, Vec, Global, inl, inr, refl, subst, sym}
+use Rattle.std.proofs.Common.{◌≡◌, ◌⊎◌, ℕ, List, Option, Some, None, Vec, Global, ap, inl, inr, refl, subst, sym}
 use Rattle.std.specs.Prelude.{IfSome}
 use Rattle.file_tree.specs.Disk.{Map}
 use Rattle.file_tree.specs.declared.fault.TreeFault.{TreeFault}
-use Rattle.file_tree.specs.declared.fault.TreeFault.TheVariants as trees
 use Rattle.file_tree.specs.declared.limits.Quantity.{Quantity}
 use Rattle.pkg_state.specs.Fault.{Fault, IsFirstFault, told}
 use Rattle.pkg_state.specs.Package.{Package}
@@ -20,10 +19,10 @@ use Rattle.database_read.specs.declared.fault.DatabaseFault.TheVariants as datab
 use Rattle.record_read.specs.declared.fault.RecordFault.{RecordFault}
 use Rattle.record_read.specs.declared.fault.RecordFault.TheVariants as records
 use Rattle.commit_law.specs.Lit.{packages_of}
-use Rattle.opening.specs.Faults.{AreBroken, ArePast, HasTooMuch, IsOfMachine, IsUnfit, Refuses, fault_of, fault_of_tree, refusal_of}
+use Rattle.opening.specs.Faults.{AreBroken, ArePast, HasTooMuch, IsOfMachine, IsUnfit, Refuses, refusal_of}
 use Rattle.opening.specs.Order.{AreInLineOrder, IsFirstInOrder}
 use Rattle.opening.specs.declared.fault.OpeningFault.{OpeningFault}
-use Rattle.opening.specs.declared.fault.OpeningFault.TheVariants.{Database, Inconsistent, Limit, Failed, Memory}
+use Rattle.opening.specs.declared.fault.OpeningFault.TheVariants.{Database, Inconsistent}
 
 -- the first fault of packages in line order is that of the packages
 pub first_in_order : (ps qs : List Package) (o : Option Fault) → AreInLineOrder ps qs → IfSome o (IsFirstFault qs) → IfSome o (IsFirstInOrder ps)
@@ -35,37 +34,16 @@ unfit_at flags ps fault f is first = record { says = f; is = is; first = first }
 
 -- what is told of packages that are broken
 pub unfit : (flags : List (List ℕ)) (packages : Vec Installed Global) (fault : Broken) → IfSome (told fault) (IsFirstInOrder (packages_of flags packages.items)) → IsUnfit flags packages.items (refusal_of fault packages)
-unfit flags packages broken.Memory first = tt
+unfit flags packages broken.Memory first = refl
 unfit flags packages (broken.Runtime one leaf) first = (refl, unfit_at flags packages.items (broken.Runtime one leaf) _ refl first)
 unfit flags packages (broken.Blocked one by) first = (refl, unfit_at flags packages.items (broken.Blocked one by) _ refl first)
 unfit flags packages (broken.RequiredUse one) first = (refl, unfit_at flags packages.items (broken.RequiredUse one) _ refl first)
 unfit flags packages (broken.SlotTwice one other) first = (refl, unfit_at flags packages.items (broken.SlotTwice one other) _ refl first)
 
--- what a fault of the tree is for a run
-pub refused_tree : (flags : List (List ℕ)) (m : Map) (e : TreeFault) → Refuses flags m (fault_of_tree e)
-refused_tree flags m trees.Failed = tt
-refused_tree flags m trees.Memory = tt
-
-pub machine_tree : (e : TreeFault) → IsOfMachine (fault_of_tree e)
-machine_tree trees.Failed = tt
-machine_tree trees.Memory = tt
-
--- what a fault of the database is for a run
-pub of_machine : (e : DatabaseFault) → machine.IsOfMachine e → IsOfMachine (fault_of e)
-of_machine e h = subst (λ (x : DatabaseFault). IsOfMachine (fault_of x)) (sym h.1) (machine_tree h.0)
-
--- .. and why it may come in place of these packages
-pub in_place : (ps : List Installed) (e : DatabaseFault) → machine.IsOfMachine e ⊎ reads.ArePast ps e → IsOfMachine (fault_of e) ⊎ ArePast ps (fault_of e)
-in_place ps e (inl h) = inl (of_machine e h)
-in_place ps (databases.Limit q) (inr h) = inr h
-in_place ps (databases.Tree fault) (inr h) = absurd h
-in_place ps (databases.Name p) (inr h) = absurd h
-in_place ps (databases.Missing p) (inr h) = absurd h
-in_place ps (databases.Eapi p) (inr h) = absurd h
-in_place ps (databases.Text p line) (inr h) = absurd h
-in_place ps (databases.Dep p at) (inr h) = absurd h
-in_place ps (databases.OwnedTwice p) (inr h) = absurd h
-in_place ps (databases.Nested p q) (inr h) = absurd h
+-- why a fault of the database may come in place of these packages
+pub in_place : (ps : List Installed) (e : DatabaseFault) → machine.IsOfMachine e ⊎ reads.ArePast ps e → IsOfMachine (Database e) ⊎ ArePast ps (Database e)
+in_place ps e (inl h) = inl (h.0, ap Database h.1)
+in_place ps e (inr h) = inr h
 
 first_or : (m : Map) (e : DatabaseFault) → ((of : TreeFault) → e ≡ databases.Tree of → ⊥) → machine.IsOfMachine e ⊎ FirstFault m e → FirstFault m e
 first_or m e none (inl h) = absurd (none h.0 h.1)
@@ -85,11 +63,12 @@ not_folder m text q (inr bad) = not_located text bad.first q bad.told
 
 too_much : (m : Map) (q : Quantity) → FirstFault m (databases.Limit q) → HasTooMuch m q
 too_much m q (inl bad) = absurd (not_folder m bad.text q bad.has)
-too_much m q (inr (inl much)) = (much.packages, much.database, much.past)
+too_much m q (inr (inl much)) = much
 too_much m q (inr (inr untidy)) = absurd untidy.overlaps
 
-pub refused_database : (flags : List (List ℕ)) (m : Map) (e : DatabaseFault) → machine.IsOfMachine e ⊎ FirstFault m e → Refuses flags m (fault_of e)
-refused_database flags m (databases.Tree fault) h = refused_tree flags m fault
+-- .. and what it is for a run
+pub refused_database : (flags : List (List ℕ)) (m : Map) (e : DatabaseFault) → machine.IsOfMachine e ⊎ FirstFault m e → Refuses flags m (Database e)
+refused_database flags m (databases.Tree fault) h = tt
 refused_database flags m (databases.Name p) h = first_or m (databases.Name p) (λ of x. cc x) h
 refused_database flags m (databases.Missing p) h = first_or m (databases.Missing p) (λ of x. cc x) h
 refused_database flags m (databases.Eapi p) h = first_or m (databases.Eapi p) (λ of x. cc x) h
@@ -108,10 +87,4 @@ refused_unfit flags m ps (Inconsistent fault packages) db within tidy (same, is)
       tidy = subst IsTidy (sym same) tidy;
       broken = subst (λ (qs : List Installed). AreBroken flags qs fault) (sym same) is;
     }
-refused_unfit flags m ps Memory db within tidy h = tt
-refused_unfit flags m ps Failed db within tidy h = absurd h
-refused_unfit flags m ps (Database fault) db within tidy h = absurd h
-refused_unfit flags m ps (Limit q) db within tidy h = absurd h
-
-pub memory_machine : (e : OpeningFault) → e ≡ Memory → IsOfMachine e
-memory_machine e is = subst IsOfMachine (sym is) tt
+refused_unfit flags m ps (Database fault) db within tidy memory = subst (λ (f : DatabaseFault). Refuses flags m (Database f)) (sym memory) tt

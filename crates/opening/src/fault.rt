@@ -1,5 +1,5 @@
 use database_read::DatabaseFault;
-use file_tree::{Quantity, TreeFault};
+use file_tree::TreeFault;
 use pkg_state::Broken;
 use record_read::Installed;
 use std::alloc::{AllocError, AllocFailed};
@@ -8,8 +8,8 @@ use thiserror::Error;
 /// Why a run can't begin with a tree.
 #[derive(Debug, Drop, Error)]
 pub enum OpeningFault {
-    /// The tree has no database whose packages are apart.
-    #[error("the database is broken")]
+    /// The tree has no database within the limits whose packages are apart, or it can't be read.
+    #[error(transparent)]
     Database(DatabaseFault),
     /// These packages are installed, and don't go together.
     #[error("the installed packages don't go together")]
@@ -17,29 +17,16 @@ pub enum OpeningFault {
         fault: Broken,
         packages: Vec<Installed>,
     },
-    /// More packages are installed than may be, or they own more paths.
-    #[error("the database has too much of a quantity")]
-    Limit {
-        quantity: Quantity,
-    },
-    #[error("the device failed")]
-    Failed,
-    #[error("out of memory")]
-    Memory,
 }
 
 impl From<DatabaseFault> for OpeningFault {
     ghost use Rattle.std.specs.Prelude.{◌≡◌};
-    ghost use Rattle.opening.specs.Faults.{fault_of};
+    ghost use Rattle.opening.specs.declared.fault.OpeningFault.TheVariants as faults;
 
-    ghost from_gives = { λ f e. e ≡ fault_of f };
+    ghost from_gives = { λ f e. e ≡ faults.Database f };
 
     fn from(fault: DatabaseFault) -> OpeningFault {
-        match fault {
-            DatabaseFault::Tree(fault) => OpeningFault::from(fault),
-            DatabaseFault::Limit { quantity } => OpeningFault::Limit { quantity },
-            fault => OpeningFault::Database(fault),
-        }
+        OpeningFault::Database(fault)
     }
 }
 
@@ -50,31 +37,28 @@ impl From<TreeFault> for OpeningFault {
     ghost from_gives = { λ f e. e ≡ fault_of_tree f };
 
     fn from(fault: TreeFault) -> OpeningFault {
-        match fault {
-            TreeFault::Failed => OpeningFault::Failed,
-            TreeFault::Memory => OpeningFault::Memory,
-        }
+        OpeningFault::Database(DatabaseFault::Tree(fault))
     }
 }
 
 impl From<AllocError> for OpeningFault {
     ghost use Rattle.std.specs.Prelude.{◌≡◌};
-    ghost use Rattle.opening.specs.declared.fault.OpeningFault.TheVariants as faults;
+    ghost use Rattle.opening.specs.Faults.{out_of_memory};
 
-    ghost from_gives = { λ _ e. e ≡ faults.Memory };
+    ghost from_gives = { λ _ e. e ≡ out_of_memory };
 
     fn from(_: AllocError) -> OpeningFault {
-        OpeningFault::Memory
+        OpeningFault::Database(DatabaseFault::Tree(TreeFault::Memory))
     }
 }
 
 impl<T: Drop> From<AllocFailed<T>> for OpeningFault {
     ghost use Rattle.std.specs.Prelude.{◌≡◌};
-    ghost use Rattle.opening.specs.declared.fault.OpeningFault.TheVariants as faults;
+    ghost use Rattle.opening.specs.Faults.{out_of_memory};
 
-    ghost from_gives = { λ _ e. e ≡ faults.Memory };
+    ghost from_gives = { λ _ e. e ≡ out_of_memory };
 
     fn from(_: AllocFailed<T>) -> OpeningFault {
-        OpeningFault::Memory
+        OpeningFault::Database(DatabaseFault::Tree(TreeFault::Memory))
     }
 }

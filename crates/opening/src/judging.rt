@@ -3,12 +3,12 @@ ghost use Rattle.pkg_state.specs.Consistent.{AreConsistent};
 ghost use Rattle.pkg_state.specs.Fault.{told};
 ghost use Rattle.pkg_state.specs.declared.broken.Broken.TheVariants.{Memory};
 ghost use Rattle.commit_law.specs.Lit.{packages_of};
-ghost use Rattle.opening.specs.Faults.{IsUnfit, refusal_of};
+ghost use Rattle.opening.specs.Faults.{IsUnfit, out_of_memory, refusal_of};
 ghost use Rattle.opening.specs.Order.{IsFirstInOrder};
-ghost use Rattle.opening.specs.declared.fault.OpeningFault.TheVariants as faults;
 
 use crate::fault::OpeningFault;
 use crate::order::in_line_order;
+use file_tree::TreeFault;
 use pkg_state::{Broken, consistent};
 use pms_names::Flags;
 use record_read::Installed;
@@ -24,7 +24,7 @@ pub(crate) fn judged(
     ensures consistent { IfOk result (λ v. AreConsistent (packages_of implicit.now v.items)) }
     ensures unfit { IfErr result (IsUnfit implicit.now packages.items) }
     ensures fine { AreConsistent (packages_of implicit.now packages.items) →
-        IfErr result (λ e. e ≡ faults.Memory) }
+        IfErr result (λ e. e ≡ out_of_memory) }
 {
     match judge(alloc, &packages, implicit) {
         Ok(()) => Ok(packages),
@@ -48,7 +48,7 @@ fn refusal_of(fault: Broken, packages: Vec<Installed>) -> OpeningFault
     ensures { result ≡ refusal_of fault packages }
 {
     match fault {
-        Broken::Memory => OpeningFault::Memory,
+        Broken::Memory => OpeningFault::from(TreeFault::Memory),
         fault => OpeningFault::Inconsistent { fault, packages },
     }
 }

@@ -5,7 +5,7 @@ ghost use Rattle.database_read.specs.Limits.{AreWithin};
 ghost use Rattle.pkg_state.specs.Consistent.{AreConsistent};
 ghost use Rattle.commit_law.specs.Lit.{packages_of};
 ghost use Rattle.run_law.specs.Openings.{AreOwners, HasOpening};
-ghost use Rattle.opening.specs.Faults.{ArePast, IsOfMachine, Refuses};
+ghost use Rattle.opening.specs.Faults.{ArePast, IsOfMachine, Refuses, device_failed};
 
 use crate::fault::OpeningFault;
 use crate::judging::judged;
@@ -38,7 +38,7 @@ pub fn read_opening<T: Tree>(
     ensures refused { IsTrue T.tells → IfErr result
         (Refuses implicit.now (T.story tree.old).now.holds) }
     ensures same { IsTrue T.tells → T.story tree.new ≡ T.story tree.old }
-    ensures faults { CountsFault (IsErrOf result OpeningFault.Failed) (T.faults tree.old)
+    ensures faults { CountsFault (IsErrOf result device_failed) (T.faults tree.old)
         (T.faults tree.new) }
 {
     let found = read_database(alloc, tree)?;

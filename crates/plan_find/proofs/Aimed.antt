@@ -1,8 +1,8 @@
 -- What is made of a source, or why nothing is, for what is aimed at.
-use Rattle.std.proofs.Common.{◌≡◌, ℕ, List, Result, inl, inr, refl, subst, sym}
-use Rattle.std.specs.Prelude.{IfErr, IsErrOf}
+use Rattle.std.proofs.Common.{◌≡◌, ℕ, List, Result, Ok, Err, inl, inr, refl, subst, sym}
+use Rattle.std.specs.Prelude.{IfErr, IsErrAnd}
 use Rattle.file_tree.specs.Disk.{Map}
-use Rattle.file_tree.specs.declared.limits.Quantity.TheVariants.{Candidates, Groups, Packages, Paths, RecordBytes}
+use Rattle.file_tree.specs.declared.fault.TreeFault.TheVariants as trees
 use Rattle.database_law.specs.Packages.{Installed}
 use Rattle.plan_text.specs.Plans.{GroupValue, plan_value}
 use Rattle.plan_text.specs.declared.plan.Plan.{Plan}
@@ -10,6 +10,7 @@ use Rattle.plan_choose.specs.Plans.{IsGood}
 use Rattle.plan_choose.specs.Wishes.{WishValue}
 use Rattle.plan_choose.specs.declared.chosen.Chosen.{Chosen}
 use Rattle.plan_find.specs.Choices.{AreChoices, Choices, IsAimed, IsChosenOf, IsFound, flips_of, installed_of, offered_of}
+use Rattle.plan_find.specs.Ends.{IsDeviceFailure}
 use Rattle.plan_find.specs.Files.{HoldsPlan}
 use Rattle.plan_find.specs.Lacking.{GroupsLack, Lacks, WishLacks}
 use Rattle.plan_find.specs.Refusals.{CanAim, HasBadFile, HasLongFile, HasNoPlan, HasOffers, IsRead, Refuses}
@@ -70,33 +71,29 @@ module _ (m : Map) (asked : Asked) (k : Choices) (are : AreChoices m (flips_of a
   no_plan ps e same lacks = record { all = k; are = are; packages = same; lacks = lacks_of m k asked.aim s e is lacks }
 
   pub of_end : (e : NoPlan) → Ends k s e → Refuses m asked e
-  of_end (ends.Text path line) h = inr (inr (k.packages, no_plan k.packages (ends.Text path line) refl h.0))
-  of_end (ends.Limit quantity) h = absurd (no_reason k s (ends.Limit quantity) (λ wish n. n) (λ path groups n. n) h.0)
-  of_end (ends.BadDatabase fault) h = absurd (no_reason k s (ends.BadDatabase fault) (λ wish n. n) (λ path groups n. n) h.0)
-  of_end (ends.Inconsistent fault packages) h = absurd (no_reason k s (ends.Inconsistent fault packages) (λ wish n. n) (λ path groups n. n) h.0)
+  of_end (ends.Text path line) h = inr (k.packages, no_plan k.packages (ends.Text path line) refl h.0)
   of_end (ends.NoCandidate atom reasons packages) h = no_plan packages.items (ends.NoCandidate atom reasons packages) h.1 h.0
   of_end (ends.NoSolution packages) h = no_plan packages.items (ends.NoSolution packages) h.1 h.0
   of_end (ends.BacktrackLimit refuted packages) h = no_plan packages.items (ends.BacktrackLimit refuted packages) h.1 h.0
   of_end (ends.NotPlanned packages) h = no_plan packages.items (ends.NotPlanned packages) h.1 h.0
   of_end (ends.Refused fault packages) h = no_plan packages.items (ends.Refused fault packages) h.1 h.0
-  of_end ends.Failed h = tt
-  of_end ends.Memory h = tt
+  of_end (ends.Tree fault) h = tt
+  of_end e h = absurd (no_reason k s e (λ wish n. n) (λ path groups n. n) h.0)
 
-  pub read_of_end : (e : NoPlan) → Ends k s e → IsRead m asked e
-  read_of_end (ends.Text path line) h = inr (inr (k.packages, no_plan k.packages (ends.Text path line) refl h.0))
-  read_of_end (ends.Limit quantity) h = tt
-  read_of_end (ends.BadDatabase fault) h = tt
-  read_of_end (ends.Inconsistent fault packages) h = tt
-  read_of_end (ends.NoCandidate atom reasons packages) h = tt
-  read_of_end (ends.NoSolution packages) h = tt
-  read_of_end (ends.BacktrackLimit refuted packages) h = tt
-  read_of_end (ends.NotPlanned packages) h = tt
-  read_of_end (ends.Refused fault packages) h = tt
-  read_of_end ends.Failed h = tt
-  read_of_end ends.Memory h = tt
+pub read_of_end : (m : Map) (k : Choices) (s : Source) (e : NoPlan) → Ends k s e → IsRead m e
+read_of_end m k s (ends.Offers fault) h = absurd (no_reason k s (ends.Offers fault) (λ wish n. n) (λ path groups n. n) h.0)
+read_of_end m k s e h = tt
 
-pub no_failure : (k : Choices) (s : Source) (r : Result Found NoPlan) → IfErr r (Ends k s) → ¬ IsErrOf r ends.Failed
-no_failure k s r of fails = no_reason k s ends.Failed (λ wish n. n) (λ path groups n. n) (subst (λ (x : Result Found NoPlan). IfErr x (Ends k s)) fails of).0
+fails_not : (k : Choices) (s : Source) (e : NoPlan) → SourceLacks k s e → ¬ IsDeviceFailure e
+fails_not k s (ends.Offers fault) lacks fails = no_reason k s (ends.Offers fault) (λ wish n. n) (λ path groups n. n) lacks
+fails_not k s (ends.Opening fault) lacks fails = no_reason k s (ends.Opening fault) (λ wish n. n) (λ path groups n. n) lacks
+fails_not k s (ends.Tree trees.Failed) lacks fails = no_reason k s (ends.Tree trees.Failed) (λ wish n. n) (λ path groups n. n) lacks
+fails_not k s (ends.Tree trees.Memory) lacks fails = cc fails
+fails_not k s e lacks fails = fails
+
+pub no_failure : (k : Choices) (s : Source) (r : Result Found NoPlan) → IfErr r (Ends k s) → ¬ IsErrAnd r IsDeviceFailure
+no_failure k s (Ok f) of fails = fails
+no_failure k s (Err e) of fails = fails_not k s e of.0 fails
 
 -- ---- why there is no source
 
@@ -104,7 +101,7 @@ source_bad : (m : Map) (aim : Aim) (path : List ℕ) (line : ℕ) → HasOffers 
 source_bad m (Atoms wanted update limit flips) path line has none = none
 source_bad m (File file) path line has none = (has, none.0, none.1)
 
-source_long : (m : Map) (aim : Aim) → HasOffers m (flips_of aim) → HasNoSource m aim (ends.Limit Groups) → HasLongFile m aim
+source_long : (m : Map) (aim : Aim) → HasOffers m (flips_of aim) → HasNoSource m aim ends.Limit → HasLongFile m aim
 source_long m (Atoms wanted update limit flips) has none = none
 source_long m (File file) has none = (has, none)
 
@@ -112,36 +109,12 @@ no_fault : (m : Map) (aim : Aim) (e : NoPlan) → ((file : List ℕ) → MissesF
 no_fault m (Atoms wanted update limit flips) e never none = none
 no_fault m (File file) e never none = never file none
 
-module _ (m : Map) (asked : Asked) (has : HasOffers m (flips_of asked.aim)) where
-  never : (e : NoPlan) → ((file : List ℕ) → MissesFile m file e → ⊥) → HasNoSource m asked.aim e → ⊥
-  never = no_fault m asked.aim
+pub of_source : (m : Map) (asked : Asked) → HasOffers m (flips_of asked.aim) → (e : NoPlan) → HasNoSource m asked.aim e → Refuses m asked e
+of_source m asked has (ends.Text path line) none = inl (source_bad m asked.aim path line has none)
+of_source m asked has ends.Limit none = source_long m asked.aim has none
+of_source m asked has (ends.Tree fault) none = tt
+of_source m asked has e none = absurd (no_fault m asked.aim e (λ file n. n) none)
 
-  pub of_source : (e : NoPlan) → HasNoSource m asked.aim e → Refuses m asked e
-  of_source (ends.Text path line) none = inr (inl (source_bad m asked.aim path line has none))
-  of_source (ends.Limit Groups) none = source_long m asked.aim has none
-  of_source (ends.Limit Candidates) none = absurd (never (ends.Limit Candidates) (λ file n. n) none)
-  of_source (ends.Limit Packages) none = absurd (never (ends.Limit Packages) (λ file n. n) none)
-  of_source (ends.Limit Paths) none = absurd (never (ends.Limit Paths) (λ file n. n) none)
-  of_source (ends.Limit RecordBytes) none = absurd (never (ends.Limit RecordBytes) (λ file n. n) none)
-  of_source (ends.BadDatabase fault) none = absurd (never (ends.BadDatabase fault) (λ file n. n) none)
-  of_source (ends.Inconsistent fault packages) none = absurd (never (ends.Inconsistent fault packages) (λ file n. n) none)
-  of_source (ends.NoCandidate atom reasons packages) none = absurd (never (ends.NoCandidate atom reasons packages) (λ file n. n) none)
-  of_source (ends.NoSolution packages) none = absurd (never (ends.NoSolution packages) (λ file n. n) none)
-  of_source (ends.BacktrackLimit refuted packages) none = absurd (never (ends.BacktrackLimit refuted packages) (λ file n. n) none)
-  of_source (ends.NotPlanned packages) none = absurd (never (ends.NotPlanned packages) (λ file n. n) none)
-  of_source (ends.Refused fault packages) none = absurd (never (ends.Refused fault packages) (λ file n. n) none)
-  of_source ends.Failed none = tt
-  of_source ends.Memory none = tt
-
-  pub read_of_source : (e : NoPlan) → HasNoSource m asked.aim e → IsRead m asked e
-  read_of_source (ends.Text path line) none = inr (inl (source_bad m asked.aim path line has none))
-  read_of_source (ends.Limit quantity) none = tt
-  read_of_source (ends.BadDatabase fault) none = tt
-  read_of_source (ends.Inconsistent fault packages) none = tt
-  read_of_source (ends.NoCandidate atom reasons packages) none = tt
-  read_of_source (ends.NoSolution packages) none = tt
-  read_of_source (ends.BacktrackLimit refuted packages) none = tt
-  read_of_source (ends.NotPlanned packages) none = tt
-  read_of_source (ends.Refused fault packages) none = tt
-  read_of_source ends.Failed none = tt
-  read_of_source ends.Memory none = tt
+pub read_of_source : (m n : Map) (aim : Aim) (e : NoPlan) → HasNoSource n aim e → IsRead m e
+read_of_source m n aim (ends.Offers fault) none = absurd (no_fault n aim (ends.Offers fault) (λ file n. n) none)
+read_of_source m n aim e none = tt

@@ -4,17 +4,13 @@ use Rattle.std.specs.Prelude.{IfErr, ⊤}
 use Rattle.std.specs.Str.{IsUtf8}
 use Rattle.database_law.specs.Fields.{text_of}
 use Rattle.file_tree.specs.Disk.{Map}
-use Rattle.file_tree.specs.declared.fault.TreeFault.{TreeFault}
-use Rattle.file_tree.specs.declared.fault.TreeFault.TheVariants as trees
 use Rattle.plan_text.specs.Faults.{IsFaulty, TellsLine}
 use Rattle.plan_text.specs.declared.fault.PlanTextFault.{PlanTextFault}
 use Rattle.plan_text.specs.declared.plan.Plan.{Plan}
 use Rattle.plan_text.specs.declared.fault.PlanTextFault.TheVariants as texts
-use Rattle.plan_find.specs.Ends.{end_of_tree, unread}
+use Rattle.plan_find.specs.Ends.{IsDeviceFailure, unread}
 use Rattle.plan_find.specs.Files.{IsRefusal}
 use Rattle.plan_find.specs.Sources.{MissesFile}
-use Rattle.plan_find.specs.declared.ends.NoPlan.{NoPlan}
-use Rattle.plan_find.specs.declared.ends.NoPlan.TheVariants as ends
 
 -- the fault isn't want of memory
 abbrev IsReason : PlanTextFault → Type 0
@@ -43,26 +39,13 @@ misses_of m file texts.Limit is = is
 misses_of m file (texts.Line line) is = (refl, is)
 misses_of m file texts.Memory is = tt
 
-pub of_tree : (m : Map) (file : List ℕ) (f : TreeFault) → MissesFile m file (end_of_tree f)
-of_tree m file trees.Failed = tt
-of_tree m file trees.Memory = tt
-
--- ---- only a failure is called one
-
-abbrev IsNoFailure : NoPlan → Type 0
-IsNoFailure ends.Failed = ⊥
-IsNoFailure e = ⊤
-
-pub failed_of_tree : (f : TreeFault) → end_of_tree f ≡ ends.Failed → f ≡ trees.Failed
-failed_of_tree trees.Failed e = refl
-failed_of_tree trees.Memory e = absurd (subst IsNoFailure e tt)
-
-pub unread_fails_not : (file : List ℕ) (f : PlanTextFault) → ¬ (unread file f ≡ ends.Failed)
-unread_fails_not file (texts.Number line) e = subst IsNoFailure e tt
-unread_fails_not file (texts.NotBefore line) e = subst IsNoFailure e tt
-unread_fails_not file texts.Limit e = subst IsNoFailure e tt
-unread_fails_not file (texts.Line line) e = subst IsNoFailure e tt
-unread_fails_not file texts.Memory e = subst IsNoFailure e tt
+-- .. and tells no failure of the device
+pub unread_fails_not : (file : List ℕ) (f : PlanTextFault) → ¬ IsDeviceFailure (unread file f)
+unread_fails_not file texts.Memory fails = cc fails
+unread_fails_not file (texts.Number line) fails = fails
+unread_fails_not file (texts.NotBefore line) fails = fails
+unread_fails_not file texts.Limit fails = fails
+unread_fails_not file (texts.Line line) fails = fails
 
 -- what is said of the text that the bytes are is said of the bytes
 pub refused_text : (text bytes : List ℕ) → text ≡ bytes → IsUtf8 bytes → (r : Result Plan PlanTextFault) → IfErr r (λ f. f ≢ texts.Memory → (n groups : ℕ) × IsFaulty text n groups × TellsLine groups n f) → IfErr r (IsRefusal (Some bytes))

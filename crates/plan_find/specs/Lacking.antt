@@ -7,6 +7,7 @@ use Rattle.dep_atom.specs.declared.atom.Op.TheVariants as ops
 use Rattle.dep_atom.specs.declared.package.PackageId.{PackageId}
 use Rattle.dep_atom.specs.declared.slot.SlotPart.TheVariants as slots
 use Rattle.file_tree.specs.Disk.{Map}
+use Rattle.file_tree.specs.declared.fault.TreeFault.TheVariants as trees
 use Rattle.pkg_state.specs.Package.{Package}
 use Rattle.database_law.specs.Packages.{Installed}
 use Rattle.plan_text.specs.Plans.{GroupValue}
@@ -23,7 +24,7 @@ use Rattle.plan_find.specs.Files.{HoldsPlan}
 use Rattle.plan_find.specs.declared.asked.Aim.{Aim}
 use Rattle.plan_find.specs.declared.asked.Aim.TheVariants.{Atoms, File}
 use Rattle.plan_find.specs.declared.ends.NoPlan.{NoPlan}
-use Rattle.plan_find.specs.declared.ends.NoPlan.TheVariants.{BacktrackLimit, Memory, NoCandidate, NoSolution, NotPlanned, Refused, Text}
+use Rattle.plan_find.specs.declared.ends.NoPlan.TheVariants.{BacktrackLimit, NoCandidate, NoSolution, NotPlanned, Refused, Text, Tree}
 
 -- the fault is one of a plan: what is chosen isn't offered, or the plan isn't accepted
 abbrev pub IsOfPlan : NotChosen → Type 0
@@ -40,7 +41,7 @@ WishLacks k wish (BacktrackLimit refuted packages) =
     IsUnchosen k wish (choosing.BacktrackLimit refuted)
 WishLacks k wish (NotPlanned packages) =
     (fault : NotChosen) × IsOfPlan fault × IsUnchosen k wish fault
-WishLacks k wish Memory = ⊤
+WishLacks k wish (Tree trees.Memory) = ⊤
 WishLacks k wish e = ⊥
 
 -- `=category/package-version`
@@ -81,7 +82,7 @@ GroupsLack k path groups (NoCandidate atom reasons packages) =
     LacksAddition (offered_of k) (hidden_of k) groups atom reasons.items
 GroupsLack k path groups (Refused fault packages) =
     IsRefused (installed_of k) (offered_of k) groups fault
-GroupsLack k path groups Memory = ⊤
+GroupsLack k path groups (Tree trees.Memory) = ⊤
 GroupsLack k path groups e = ⊥
 
 -- what is aimed at has no plan, for this reason

@@ -1,19 +1,15 @@
 -- Why there is no plan.
 use Rattle.std.specs.Prelude.{◌≡◌, ◌⊎◌, ℕ, List, ⊤}
 use Rattle.file_tree.specs.Disk.{Map}
-use Rattle.file_tree.specs.declared.limits.Quantity.TheVariants.{Candidates, Groups}
 use Rattle.database_law.specs.Fields.{text_of}
 use Rattle.database_law.specs.Packages.{Installed}
 use Rattle.run_law.specs.Openings.{HasOpening}
 use Rattle.offer_flags.specs.declared.candidate.Candidate.{Candidate}
-use Rattle.offer_read.specs.Faults.{FirstFault, IsBehind}
+use Rattle.offer_read.specs.Faults as offering
 use Rattle.offer_read.specs.Offers.{AreOffers}
-use Rattle.offer_read.specs.declared.fault.OffersFault.TheVariants as offers
 use Rattle.offer_read.specs.declared.offers.Hidden.{Hidden}
-use Rattle.opening.specs.Faults.{ArePast}
 use Rattle.opening.specs.Faults as opens
 use Rattle.opening.specs.declared.fault.OpeningFault.{OpeningFault}
-use Rattle.opening.specs.declared.fault.OpeningFault.TheVariants as openings
 use Rattle.plan_text.specs.Plans.{GroupValue}
 use Rattle.plan_find.specs.Choices.{AreChoices, Choices, flips_of}
 use Rattle.plan_find.specs.Files.{FailsAt, HoldsPlan, IsTooLong}
@@ -22,7 +18,7 @@ use Rattle.plan_find.specs.declared.asked.Aim.{Aim}
 use Rattle.plan_find.specs.declared.asked.Aim.TheVariants.{Atoms, File}
 use Rattle.plan_find.specs.declared.asked.Asked.{Asked}
 use Rattle.plan_find.specs.declared.ends.NoPlan.{NoPlan}
-use Rattle.plan_find.specs.declared.ends.NoPlan.TheVariants.{BacktrackLimit, BadDatabase, Failed, Inconsistent, Limit, Memory, NoCandidate, NoSolution, NotPlanned, Refused, Text}
+use Rattle.plan_find.specs.declared.ends.NoPlan.TheVariants.{BacktrackLimit, Limit, NoCandidate, NoSolution, NotPlanned, Offers, Opening, Refused, Text, Tree}
 
 -- the map has offers
 pub record HasOffers (m : Map) (flips : ℕ) : Type 0 where
@@ -48,7 +44,7 @@ CanAim m (Atoms wanted update limit flips) = ⊤
 CanAim m (File path) = (groups : List GroupValue) × HoldsPlan m path groups
 
 -- the map has offers and what is aimed at, and for this reason no run begins with its installed
--- packages; if they go together, there is too much of them
+-- packages; if they go together, there is too much of them, or the machine failed
 pub record HasNoOpening (m : Map) (asked : Asked) (fault : OpeningFault) : Type 0 where
   pub implicit : List (List ℕ)
   pub candidates : List Candidate
@@ -56,7 +52,8 @@ pub record HasNoOpening (m : Map) (asked : Asked) (fault : OpeningFault) : Type 
   pub offers : AreOffers m (flips_of asked.aim) implicit candidates hidden
   pub aimed : CanAim m asked.aim
   pub refused : opens.Refuses implicit m fault
-  pub none : (ps : List Installed) → HasOpening implicit m ps → ArePast ps fault
+  pub none : (ps : List Installed) → HasOpening implicit m ps →
+      opens.IsOfMachine fault ⊎ opens.ArePast ps fault
 
 -- the map has something to choose from, with these packages, and for this reason there is no plan
 pub record HasNoPlan (m : Map) (asked : Asked) (ps : List Installed) (e : NoPlan) : Type 0 where
@@ -73,14 +70,10 @@ IsOfFile m asked path line = HasBadFile m asked.aim path line
 
 -- why the map has no plan for what is asked; a failure and want of memory say nothing of it
 abbrev pub Refuses : Map → Asked → NoPlan → Type 0
-Refuses m asked (Text path line) =
-    FirstFault m (offers.Text path line) ⊎ IsOfFile m asked path line
-Refuses m asked (Limit Candidates) = FirstFault m offers.Limit
-Refuses m asked (Limit Groups) = HasLongFile m asked.aim
-Refuses m asked (Limit quantity) = HasNoOpening m asked (openings.Limit quantity)
-Refuses m asked (BadDatabase fault) = HasNoOpening m asked (openings.Database fault)
-Refuses m asked (Inconsistent fault packages) =
-    HasNoOpening m asked (openings.Inconsistent fault packages)
+Refuses m asked (Offers fault) = offering.IsOfMachine fault ⊎ offering.FirstFault m fault
+Refuses m asked (Opening fault) = HasNoOpening m asked fault
+Refuses m asked (Text path line) = IsOfFile m asked path line
+Refuses m asked Limit = HasLongFile m asked.aim
 Refuses m asked (NoCandidate atom reasons packages) =
     HasNoPlan m asked packages.items (NoCandidate atom reasons packages)
 Refuses m asked (NoSolution packages) =
@@ -91,11 +84,9 @@ Refuses m asked (NotPlanned packages) =
     HasNoPlan m asked packages.items (NotPlanned packages)
 Refuses m asked (Refused fault packages) =
     HasNoPlan m asked packages.items (Refused fault packages)
-Refuses m asked Failed = ⊤
-Refuses m asked Memory = ⊤
+Refuses m asked (Tree fault) = ⊤
 
--- a text is refused for no fault that keeps the configuration from being read
-abbrev pub IsRead : Map → Asked → NoPlan → Type 0
-IsRead m asked (Text path line) =
-    IsBehind m (offers.Text path line) ⊎ IsOfFile m asked path line
-IsRead m asked e = ⊤
+-- no fault of the offers comes that keeps the configuration from being read
+abbrev pub IsRead : Map → NoPlan → Type 0
+IsRead m (Offers fault) = offering.IsOfMachine fault ⊎ offering.IsBehind m fault
+IsRead m e = ⊤

@@ -1,7 +1,6 @@
 -- What a plan is made of, once the tree's files are read.
 use Rattle.std.specs.Prelude.{◌≡◌, ℕ, List, ⊤}
 use Rattle.file_tree.specs.Disk.{Map}
-use Rattle.file_tree.specs.declared.limits.Quantity.TheVariants.{Groups}
 use Rattle.pms_names.specs.Flags.{IsRising}
 use Rattle.database_law.specs.Fields.{text_of}
 use Rattle.plan_text.specs.Plans.{plan_value}
@@ -15,7 +14,7 @@ use Rattle.plan_find.specs.Lacking.{GivesBack, GroupsLack, WishLacks}
 use Rattle.plan_find.specs.declared.asked.Aim.{Aim}
 use Rattle.plan_find.specs.declared.asked.Aim.TheVariants.{Atoms, File}
 use Rattle.plan_find.specs.declared.ends.NoPlan.{NoPlan}
-use Rattle.plan_find.specs.declared.ends.NoPlan.TheVariants.{Failed, Limit, Memory, Text}
+use Rattle.plan_find.specs.declared.ends.NoPlan.TheVariants.{Limit, Text, Tree}
 use Rattle.plan_find.specs.declared.found.Found.{Found}
 use Rattle.plan_find.specs.declared.source.Source.{Source}
 use Rattle.plan_find.specs.declared.source.Source.TheVariants.{Filed, Wished}
@@ -37,9 +36,8 @@ IsFormed (Filed path text) = IsPlan (plan_value text)
 -- the file holds no plan, for this reason; a failure and want of memory say nothing of it
 abbrev pub MissesFile : Map → List ℕ → NoPlan → Type 0
 MissesFile m file (Text path line) = (path ≡ file) × FailsAt (text_of (m file)) line
-MissesFile m file (Limit Groups) = IsTooLong (text_of (m file))
-MissesFile m file Failed = ⊤
-MissesFile m file Memory = ⊤
+MissesFile m file Limit = IsTooLong (text_of (m file))
+MissesFile m file (Tree fault) = ⊤
 MissesFile m file e = ⊥
 
 -- there is no source, for this reason

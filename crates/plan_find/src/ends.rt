@@ -3,12 +3,10 @@ ghost use Rattle.plan_find.specs.Ends.{end_of_file, end_with, unplanned};
 
 use crate::unfiled::Unfiled;
 use choice_tree::Choice;
-use database_read::DatabaseFault;
 use dep_atom::Atom;
-use file_tree::{Path, Quantity, TreeFault};
+use file_tree::{Path, TreeFault};
 use offer_read::OffersFault;
 use opening::OpeningFault;
-use pkg_state::Broken;
 use plan_check::PlanRefused;
 use plan_choose::{NotChosen, NotTaken};
 use record_read::Installed;
@@ -17,27 +15,22 @@ use thiserror::Error;
 /// Why there is no plan. Where the database could be read, the installed packages are given back.
 #[derive(Debug, Drop, Error)]
 pub enum NoPlan {
-    /// The file of the configuration, or that of the plan, isn't in form at this line, counted from
-    /// 1. Line 0 has a folder or a plan's file that is missing, and a plan with a flag that its
-    /// package doesn't know.
-    #[error("line {line} of a file is not in form")]
+    /// The tree has no offers.
+    #[error(transparent)]
+    Offers(OffersFault),
+    /// No run can begin with what is installed.
+    #[error(transparent)]
+    Opening(OpeningFault),
+    /// The plan's file isn't in form at this line, counted from 1. Line 0 has a file that is missing,
+    /// and a plan with a flag that its package doesn't know.
+    #[error("line {line} of a plan's file is not in form")]
     Text {
         path: Path,
         line: u32,
     },
-    /// Too many candidates are visible, the plan's file has too many groups, too many packages are
-    /// installed, or they own too many paths.
-    #[error("there is too much of a quantity")]
-    Limit {
-        quantity: Quantity,
-    },
-    #[error("the database is broken")]
-    BadDatabase(DatabaseFault),
-    #[error("the installed packages don't go together")]
-    Inconsistent {
-        fault: Broken,
-        packages: Vec<Installed>,
-    },
+    /// The plan's file has too many groups.
+    #[error("a plan's file has too many groups")]
+    Limit,
     /// The first wanted atom that matches nothing, or that of the first addition of the plan's file
     /// that isn't offered, and the candidates of its name.
     #[error("an atom matches nothing that may be installed")]
@@ -67,60 +60,40 @@ pub enum NoPlan {
         fault: PlanRefused,
         packages: Vec<Installed>,
     },
-    #[error("the device failed")]
-    Failed,
-    #[error("out of memory")]
-    Memory,
+    #[error(transparent)]
+    Tree(TreeFault),
 }
 
 impl From<OffersFault> for NoPlan {
     ghost use Rattle.std.specs.Prelude.{◌≡◌};
-    ghost use Rattle.plan_find.specs.Ends.{end_of_offers};
+    ghost use Rattle.plan_find.specs.declared.ends.NoPlan.TheVariants as ends;
 
-    ghost from_gives = { λ f e. e ≡ end_of_offers f };
+    ghost from_gives = { λ f e. e ≡ ends.Offers f };
 
     fn from(fault: OffersFault) -> NoPlan {
-        match fault {
-            OffersFault::Text { path, line } => NoPlan::Text { path, line },
-            OffersFault::Limit => NoPlan::Limit {
-                quantity: Quantity::Candidates,
-            },
-            OffersFault::Failed => NoPlan::Failed,
-            OffersFault::Memory => NoPlan::Memory,
-        }
-    }
-}
-
-impl From<TreeFault> for NoPlan {
-    ghost use Rattle.std.specs.Prelude.{◌≡◌};
-    ghost use Rattle.plan_find.specs.Ends.{end_of_tree};
-
-    ghost from_gives = { λ f e. e ≡ end_of_tree f };
-
-    fn from(fault: TreeFault) -> NoPlan {
-        match fault {
-            TreeFault::Failed => NoPlan::Failed,
-            TreeFault::Memory => NoPlan::Memory,
-        }
+        NoPlan::Offers(fault)
     }
 }
 
 impl From<OpeningFault> for NoPlan {
     ghost use Rattle.std.specs.Prelude.{◌≡◌};
-    ghost use Rattle.plan_find.specs.Ends.{end_of_opening};
+    ghost use Rattle.plan_find.specs.declared.ends.NoPlan.TheVariants as ends;
 
-    ghost from_gives = { λ f e. e ≡ end_of_opening f };
+    ghost from_gives = { λ f e. e ≡ ends.Opening f };
 
     fn from(fault: OpeningFault) -> NoPlan {
-        match fault {
-            OpeningFault::Database(fault) => NoPlan::BadDatabase(fault),
-            OpeningFault::Inconsistent { fault, packages } => {
-                NoPlan::Inconsistent { fault, packages }
-            }
-            OpeningFault::Limit { quantity } => NoPlan::Limit { quantity },
-            OpeningFault::Failed => NoPlan::Failed,
-            OpeningFault::Memory => NoPlan::Memory,
-        }
+        NoPlan::Opening(fault)
+    }
+}
+
+impl From<TreeFault> for NoPlan {
+    ghost use Rattle.std.specs.Prelude.{◌≡◌};
+    ghost use Rattle.plan_find.specs.declared.ends.NoPlan.TheVariants as ends;
+
+    ghost from_gives = { λ f e. e ≡ ends.Tree f };
+
+    fn from(fault: TreeFault) -> NoPlan {
+        NoPlan::Tree(fault)
     }
 }
 
@@ -145,7 +118,7 @@ fn unplanned(fault: NotChosen, packages: Vec<Installed>) -> NoPlan
     ensures { result ≡ unplanned fault packages }
 {
     match fault {
-        NotChosen::Memory => NoPlan::Memory,
+        NotChosen::Memory => NoPlan::Tree(TreeFault::Memory),
         fault => {
             drop(fault);
             NoPlan::NotPlanned { packages }
@@ -165,6 +138,6 @@ pub(crate) fn end_of_file(fault: Unfiled, path: Path, packages: Vec<Installed>) 
         },
         Unfiled::BadFlag => NoPlan::Text { path, line: 0 },
         Unfiled::Refused(fault) => NoPlan::Refused { fault, packages },
-        Unfiled::Memory => NoPlan::Memory,
+        Unfiled::Memory => NoPlan::Tree(TreeFault::Memory),
     }
 }

@@ -1,9 +1,10 @@
-ghost use Rattle.std.specs.Prelude.{◌≡◌, [], IfErr, IfOk, IsErrOf, IsTrue};
+ghost use Rattle.std.specs.Prelude.{◌≡◌, [], IfErr, IfOk, IsErrAnd, IsTrue};
 ghost use Rattle.file_tree.specs.Disk.{CountsFault};
 ghost use Rattle.offer_read.specs.Configured.{IsRead as CanBeRead};
 ghost use Rattle.run_law.specs.Openings.{AreOwners};
 ghost use Rattle.user_read.specs.Files.{Config};
 ghost use Rattle.plan_find.specs.Choices.{IsFound};
+ghost use Rattle.plan_find.specs.Ends.{IsDeviceFailure};
 ghost use Rattle.plan_find.specs.Refusals.{IsRead, Refuses};
 ghost use Rattle.plan_find.specs.Shapes.{IsInShape};
 
@@ -30,9 +31,9 @@ pub fn find_plan<T: Tree>(alloc: Global, tree: &mut T, asked: Asked) -> Result<F
     ensures refused { IsTrue T.tells →
         IfErr result (Refuses (T.story tree.old).now.holds asked) }
     ensures read { IsTrue T.tells → (c : Config) → CanBeRead (T.story tree.old).now.holds c →
-        IfErr result (IsRead (T.story tree.old).now.holds asked) }
+        IfErr result (IsRead (T.story tree.old).now.holds) }
     ensures same { IsTrue T.tells → T.story tree.new ≡ T.story tree.old }
-    ensures faults { CountsFault (IsErrOf result NoPlan.Failed) (T.faults tree.old)
+    ensures faults { CountsFault (IsErrAnd result IsDeviceFailure) (T.faults tree.old)
         (T.faults tree.new) }
 {
     let offers = read_offers(alloc, tree, flips_of(&asked.aim))?;

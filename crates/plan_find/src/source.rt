@@ -1,17 +1,17 @@
-ghost use Rattle.std.specs.Prelude.{◌≡◌, IfErr, IfOk, IsErrOf, IsTrue, Some};
+ghost use Rattle.std.specs.Prelude.{◌≡◌, IfErr, IfOk, IsErrAnd, IsTrue, Some};
 ghost use Rattle.std.specs.Option.{option_map};
 ghost use Rattle.database_law.specs.Fields.{text_of};
 ghost use Rattle.file_tree.specs.Disk.{CountsFault};
 ghost use Rattle.plan_text.specs.Plans.{plan_value};
 ghost use Rattle.plan_text.specs.Texts.{IsPlan, plan_text};
-ghost use Rattle.plan_find.specs.Ends.{unread};
+ghost use Rattle.plan_find.specs.Ends.{IsDeviceFailure, unread};
 ghost use Rattle.plan_find.specs.Files.{IsRefusal};
 ghost use Rattle.plan_find.specs.Sources.{HasNoSource, IsFormed, IsSource};
 ghost use Rattle.plan_find.specs.declared.asked.Aim.TheVariants.{File};
 
 use crate::asked::Aim;
 use crate::ends::NoPlan;
-use file_tree::{Kind, Object, Path, Quantity, Tree};
+use file_tree::{Kind, Object, Path, Tree, TreeFault};
 use plan_choose::Wish;
 use plan_text::{Plan, PlanTextFault};
 use std::alloc::Global;
@@ -32,7 +32,7 @@ pub(crate) fn source_of<T: Tree>(alloc: Global, tree: &mut T, aim: Aim) -> Resul
     ensures refused { IsTrue T.tells → IfErr result
         (HasNoSource (T.story tree.old).now.holds aim) }
     ensures same { IsTrue T.tells → T.story tree.new ≡ T.story tree.old }
-    ensures faults { CountsFault (IsErrOf result NoPlan.Failed) (T.faults tree.old)
+    ensures faults { CountsFault (IsErrAnd result IsDeviceFailure) (T.faults tree.old)
         (T.faults tree.new) }
 {
     match aim {
@@ -58,7 +58,7 @@ fn read_plan<T: Tree>(alloc: Global, tree: &mut T, path: Path) -> Result<Source,
     ensures refused { IsTrue T.tells → IfErr result
         (HasNoSource (T.story tree.old).now.holds (File path)) }
     ensures same { IsTrue T.tells → T.story tree.new ≡ T.story tree.old }
-    ensures faults { CountsFault (IsErrOf result NoPlan.Failed) (T.faults tree.old)
+    ensures faults { CountsFault (IsErrAnd result IsDeviceFailure) (T.faults tree.old)
         (T.faults tree.new) }
 {
     let object = tree.read(&path)?;
@@ -112,10 +112,8 @@ fn unread(path: Path, fault: PlanTextFault) -> NoPlan
     match fault {
         PlanTextFault::Number { line } => NoPlan::Text { path, line },
         PlanTextFault::NotBefore { line } => NoPlan::Text { path, line },
-        PlanTextFault::Limit => NoPlan::Limit {
-            quantity: Quantity::Groups,
-        },
+        PlanTextFault::Limit => NoPlan::Limit,
         PlanTextFault::Line { line } => NoPlan::Text { path, line },
-        PlanTextFault::Memory => NoPlan::Memory,
+        PlanTextFault::Memory => NoPlan::Tree(TreeFault::Memory),
     }
 }

@@ -1,6 +1,8 @@
 use crate::status::Status;
+use database_read::DatabaseFault;
 use emerge_words::WordFault;
 use file_tree::{Quantity, TreeFault};
+use offer_read::OffersFault;
 use recovery::RecoverFault;
 use std::alloc::AllocError;
 
@@ -36,6 +38,38 @@ impl From<RecoverFault> for Status {
                 quantity: Quantity::Groups,
             },
             RecoverFault::Tree(fault) => Status::from(fault),
+        }
+    }
+}
+
+impl From<OffersFault> for Status {
+    ghost use Rattle.std.specs.Prelude.{◌≡◌};
+    ghost use Rattle.run_status.specs.Faults.{status_of_offers};
+
+    ghost from_gives = { λ f s. s ≡ status_of_offers f };
+
+    fn from(fault: OffersFault) -> Status {
+        match fault {
+            OffersFault::Text { path, line } => Status::BadText { path, line },
+            OffersFault::Limit => Status::Limit {
+                quantity: Quantity::Candidates,
+            },
+            OffersFault::Tree(fault) => Status::from(fault),
+        }
+    }
+}
+
+impl From<DatabaseFault> for Status {
+    ghost use Rattle.std.specs.Prelude.{◌≡◌};
+    ghost use Rattle.run_status.specs.Faults.{status_of_database};
+
+    ghost from_gives = { λ f s. s ≡ status_of_database f };
+
+    fn from(fault: DatabaseFault) -> Status {
+        match fault {
+            DatabaseFault::Limit { quantity } => Status::Limit { quantity },
+            DatabaseFault::Tree(fault) => Status::from(fault),
+            fault => Status::BadDatabase(fault),
         }
     }
 }

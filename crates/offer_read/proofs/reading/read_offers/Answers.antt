@@ -1,6 +1,7 @@
 use Rattle.std.proofs.Common.{◌≡◌, ◌∙◌, ap, inl, inr, map}
 use Rattle.std.proofs.lemmas.Result.{IfErr-weaker, IfOk-weaker, err_from_is_err_and}
 use Rattle.file_tree.specs.Disk.{Map, Story}
+use Rattle.file_tree.specs.declared.fault.TreeFault.TheVariants as trees
 use Rattle.offer_read.specs.Configured.{IsSetup, Setup, file_value, setup_of}
 use Rattle.offer_read.proofs.OfferLemmas.{are_offers, is_behind}
 use Rattle.offer_read.proofs.reading.read_offers.Goals as goal
@@ -50,3 +51,13 @@ returns-in_err-config-clause-fault g c t =
       | inl machine ↦ inl machine
       | inr unread ↦ inr (inl unread)
     ])
+
+pub returns-in_err-files-clause-only : goal.returns-in_err-files-clause-only
+returns-in_err-files-clause-only g c t k read =
+    let q = err_from_is_err_and c.from_residual-in_err-files.result c.from_residual-in_err-files.ensures.1 in
+    rw q.1 (inl (trees.Memory, q.2))
+
+pub returns-in_err-files-clause-fault : goal.returns-in_err-files-clause-fault
+returns-in_err-files-clause-fault g c t =
+    let q = err_from_is_err_and c.from_residual-in_err-files.result c.from_residual-in_err-files.ensures.1 in
+    rw q.1 (inl (trees.Memory, q.2))

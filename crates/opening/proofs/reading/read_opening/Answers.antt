@@ -1,13 +1,14 @@
-use Rattle.std.proofs.Common.{◌≡◌, ◌∙◌, List, ap, inl, subst, sym}
+use Rattle.std.proofs.Common.{◌≡◌, ◌∙◌, List, ap, inl, refl, subst, sym}
 use Rattle.std.proofs.lemmas.Result.{err_from_is_err_and}
 use Rattle.file_tree.specs.Disk.{Map, Story}
+use Rattle.file_tree.specs.declared.fault.TreeFault.TheVariants as trees
 use Rattle.owner_book.specs.Book.{Book}
 use Rattle.pkg_state.specs.Consistent.{AreConsistent}
 use Rattle.database_law.specs.Database.{IsDatabase, IsTidy}
 use Rattle.database_law.specs.Packages.{Installed}
 use Rattle.commit_law.specs.Lit.{packages_of}
 use Rattle.run_law.specs.Openings.{AreOwners}
-use Rattle.opening.proofs.Judged.{in_place, machine_tree, memory_machine, refused_database, refused_tree, refused_unfit}
+use Rattle.opening.proofs.Judged.{in_place, refused_database, refused_unfit}
 use Rattle.opening.proofs.reading.read_opening.Goals as goal
 
 pub returns-in_err-found-clause-only : goal.returns-in_err-found-clause-only
@@ -26,7 +27,7 @@ returns-in_err-packages-clause-only g c t ps o =
     let p = err_from_is_err_and c.from_residual-in_err-packages.result c.from_residual-in_err-packages.ensures.1 in
     let same : c.in_ok-found.found.items ≡ ps = c.in_ok-found.ensures.only t ps o.database o.tidy in
     let fit : AreConsistent (packages_of c.args.implicit.now c.in_ok-found.found.items) = subst (λ (l : List Installed). AreConsistent (packages_of c.args.implicit.now l)) (sym same) o.consistent in
-    rw (p.1, p.2) (inl (memory_machine c.in_err-packages.field-0.0 (c.in_err-packages.ensures.fine fit)))
+    rw (p.1, p.2) (inl (trees.Memory, c.in_err-packages.ensures.fine fit))
 
 pub returns-in_err-packages-clause-refused : goal.returns-in_err-packages-clause-refused
 returns-in_err-packages-clause-refused g c t =
@@ -37,13 +38,12 @@ returns-in_err-packages-clause-refused g c t =
 pub returns-in_err-book-clause-only : goal.returns-in_err-book-clause-only
 returns-in_err-book-clause-only g c t ps o =
     let p = err_from_is_err_and c.from_residual-in_err-book.result c.from_residual-in_err-book.ensures.1 in
-    rw (p.1, p.2) (inl (machine_tree c.in_err-book.field-0.0))
+    rw (p.1, p.2) (inl (c.in_err-book.field-0.0, refl))
 
 pub returns-in_err-book-clause-refused : goal.returns-in_err-book-clause-refused
 returns-in_err-book-clause-refused g c t =
     let p = err_from_is_err_and c.from_residual-in_err-book.result c.from_residual-in_err-book.ensures.1 in
-    let m : Map = (g.T.Tree.story c.args.tree.now).now.holds in
-    rw (p.1, p.2) (refused_tree c.args.implicit.now m c.in_err-book.field-0.0)
+    rw (p.1, p.2) tt
 
 pub returns-clause-found : goal.returns-clause-found
 returns-clause-found g c t =

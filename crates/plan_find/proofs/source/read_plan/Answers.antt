@@ -1,4 +1,4 @@
-use Rattle.std.proofs.Common.{◌≡◌, Option, Some, refl, subst, sym}
+use Rattle.std.proofs.Common.{◌≡◌, Option, Err, Some, ap, refl, subst, sym}
 use Rattle.std.proofs.lemmas.Result.{err_from_is_err_and}
 use Rattle.database_law.specs.Fields.{text_of}
 use Rattle.file_tree.specs.Disk.{Map}
@@ -8,14 +8,23 @@ use Rattle.plan_text.specs.Texts.{plan_text}
 use Rattle.plan_find.specs.Files.{IsRefusal}
 use Rattle.plan_find.specs.Sources.{MissesFile}
 use Rattle.plan_find.specs.declared.ends.NoPlan.{NoPlan}
-use Rattle.plan_find.proofs.Missed.{misses_of, of_tree}
+use Rattle.plan_find.proofs.Missed.{misses_of, unread_fails_not}
 use Rattle.plan_find.proofs.source.read_plan.Goals as goal
 
 pub returns-in_err-object-clause-refused : goal.returns-in_err-object-clause-refused
 returns-in_err-object-clause-refused g c t =
     let p = err_from_is_err_and c.from_residual.result c.from_residual.ensures.1 in
-    let m : Map = (g.T.Tree.story c.args.tree.now).now.holds in
-    rw (p.1, p.2) (of_tree m c.args.path c.in_err-object.field-0.0)
+    rw (p.1, p.2) tt
+
+pub returns-in_err-object-clause-faults : goal.returns-in_err-object-clause-faults
+returns-in_err-object-clause-faults g c =
+    let p = err_from_is_err_and c.from_residual.result c.from_residual.ensures.1 in
+    let counts = c.in_err-object.ensures.faults in
+    rw (p.1, p.2) (record { later = counts.later; rose = λ fails. counts.rose (ap Err fails) })
+
+pub returns-in-Err-clause-faults : goal.returns-in-Err-clause-faults
+returns-in-Err-clause-faults g c =
+    rw c.unread.ensures (record { later = c.in_ok-object.ensures.faults.later; rose = λ fails. absurd (unread_fails_not c.args.path c.in-Err.fault fails) })
 
 pub returns-in-Err-clause-refused : goal.returns-in-Err-clause-refused
 returns-in-Err-clause-refused g c t =
