@@ -16,7 +16,7 @@ use dep_atom::PackageId;
 use file_tree::{Path, Quantity, Sink, Tree};
 use group_run::Stop;
 use merge_site::ClaimStop;
-use plan_check::{Group, Plan};
+use plan_lives::{Group, Plan};
 use plan_run::{Merged, PlanStop, Task, merge_plan};
 use record_read::Installed;
 use run_status::{Collision, Status};

@@ -7,7 +7,7 @@ ghost use Rattle.plan_text.specs.Plans.{addition_value, group_value};
 ghost use Rattle.run_status.specs.Texts.{done_line};
 ghost use Rattle.emerge_run.specs.Builds.{lines_from, ordered_of_job, orders_in};
 
-use plan_check::Group;
+use plan_lives::Group;
 use plan_make::Job;
 use plan_orders::orders_of;
 use run_status::line_of_group;

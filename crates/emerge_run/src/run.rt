@@ -14,7 +14,7 @@ use crate::showing::show_plan;
 use build_pool::{BuildPool, Builder};
 use file_tree::{Sink, Tree};
 use merge_core::Core;
-use plan_check::Plan;
+use plan_lives::Plan;
 use record_read::Installed;
 use run_status::{Status, finish};
 use std::alloc::Global;

@@ -22,16 +22,17 @@ use Rattle.plan_law.specs.Accepted.{AreLeft, IsAccepted, IsFirmThrough}
 use Rattle.plan_law.specs.Sound.{bars, is_of_build}
 use Rattle.plan_law.proofs.Members.{passes_some, some_passes}
 use Rattle.plan_law.proofs.There.{some_life}
-use Rattle.plan_check.specs.Lives.{lives}
+use Rattle.plan_lives.specs.Lives.{lives}
+use Rattle.plan_lives.specs.Left.{is_never, left_of}
+use Rattle.plan_lives.proofs.AllLives.{has_lives}
+use Rattle.plan_lives.proofs.Clears.{Stands, all_stand, rest_stands, stands_here}
 use Rattle.plan_check.specs.Asks.{AskedValue, asking}
 use Rattle.plan_check.specs.Binding.{AreBound, IsBound}
-use Rattle.plan_check.specs.PackageRules.{built_rule, finished_rule, if_left, is_never, left_of, package_rule, plan_rule, required_rule, standing_rule, unbarred_rule}
+use Rattle.plan_check.specs.PackageRules.{built_rule, finished_rule, if_left, package_rule, plan_rule, required_rule, standing_rule, unbarred_rule}
 use Rattle.plan_check.specs.Refusals.{Refusal, Refusal as refused}
 use Rattle.plan_check.specs.Rules.{AreOneVersion, Crowds, IsPresent, apart_rule, number_of, present_at, vacant_at, vacant_of, versions_of}
 use Rattle.plan_check.specs.Verdicts.{both, demand, each_from, refuse}
-use Rattle.plan_check.proofs.AllLives.{has_lives}
 use Rattle.plan_check.proofs.Binds.{binding_none, bound, life_asked, some_asked}
-use Rattle.plan_check.proofs.Clears.{Stands, all_stand, rest_stands, stands_here}
 use Rattle.plan_check.proofs.Trying.{each_none, each_passed}
 
 module _ {E : Type 0} (plan : List Group) (J : ℕ → Group → Option E → Type 0) where

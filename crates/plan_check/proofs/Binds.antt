@@ -9,13 +9,14 @@ use Rattle.dep_atom.specs.declared.slot.Bind.{Bind}
 use Rattle.pkg_state.specs.Package.{Package}
 use Rattle.plan_law.specs.Plans.{Group}
 use Rattle.plan_law.specs.Lives.{Life, Moment, commit, never, opening}
+use Rattle.plan_lives.specs.Binding.{IsRightBind}
+use Rattle.plan_lives.specs.Lives.{life_of, lives_of}
+use Rattle.plan_lives.specs.declared.life.Life.{Life as CodeLife}
 use Rattle.plan_check.specs.Asks.{AskedValue, asking, asks_behind, next_asked}
-use Rattle.plan_check.specs.Binding.{IsBound, IsRightBind, binds_rule}
-use Rattle.plan_check.specs.Lives.{life_of, lives_of}
+use Rattle.plan_check.specs.Binding.{IsBound, binds_rule}
 use Rattle.plan_check.specs.PackageRules.{binding_rule}
 use Rattle.plan_check.specs.Refusals.{Refusal, Refusal as refused}
 use Rattle.plan_check.specs.Verdicts.{demand, each}
-use Rattle.plan_check.specs.declared.life.Life.{Life as CodeLife}
 use Rattle.plan_check.proofs.Trying.{Hears, IsClear, both_clear, both_passed}
 
 module _ (R : AtomValue → Bind → Type 0) (id : PackageId) where

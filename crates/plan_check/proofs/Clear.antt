@@ -12,10 +12,12 @@ use Rattle.plan_law.specs.Plans.{Group, group_at}
 use Rattle.plan_law.specs.Lives.{Life, Meets, Moment, commit, never, opening, stretch_of, until}
 use Rattle.plan_law.specs.Accepted.{IsAccepted}
 use Rattle.plan_law.specs.Sound.{IsSound, bars}
-use Rattle.plan_check.specs.Lives.{lives}
+use Rattle.plan_lives.specs.Lives.{lives}
+use Rattle.plan_lives.specs.Binding.{IsRightBind}
+use Rattle.plan_lives.specs.Left.{left_of}
 use Rattle.plan_check.specs.Asks.{AskedValue, asking}
-use Rattle.plan_check.specs.Binding.{AreBound, IsRightBind, binds_rule}
-use Rattle.plan_check.specs.PackageRules.{binding_rule, built_of, built_rule, coming_rule, finished_rule, if_brought, if_left, lasting_rule, left_of, package_rule, plan_rule, required_rule, standing_rule, unbarred_of, unbarred_rule, unblocked_rule}
+use Rattle.plan_check.specs.Binding.{AreBound, binds_rule}
+use Rattle.plan_check.specs.PackageRules.{binding_rule, built_of, built_rule, coming_rule, finished_rule, if_brought, if_left, lasting_rule, package_rule, plan_rule, required_rule, standing_rule, unbarred_of, unbarred_rule, unblocked_rule}
 use Rattle.plan_check.specs.Refusals.{Refusal, Refusal as refused, Says, told}
 use Rattle.plan_check.specs.Rules.{AreOneVersion, Crowds, apart_rule, line_rule, number_of, opening_rule, present_at, present_of, present_rule, single_rule, vacant_at, vacant_of, vacant_rule, versions_of, versions_rule}
 use Rattle.plan_check.specs.Verdicts.{both, each, nothing, refuse}

@@ -7,7 +7,7 @@ use Rattle.dep_atom.specs.Match.{value_matches}
 use Rattle.dep_atom.specs.Values.{AtomValue, atom_value}
 use Rattle.plan_law.specs.Plans.{Group}
 use Rattle.plan_law.specs.Lives.{Life}
-use Rattle.plan_check.specs.Keeping.{is_elsewhere}
+use Rattle.plan_lives.specs.Keeping.{is_elsewhere}
 use Rattle.plan_check.specs.Kept.{AreClear, IsFirstKept, IsKeptOut}
 use Rattle.plan_check.specs.Verdicts.{refuse}
 use Rattle.plan_check.specs.declared.blocked.Keeping.{Keeping}

@@ -1,59 +1,23 @@
--- Steps that several answers of functions share.
-use Rattle.std.proofs.Common.{◌≡◌, ◌⊎◌, ◌↔◌, ◌<◌, ◌≤◌, ◌∷◌, ◌+◌, ℕ, zero, suc, List, [], Option, None, drop, get_or, length, inl, inr, refl, sym, ap, subst, arith, rules, ◌∙◌, Vec, Global, Some}
-use Rattle.basics.proofs.Lists.{at_drop}
-use Rattle.dep_tree.specs.View.{trees_view, view}
-use Rattle.dep_tree.specs.declared.tree.Node.{Node}
-use Rattle.dep_atom.specs.declared.atom.Atom.{Atom}
-use Rattle.dep_group.specs.Trees.{group, leaf, tree}
-use Rattle.dep_group.specs.declared.token.Opener.TheVariants as openers
-use Rattle.dep_tree.specs.declared.tree.Node.TheFolds.{fold-roll-Node}
-use Rattle.dep_tree.specs.declared.tree.Node.TheVariants as nodes
-use Rattle.dep_tree.specs.declared.tree.Node.TheVariants.{rolls-AnyOf, rolls-Leaf}
-use Rattle.dep_atom.specs.Values.{atom_value}
+-- Loops over lives that try a rule.
+use Rattle.std.proofs.Common.{◌≡◌, ◌≤◌, ℕ, List, Option, None, drop, length, sym, ap, subst, ◌∙◌, true, false, bytes_eq}
 use Rattle.plan_law.specs.Lives as law
-use Rattle.plan_check.specs.Lives.{lives_of, moment_of}
+use Rattle.plan_lives.specs.Lives.{lives_of}
+use Rattle.plan_lives.specs.declared.life.Life.{Life}
 use Rattle.plan_check.specs.Verdicts.{each}
-use Rattle.plan_check.specs.declared.life.Life.{Life}
-use Rattle.plan_check.specs.Stretches.{IsWithin}
-use Rattle.plan_check.specs.declared.life.Moment.{Moment}
-use Rattle.plan_check.specs.declared.life.Moment.TheVariants.{Commit}
-
--- a group that a moment names is there
-pub commit_within : (n g : ℕ) (m : Moment) → m ≡ Commit g → IsWithin n (moment_of m) → g < n
-commit_within n g m e h = subst (λ (k : Moment). IsWithin n (moment_of k)) e h
-
--- the trees from a place on
-pub trees_at : (nodes : List Node) (i : ℕ) (node : Node) → i < length nodes → node ≡ get_or nodes i node → trees_view (drop i nodes) ≡ tree (view node) (trees_view (drop (i + 1) nodes))
-trees_at nodes i node lt is = ap trees_view (at_drop nodes i node lt is)
-
-pub within_more : (n m : ℕ) → n ≤ m → (k : law.Moment) → IsWithin n k → IsWithin m k
-within_more n m le law.opening h = tt
-within_more n m le (law.commit g) h = omega (arith, le, h)
-within_more n m le law.never h = tt
-
-pub drop_end : {A : Type 0} (xs : List A) (i : ℕ) → length xs ≤ i → drop i xs ≡ []
-drop_end [] zero le = refl
-drop_end [] (suc i) le = refl
-drop_end (x ∷ xs) zero le = absurd (omega (arith, le))
-drop_end (x ∷ xs) (suc i) le = drop_end xs i (omega (arith, le))
+use Rattle.std.proofs.lemmas.Slice.Eq.{bytes_eq-Decides}
+use Rattle.plan_check.proofs.Trying.{Hears, of_kind}
+use Rattle.pkg_state.specs.Index.{listed}
+use Rattle.plan_lives.specs.Index.{AreKeyed}
+use Rattle.plan_lives.proofs.Keyed.{Lists}
+use Rattle.plan_lives.proofs.Steps.{drop_end}
 
 -- a loop over lives has come to its end
 pub at_end : {E : Type 0} (items : List Life) (i : ℕ) (J : law.Life → Option E → Type 0) → length items ≤ i → each (lives_of (drop i items)) J None
 at_end items i J le = rw (drop_end items i le) tt
 
-pub eq_iff : {A : Type 0} (P : A → Type 0) (a b : A) → a ≡ b → P a ↔ P b
-eq_iff P a b e = ((λ h. subst P e h), (λ h. subst P (sym e) h))
-
--- an any-of group without a firm member is firm where its own atoms are chained
-pub any_of_firm : (F D C : Type 0) → ¬ F → D ↔ C → D ↔ (F ⊎ C)
-any_of_firm F D C none same = ((λ d. inr (same.0 d)), back) where
-  back : F ⊎ C → D
-  back (inl f) = absurd (none f)
-  back (inr h) = same.1 h
-
--- what the variants of a node are seen as
-pub leaf_view : (a : Atom) → view (nodes.Leaf a) ≡ leaf (atom_value a)
-leaf_view a = ap view (sym (rolls-Leaf a)) ∙ search (rules, fold-roll-Node)
-
-pub any_view : (ns : Vec Node Global) → view (nodes.AnyOf ns) ≡ group (Some openers.AnyOf) (trees_view ns.items)
-any_view ns = ap view (sym (rolls-AnyOf ns)) ∙ search (rules, fold-roll-Node)
+-- where a rule lets pass what has another key, a look under the text is enough
+pub heard_all : {E : Type 0} (J : law.Life → Option E → Type 0) (key : law.Life → List ℕ) (xs : List law.Life) (lists : Lists) (text : List ℕ) (items : List Life) → AreKeyed key xs lists → items ≡ listed lists text
+    → ((y : law.Life) → ¬ (text ≡ key y) → J y None) → Hears (each (lives_of items) J) (each xs J)
+heard_all J key xs lists text items are is other a h =
+    of_kind J (λ (y : law.Life). bytes_eq text (key y)) (λ y off. other y (λ same. let on = (bytes_eq-Decides text (key y)).1 same in let t : true ≡ false = sym on ∙ off in cc t)) xs a
+    (subst (λ (ys : List law.Life). each ys J a) (ap lives_of is ∙ are text) h)

@@ -14,7 +14,7 @@ use Rattle.pkg_state.specs.declared.class.Class.TheVariants.{Bdepend, Depend, Id
 use Rattle.plan_law.specs.Plans.{Group}
 use Rattle.plan_law.specs.Lives.{Life, Meets, Stretch, stretch_of, until}
 use Rattle.plan_law.specs.Sound.{bars, class_blocks_strongly, is_strong_block}
-use Rattle.plan_check.specs.Keeping.{IsMet, barring_blocks, is_kept_out, running_blocks, strong_blocks_in}
+use Rattle.plan_lives.specs.Keeping.{IsMet, barring_blocks, is_kept_out, running_blocks, strong_blocks_in}
 use Rattle.plan_check.specs.Refusals.{Refusal as refused}
 use Rattle.plan_check.specs.Verdicts.{each, refuse}
 

@@ -21,11 +21,11 @@ use Rattle.plan_law.specs.Accepted.{Changes}
 use Rattle.plan_law.proofs.Cleared.{adding_is_there, clearing_is_there}
 use Rattle.plan_law.proofs.Closed.{not_behind}
 use Rattle.plan_law.proofs.Members.{passes_some, some_passes}
+use Rattle.plan_lives.specs.Reaching.{AreReaching, has_bit}
+use Rattle.plan_lives.proofs.Clears.{Stands, all_stand, rest_stands, stands_here}
 use Rattle.plan_check.specs.Changes.{AreByLine, changes_from, changes_of, earlier, groups_on}
 use Rattle.plan_check.specs.Pairs.{Pair, pair_cmp}
-use Rattle.plan_check.specs.Reaching.{AreReaching, has_bit}
 use Rattle.plan_check.specs.Rules.{AreUnordered, IsFirstUnordered, line_rule}
-use Rattle.plan_check.proofs.Clears.{Stands, all_stand, rest_stands, stands_here}
 
 abbrev pub Changed : Type 0
 Changed = List ℕ × ℕ

@@ -2,9 +2,9 @@
 use Rattle.std.proofs.Common.{◌≡◌, ◌∙◌, ◌<◌, ◌≤◌, ◌+◌, ℕ, zero, suc, List, [], ◌∷◌, add-one, ap, arith, drop, get_or, length, refl}
 use Rattle.basics.proofs.Lists.{at_drop}
 use Rattle.plan_law.specs.Lives.{commit}
+use Rattle.plan_lives.proofs.Steps.{drop_end}
 use Rattle.plan_check.specs.Asks.{all_asked, asked_value, asks_behind, next_asked, nothing_asked}
 use Rattle.plan_check.specs.declared.asked.Asked.{Asked}
-use Rattle.plan_check.proofs.Judged.{drop_end}
 
 pub asked_here : (asks : List Asked) (i : ℕ) (x : Asked) → i < length asks → x ≡ get_or asks i x → asked_value x ≡ next_asked (commit 0) (all_asked (drop i asks))
 asked_here asks i x lt is = rw (at_drop asks i x lt is) refl

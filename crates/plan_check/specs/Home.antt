@@ -1,26 +1,13 @@
 -- What a package needs while it runs, among the packages that are there at a moment.
-use Rattle.std.specs.Prelude.{◌≡◌, ◌↔◌, false, List, Option, None, Some}
-use Rattle.basics.specs.Members.{Has}
+use Rattle.std.specs.Prelude.{◌≡◌, false, List, Option, None, Some}
 use Rattle.pkg_state.specs.Consistent.{facts_of, is_met}
 use Rattle.pkg_state.specs.Fault.{lacking_leaf}
 use Rattle.pkg_state.specs.Package.{Package}
 use Rattle.pkg_state.specs.declared.class.Class.TheVariants.{Rdepend}
-use Rattle.plan_law.specs.Plans.{Group}
-use Rattle.plan_law.specs.Lives.{IsLife, Life, Moment, Precedes}
+use Rattle.plan_law.specs.Lives.{Life}
 use Rattle.plan_check.specs.Refusals.{Refusal, Refusal as refused}
 use Rattle.plan_check.specs.Rules.{number_of}
 use Rattle.plan_check.specs.Verdicts.{refuse}
-
--- the package is there at the moment, where just what comes before that in each run has happened
-pub record IsThereAt (plan : List Group) (m : Moment) (x : Life) : Type 0 where
-  pub born : Precedes plan x.birth m
-  pub alive : ¬ Precedes plan x.death m
-
--- the packages that are there then
-abbrev pub AreThereAt : List Group → List Package → Moment → List Package → Type 0
-AreThereAt plan start m ps =
-    (p : Package) → Has ps p ↔
-    ((x : Life) × IsLife plan start x × IsThereAt plan m x × (x.package_is ≡ p))
 
 -- a rule for the packages that are there; it says the same of lists with the same members
 abbrev pub among :

@@ -6,8 +6,8 @@ use Rattle.dep_atom.specs.Values.{AtomValue, atom_value}
 use Rattle.pkg_state.specs.Package.{Package}
 use Rattle.plan_law.specs.Plans.{Group}
 use Rattle.plan_law.specs.Lives.{Life}
-use Rattle.plan_check.specs.Keeping.{IsMet}
-use Rattle.plan_check.specs.Stretches.{stretch_value}
+use Rattle.plan_lives.specs.Keeping.{IsMet}
+use Rattle.plan_lives.specs.Stretches.{stretch_value}
 use Rattle.plan_check.specs.Verdicts.{each, refuse}
 use Rattle.plan_check.specs.declared.blocked.Keeping.{Keeping}
 

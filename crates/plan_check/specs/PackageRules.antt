@@ -1,5 +1,5 @@
 -- The rules of the check that are tried package by package, and the whole check.
-use Rattle.std.specs.Prelude.{◌≡◌, ◌⊎◌, ℕ, ◌+◌, Bool, true, false, List, Option, None, Some, filter, map}
+use Rattle.std.specs.Prelude.{◌≡◌, ◌⊎◌, ℕ, ◌+◌, true, false, List, Option, None, Some}
 use Rattle.pms_names.specs.Flags.{has}
 use Rattle.dep_atom.specs.Values.{AtomValue}
 use Rattle.pkg_state.specs.Consistent.{blocks, facts_of, fits_required, is_met}
@@ -12,12 +12,15 @@ use Rattle.plan_law.specs.Firm.{IsChained, IsFirm}
 use Rattle.plan_law.specs.Lives.{Life, Meets, Moment, Stretch, commit, never, opening, stretch_of, until}
 use Rattle.plan_law.specs.Accepted.{AreLeft, IsFirmThrough}
 use Rattle.plan_law.specs.Sound.{bars}
+use Rattle.plan_lives.specs.Binding.{IsRightBind}
+use Rattle.plan_lives.specs.Home.{AreThereAt}
+use Rattle.plan_lives.specs.Leaves.{IsLeafOfAll}
+use Rattle.plan_lives.specs.Lives.{lives}
+use Rattle.plan_lives.specs.Meeting.{AreMeeting}
+use Rattle.plan_lives.specs.Left.{left_of}
 use Rattle.plan_check.specs.Asks.{AskedValue, asking}
-use Rattle.plan_check.specs.Binding.{IsRightBind, binds_rule}
-use Rattle.plan_check.specs.Home.{AreThereAt, among, met_rule}
-use Rattle.plan_check.specs.Leaves.{IsLeafOfAll}
-use Rattle.plan_check.specs.Lives.{lives}
-use Rattle.plan_check.specs.Meeting.{AreMeeting}
+use Rattle.plan_check.specs.Binding.{binds_rule}
+use Rattle.plan_check.specs.Home.{among, met_rule}
 use Rattle.plan_check.specs.Refusals.{Refusal, Refusal as refused}
 use Rattle.plan_check.specs.Rules.{line_rule, opening_rule, present_rule, single_rule, vacant_rule, versions_rule}
 use Rattle.plan_check.specs.Verdicts.{both, demand_as, each, nothing, refuse}
@@ -106,18 +109,6 @@ built_rule plan start x = if_brought x.birth (λ g.
     both (built_of plan start x.package_is Depend g)
     (both (built_of plan start x.package_is Bdepend g)
     (built_of plan start x.package_is Idepend g)))
-
-abbrev pub is_never : Moment → Bool
-is_never opening = false
-is_never (commit g) = false
-is_never never = true
-
--- the packages that no group takes away
-abbrev pub left_among : List Life → List Package
-left_among xs = map (λ x. x.package_is) (filter (λ x. is_never x.death) xs)
-
-abbrev pub left_of : List Group → List Package → List Package
-left_of plan start = left_among (lives plan start)
 
 -- what it wants later is there at the end
 abbrev pub finished_rule : List Group → List Package → Life → Option Refusal → Type 0

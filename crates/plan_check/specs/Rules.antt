@@ -7,7 +7,7 @@ use Rattle.pkg_state.specs.Package.{Package, line_of}
 use Rattle.plan_law.specs.Plans.{Group, Reaches, Removal, clears, group_at, removed_line}
 use Rattle.plan_law.specs.Lives.{IsLife, Life, Meets, Moment, StandsBefore, commit, never, opening, stretch_of}
 use Rattle.plan_law.specs.Accepted.{Changes}
-use Rattle.plan_check.specs.Lives.{lives}
+use Rattle.plan_lives.specs.Lives.{lives}
 use Rattle.plan_check.specs.Pairs.{Pair, pair_cmp}
 use Rattle.plan_check.specs.Refusals.{Refusal, Refusal as refused}
 use Rattle.plan_check.specs.Verdicts.{demand, each, each_from, refuse}

@@ -1,11 +1,11 @@
 ghost use Rattle.std.specs.Prelude.{◌≡◌, drop};
 ghost use Rattle.std.specs.Option.{option_map};
 ghost use Rattle.plan_law.specs.Lives.{commit};
+ghost use Rattle.plan_lives.specs.Lives.{moment_of};
 ghost use Rattle.plan_check.specs.Asks.{all_asked, asks_behind, next_asked, what_asked};
-ghost use Rattle.plan_check.specs.Lives.{moment_of};
 
-use crate::life::Moment;
 use dep_atom::{Atom, Bind};
+use plan_lives::Moment;
 
 /// What an addition asks of the binds of a plan's text.
 #[derive(Drop)]

@@ -2,22 +2,19 @@ ghost use Rattle.std.specs.Prelude.{◌≡◌, ◌↔◌, ◌<◌, IfOk, IsTrue,
 ghost use Rattle.std.specs.Option.{option_map};
 ghost use Rattle.basics.specs.Members.{Has};
 ghost use Rattle.dep_atom.specs.Values.{atom_value};
-ghost use Rattle.plan_check.specs.Index.{IsIndex, all_lives, plan_of, start_of};
+ghost use Rattle.plan_lives.specs.Index.{IsIndex, all_lives, plan_of, start_of};
+ghost use Rattle.plan_lives.specs.Keeping.{is_elsewhere};
+ghost use Rattle.plan_lives.specs.Lives.{life_of};
+ghost use Rattle.plan_lives.specs.Stretches.{IsStretchWithin, stretch_value};
 ghost use Rattle.plan_check.specs.Kept.{AreClear, IsFirstKept, IsKeptOut, IsNameClear};
-ghost use Rattle.plan_check.specs.Keeping.{is_elsewhere};
-ghost use Rattle.plan_check.specs.Lives.{life_of};
 ghost use Rattle.plan_check.specs.PackageRules.{unbarred_of, unbarred_rule, unblocked_rule};
 ghost use Rattle.plan_check.specs.Refusals.{Says};
-ghost use Rattle.plan_check.specs.Stretches.{IsStretchWithin, stretch_value};
 
-use crate::index::Index;
-use crate::keeping::{barring_blocks, running_blocks, some_matches};
-use crate::life::{Life, Moment};
 use crate::refusal::PlanRefused;
-use crate::stretch::Stretch;
 use crate::versions::{meets, stretch_of};
 use dep_atom::Atom;
 use pkg_state::{LineName, Pkg};
+use plan_lives::{Index, Life, Moment, Stretch, barring_blocks, running_blocks, some_matches};
 use pms_names::Flags;
 use std::alloc::{AllocError, Global};
 

@@ -2,23 +2,22 @@ ghost use Rattle.std.specs.Prelude.{◌≡◌, ◌<◌, IfOk, None, Some, length
 ghost use Rattle.std.specs.Option.{option_map};
 ghost use Rattle.basics.specs.Members.{Has};
 ghost use Rattle.dep_atom.specs.Values.{atom_value};
+ghost use Rattle.plan_lives.specs.Binding.{IsRightBind};
+ghost use Rattle.plan_lives.specs.Index.{IsIndex, all_lives, plan_of, start_of};
+ghost use Rattle.plan_lives.specs.Lives.{life_of};
 ghost use Rattle.plan_check.specs.Asks.{asked_value, what_asked};
-ghost use Rattle.plan_check.specs.Binding.{IsRightBind, binds_rule};
-ghost use Rattle.plan_check.specs.Index.{IsIndex, all_lives, plan_of, start_of};
-ghost use Rattle.plan_check.specs.Lives.{life_of};
+ghost use Rattle.plan_check.specs.Binding.{binds_rule};
 ghost use Rattle.plan_check.specs.PackageRules.{binding_rule, coming_rule};
 ghost use Rattle.plan_check.specs.Refusals.Refusal.{Binding};
 ghost use Rattle.plan_check.specs.Refusals.{Says};
 ghost use Rattle.plan_check.specs.Verdicts.{demand, fail};
 
 use crate::asked::Asked;
-use crate::binding::is_right;
-use crate::index::Index;
-use crate::life::{Life, Moment};
 use crate::refusal::PlanRefused;
 use crate::required::judge_required;
 use dep_atom::{Atom, Bind};
 use pkg_state::{Pkg, copy_leaf};
+use plan_lives::{Index, Life, Moment, is_right};
 use std::alloc::{AllocError, Global};
 
 fn copy_bind(bind: Option<&Bind>) -> Result<Option<Bind>, AllocError>

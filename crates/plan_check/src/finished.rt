@@ -4,16 +4,16 @@ ghost use Rattle.pkg_state.specs.Fault.{lacking_leaf};
 ghost use Rattle.pkg_state.specs.Package.{Package};
 ghost use Rattle.pkg_state.specs.declared.class.Class.TheVariants.{Pdepend};
 ghost use Rattle.plan_law.specs.Plans.{Group};
-ghost use Rattle.plan_check.specs.Lives.{life_of, moment_of};
-ghost use Rattle.plan_check.specs.PackageRules.{finished_rule, if_left, left_of};
+ghost use Rattle.plan_lives.specs.Lives.{life_of, moment_of};
+ghost use Rattle.plan_lives.specs.Left.{left_of};
+ghost use Rattle.plan_check.specs.PackageRules.{finished_rule, if_left};
 ghost use Rattle.plan_check.specs.Refusals.Refusal.{Final};
 ghost use Rattle.plan_check.specs.Refusals.{Says};
 ghost use Rattle.plan_check.specs.Verdicts.{refuse};
 
-use crate::life::{Life, Moment};
-use crate::packages::Packages;
 use crate::refusal::PlanRefused;
 use pkg_state::{Class, Pkg, copy_leaf};
+use plan_lives::{Life, Moment, Packages};
 
 fn judge_left(left: &Packages<'_>, pkg: &Pkg) -> Result<(), PlanRefused>
     ensures { Says (refuse

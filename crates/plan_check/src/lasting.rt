@@ -3,23 +3,18 @@ ghost use Rattle.std.specs.Option.{option_map};
 ghost use Rattle.basics.specs.Members.{Has};
 ghost use Rattle.dep_atom.specs.Values.{atom_value};
 ghost use Rattle.plan_law.specs.Accepted.{IsFirmThrough};
-ghost use Rattle.plan_check.specs.Index.{IsIndex, all_lives, plan_of, start_of};
-ghost use Rattle.plan_check.specs.Lives.{life_of};
+ghost use Rattle.plan_lives.specs.Index.{IsIndex, all_lives, plan_of, start_of};
+ghost use Rattle.plan_lives.specs.Lives.{life_of};
+ghost use Rattle.plan_lives.specs.Left.{left_of};
+ghost use Rattle.plan_lives.specs.Stretches.{IsStretchWithin, stretch_value};
 ghost use Rattle.plan_check.specs.PackageRules.{IsMissing, built_of, built_rule, lasting_rule};
-ghost use Rattle.plan_check.specs.PackageRules.{left_of};
 ghost use Rattle.plan_check.specs.Refusals.{Says};
-ghost use Rattle.plan_check.specs.Stretches.{IsStretchWithin, stretch_value};
 
-use crate::firm::{are_firm, leaf_of_all};
-use crate::index::Index;
-use crate::life::{Life, Moment};
-use crate::meeting::meeting;
-use crate::packages::Packages;
 use crate::refusal::PlanRefused;
-use crate::stretch::Stretch;
 use crate::unmet::judge_satisfied;
 use dep_atom::Atom;
 use pkg_state::{Class, Pkg, copy_leaf};
+use plan_lives::{Index, Life, Moment, Packages, Stretch, are_firm, leaf_of_all, meeting};
 use std::alloc::{AllocError, Global};
 
 /// Whether what the package wants in the class is there all through the stretch.

@@ -10,28 +10,23 @@
 //! what bars it isn't there when it may come; what it wants for its build is there whenever it may
 //! come; and what it wants later is there at the end.
 //!
-//! **A contract sees** a [`Plan`] as the list of its groups, each as `plan_law` has it, a package as
-//! a record, and what an addition asks of the binds ([`Asked`]) as its leaves and binds.
+//! **A contract sees** a plan as `plan_lives` has it, and what an addition asks of the binds
+//! ([`Asked`]) as its leaves and binds.
 //!
-//! **Proved**: a plan is made of just those groups that wait for earlier ones alone, at most 4,096.
-//! [`Reach`] tells of each two groups whether one reaches the other. [`lives_of`] lists the lives of
-//! a plan over packages, each of them and no other, in the order of packages. [`check`] answers Ok
-//! exactly on accepted plans (`IsAccepted` of `plan_law`) whose binds are right (`AreBound` of
-//! `specs/Binding.antt`), but for want of memory, and these are sound over every order of their
-//! groups. Any other plan is refused by the first rule that it breaks (`plan_rule` of
-//! `specs/PackageRules.antt`), with the first package that breaks it, and with the leaf, the bind,
-//! the other package or the groups that the rule names: of several groups in disorder the first two
-//! by their line and then by their numbers. What a package may miss while it runs is told as
-//! unsatisfied where it is missing when the package comes or, if that stays, at the end; and as
-//! unsafe where it is missing in between alone.
+//! **Proved**: [`check`] answers Ok exactly on accepted plans (`IsAccepted` of `plan_law`) whose binds
+//! are right (`AreBound` of `specs/Binding.antt`), but for want of memory, and these are sound over
+//! every order of their groups. Any other plan is refused by the first rule that it breaks
+//! (`plan_rule` of `specs/PackageRules.antt`), with the first package that breaks it, and with the
+//! leaf, the bind, the other package or the groups that the rule names: of several groups in disorder
+//! the first two by their line and then by their numbers. What a package may miss while it runs is
+//! told as unsatisfied where it is missing when the package comes or, if that stays, at the end; and
+//! as unsafe where it is missing in between alone.
 //!
 //! **Only tested**: that with ample memory an accepted plan is accepted.
 //!
-//! The lives, the rules on lines and the look-ups by name take time in n log n: a rule looks at the
-//! lives of one line, of one name or of a block's name, and goes through all packages, or each two
-//! changes of a line, only where it is about to refuse. A chain goes through the lives that its atoms
-//! match, at worst once for each of them. Of n groups each pair where one waits for the other costs
-//! n / 64 words.
+//! The rules on lines and the look-ups by name take time in n log n: a rule looks at the lives of one
+//! line, of one name or of a block's name, and goes through all packages, or each two changes of a
+//! line, only where it is about to refuse.
 //!
 //! ```
 //! let plan = Plan::new(groups).ok_or(Fault::Form)?;
@@ -40,43 +35,22 @@
 #![tactic(auto)]
 
 mod asked;
-mod binding;
 mod blocked;
-mod chain;
-mod chains;
 mod change;
 mod checking;
 mod coming;
 mod finished;
-mod firm;
-mod home;
-mod index;
-mod indexing;
-mod keeping;
 mod lasting;
-mod life;
-mod lives;
-mod meeting;
 mod opening;
 mod order;
-mod packages;
-mod plan;
 mod presence;
-mod reach;
 mod refusal;
 mod required;
 mod single;
-mod standing;
-mod stretch;
 mod unmet;
 mod vacancy;
 mod versions;
 
 pub use asked::Asked;
-pub use binding::greater;
 pub use checking::check;
-pub use life::{Life, Moment};
-pub use lives::lives_of;
-pub use plan::{Group, Plan, Removal};
-pub use reach::Reach;
 pub use refusal::PlanRefused;

@@ -2,18 +2,17 @@ ghost use Rattle.std.specs.Prelude.{◌≡◌, ◌↔◌, ◌++◌, ◌<◌, IfO
 ghost use Rattle.std.specs.Prelude.{length, map};
 ghost use Rattle.std.specs.Option.{option_map};
 ghost use Rattle.plan_law.specs.Plans.{Reaches};
+ghost use Rattle.plan_lives.specs.IsReach.{IsReach};
 ghost use Rattle.plan_check.specs.Changes.{AreByLine, change_of, changes_from, changes_of};
 ghost use Rattle.plan_check.specs.Changes.{earlier, pair_of};
 ghost use Rattle.plan_check.specs.Pairs.{pair_cmp};
-ghost use Rattle.plan_check.specs.IsReach.{IsReach};
 ghost use Rattle.plan_check.specs.Refusals.{Says};
 ghost use Rattle.plan_check.specs.Rules.{IsFirstUnordered, line_rule};
 
 use crate::change::{Change, FoundPair};
-use crate::plan::Group;
-use crate::reach::Reach;
 use crate::refusal::PlanRefused;
 use pkg_state::{ByText, LineName};
+use plan_lives::{Group, Reach};
 use pms_names::{Name, SlotName};
 use std::alloc::{AllocError, Global};
 use std::cmp::Ordering;

@@ -1,16 +1,13 @@
 ghost use Rattle.std.specs.Prelude.{◌↔◌, ◌<◌, IfOk, IsTrue, length};
-ghost use Rattle.plan_check.specs.Index.{IsIndex, plan_of, start_of};
-ghost use Rattle.plan_check.specs.Lives.{life_of};
+ghost use Rattle.plan_lives.specs.Index.{IsIndex, plan_of, start_of};
+ghost use Rattle.plan_lives.specs.Lives.{life_of};
 ghost use Rattle.plan_check.specs.Refusals.{Says};
 ghost use Rattle.plan_check.specs.Rules.{IsPresent, IsTheOne, present_of, present_rule};
 ghost use Rattle.plan_check.specs.Verdicts.{each};
 
-use crate::index::Index;
-use crate::life::Life;
-use crate::plan::Removal;
 use crate::refusal::PlanRefused;
-use crate::standing::stands_before;
 use pkg_state::LineName;
+use plan_lives::{Index, Life, Removal, stands_before};
 use std::alloc::{AllocError, Global};
 
 /// Whether the life is of the package that goes, just before the group.

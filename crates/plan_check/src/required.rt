@@ -1,14 +1,14 @@
 ghost use Rattle.std.specs.Prelude.{◌≡◌, false};
 ghost use Rattle.pkg_state.specs.Consistent.{fits_required};
-ghost use Rattle.plan_check.specs.Lives.{life_of};
+ghost use Rattle.plan_lives.specs.Lives.{life_of};
 ghost use Rattle.plan_check.specs.PackageRules.{required_rule};
 ghost use Rattle.plan_check.specs.Refusals.Refusal.{RequiredUse};
 ghost use Rattle.plan_check.specs.Refusals.{Says};
 ghost use Rattle.plan_check.specs.Verdicts.{refuse};
 
-use crate::life::{Life, Moment};
 use crate::refusal::PlanRefused;
 use pkg_state::Pkg;
+use plan_lives::{Life, Moment};
 
 fn judge_addition(pkg: &Pkg) -> Result<(), PlanRefused>
     ensures { Says (refuse (fits_required pkg.now ≡ false) (RequiredUse pkg.now.facts.id)) result }

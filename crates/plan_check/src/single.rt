@@ -1,12 +1,12 @@
 ghost use Rattle.std.specs.Prelude.{◌<◌, length};
-ghost use Rattle.plan_check.specs.Form.{IsPlanInForm};
+ghost use Rattle.plan_lives.specs.Form.{IsPlanInForm};
 ghost use Rattle.plan_check.specs.Refusals.{Says};
 ghost use Rattle.plan_check.specs.Rules.{apart_rule, single_rule};
 ghost use Rattle.plan_text.specs.Texts.{most_groups};
 
-use crate::plan::Group;
 use crate::refusal::PlanRefused;
 use pkg_state::first_twins;
+use plan_lives::Group;
 use std::alloc::Global;
 
 fn judge_group(alloc: Global, g: usize, group: &Group) -> Result<(), PlanRefused>

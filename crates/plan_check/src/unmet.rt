@@ -1,21 +1,20 @@
 ghost use Rattle.std.specs.Prelude.{◌≡◌, map};
 ghost use Rattle.basics.specs.Members.{Has};
 ghost use Rattle.plan_law.specs.Accepted.{AreLeft};
-ghost use Rattle.plan_check.specs.Home.{AreThereAt, among, met_rule};
-ghost use Rattle.plan_check.specs.Index.{IsIndex, all_lives, plan_of, start_of};
-ghost use Rattle.plan_check.specs.Lives.{life_of};
-ghost use Rattle.plan_check.specs.PackageRules.{if_left, left_of, satisfied_rule};
+ghost use Rattle.plan_lives.specs.Home.{AreThereAt};
+ghost use Rattle.plan_lives.specs.Index.{IsIndex, all_lives, plan_of, start_of};
+ghost use Rattle.plan_lives.specs.Lives.{life_of};
+ghost use Rattle.plan_lives.specs.Left.{left_of};
+ghost use Rattle.plan_lives.specs.Stretches.{IsWithin};
+ghost use Rattle.plan_check.specs.Home.{among, met_rule};
+ghost use Rattle.plan_check.specs.PackageRules.{if_left, satisfied_rule};
 ghost use Rattle.plan_check.specs.Refusals.{Says};
-ghost use Rattle.plan_check.specs.Stretches.{IsWithin};
 ghost use Rattle.plan_text.specs.Texts.{most_groups};
 
-use crate::home::there_at;
-use crate::index::Index;
-use crate::life::{Life, Moment};
-use crate::packages::Packages;
 use crate::refusal::PlanRefused;
 use crate::versions::number_of;
 use pkg_state::{Class, copy_leaf};
+use plan_lives::{Index, Life, Moment, Packages, there_at};
 use std::alloc::Global;
 
 /// Whether what a package needs while it runs is among these.

@@ -1,16 +1,13 @@
 ghost use Rattle.std.specs.Prelude.{◌↔◌, ◌<◌, IsTrue, length};
-ghost use Rattle.plan_check.specs.Index.{IsIndex, plan_of, start_of};
-ghost use Rattle.plan_check.specs.Lives.{life_of};
+ghost use Rattle.plan_lives.specs.Index.{IsIndex, plan_of, start_of};
+ghost use Rattle.plan_lives.specs.Lives.{life_of};
 ghost use Rattle.plan_check.specs.Refusals.{Says};
 ghost use Rattle.plan_check.specs.Rules.{IsInTheWay, vacant_of, vacant_rule};
 ghost use Rattle.plan_check.specs.Verdicts.{each};
 
-use crate::index::Index;
-use crate::life::Life;
 use crate::refusal::PlanRefused;
-use crate::standing::stands_before;
-use crate::stretch::is_commit_of;
 use pkg_state::Pkg;
+use plan_lives::{Index, Life, is_commit_of, stands_before};
 use std::alloc::Global;
 
 /// Whether the package is there just before the group, and doesn't go with it.

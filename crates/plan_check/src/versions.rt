@@ -2,20 +2,17 @@ ghost use Rattle.std.specs.Prelude.{◌≡◌, ◌↔◌, IfOk, IsTrue, length};
 ghost use Rattle.basics.specs.Members.{Has};
 ghost use Rattle.pkg_state.specs.Package.{line_of};
 ghost use Rattle.plan_law.specs.Lives.{Meets, stretch_of};
-ghost use Rattle.plan_check.specs.Index.{IsIndex, all_lives, plan_of, start_of};
-ghost use Rattle.plan_check.specs.IsReach.{IsReach};
-ghost use Rattle.plan_check.specs.Lives.{life_of, moment_of};
+ghost use Rattle.plan_lives.specs.Index.{IsIndex, all_lives, plan_of, start_of};
+ghost use Rattle.plan_lives.specs.IsReach.{IsReach};
+ghost use Rattle.plan_lives.specs.Lives.{life_of, moment_of};
+ghost use Rattle.plan_lives.specs.Stretches.{IsStretchWithin, IsWithin, stretch_value};
 ghost use Rattle.plan_check.specs.Refusals.{Says};
 ghost use Rattle.plan_check.specs.Rules.{AreOneVersion, number_of, versions_of, versions_rule};
-ghost use Rattle.plan_check.specs.Stretches.{IsStretchWithin, IsWithin, stretch_value};
 ghost use Rattle.plan_text.specs.Texts.{most_groups};
 
-use crate::index::Index;
-use crate::life::{Life, Moment};
-use crate::reach::Reach;
 use crate::refusal::PlanRefused;
-use crate::stretch::Stretch;
 use pkg_state::Pkg;
+use plan_lives::{Index, Life, Moment, Reach, Stretch};
 use std::alloc::{AllocError, Global};
 
 /// Whether the package may be there at some time of the stretch.

@@ -1,4 +1,4 @@
-use plan_check as check;
+use plan_lives as lives;
 use plan_text as text;
 
 /// What a command is to do: the plan as a text has it, and as it was checked. An addition of the
@@ -7,5 +7,5 @@ use plan_text as text;
 #[derive(Debug, Drop)]
 pub struct Chosen {
     pub text: text::Plan,
-    pub plan: check::Plan,
+    pub plan: lives::Plan,
 }

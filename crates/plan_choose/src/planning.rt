@@ -16,6 +16,7 @@ use pkg_state::{Broken, Pkg};
 use plan_check as check;
 use plan_check::PlanRefused;
 use plan_link::{LinkFault, asks_of, link};
+use plan_lives as lives;
 use plan_text as text;
 use std::alloc::Global;
 
@@ -41,7 +42,7 @@ fn of_link(fault: LinkFault) -> NotChosen
     }
 }
 
-fn linked(alloc: Global, text: &text::Plan, offered: &[Pkg]) -> Result<check::Plan, NotChosen>
+fn linked(alloc: Global, text: &text::Plan, offered: &[Pkg]) -> Result<lives::Plan, NotChosen>
     requires { IsPlan (plan_value text.now) }
     ensures linked { IfOk result (λ plan. IsLinked offered.now (plan_value text.now) plan) }
     ensures fault { IfErr result (λ e. (installed : List Package) →
@@ -89,7 +90,7 @@ pub(crate) fn accepted(
     installed: &[Pkg],
     offered: &[Pkg],
     text: &text::Plan,
-) -> Result<check::Plan, NotChosen>
+) -> Result<lives::Plan, NotChosen>
     requires { IsPlan (plan_value text.now) }
     ensures good { IfOk result (IsGood installed.now offered.now (plan_value text.now)) }
     ensures fault { IfErr result (Breaks installed.now offered.now (plan_value text.now)) }

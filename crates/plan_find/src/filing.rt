@@ -17,6 +17,7 @@ use plan_check as check;
 use plan_check::PlanRefused;
 use plan_choose::{NotTaken, is_told, reasons_of};
 use plan_link::{LinkFault, asks_of, link};
+use plan_lives as lives;
 use plan_text::Plan;
 use std::alloc::{AllocError, Global};
 
@@ -73,7 +74,7 @@ fn linked(
     text: &Plan,
     offered: &[Pkg],
     hidden: &[NotTaken],
-) -> Result<check::Plan, Unfiled>
+) -> Result<lives::Plan, Unfiled>
     requires { IsPlan (plan_value text.now) }
     ensures linked { IfOk result (λ plan. IsLinked offered.now (plan_value text.now) plan) }
     ensures fault { IfErr result (λ e. (installed : List Package) →
@@ -102,7 +103,7 @@ pub(crate) fn judged(
     offered: &[Pkg],
     hidden: &[NotTaken],
     text: &Plan,
-) -> Result<check::Plan, Unfiled>
+) -> Result<lives::Plan, Unfiled>
     requires { IsPlan (plan_value text.now) }
     ensures good { IfOk result (IsGood installed.now offered.now (plan_value text.now)) }
     ensures fault { IfErr result

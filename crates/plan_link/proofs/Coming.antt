@@ -9,7 +9,7 @@ use Rattle.required_use.specs.Texts.{Expressions}
 use Rattle.pkg_state.specs.Package.{Package}
 use Rattle.plan_text.specs.Plans.{AdditionValue}
 use Rattle.plan_link.specs.Entering.{all_entered}
-use Rattle.plan_check.proofs.Judged.{drop_end}
+use Rattle.plan_lives.proofs.Steps.{drop_end}
 use Rattle.plan_link.specs.Offers.{AreOn, ComesAs, IsFirst, Names, with_flags}
 
 pub comes : (a : AdditionValue) (p : Package) (on : List (List ℕ)) (f : Facts) (r pd d b i : Dependencies) (q : Expressions) → AreOn a.enabled p.facts.enabled on

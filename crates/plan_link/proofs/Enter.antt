@@ -9,7 +9,7 @@ use Rattle.dep_tree.specs.View.{trees_view, view}
 use Rattle.dep_tree.specs.declared.tree.Node.{Node}
 use Rattle.dep_tree.proofs.CopyLemmas.{trees_view-map}
 use Rattle.database_law.specs.Fields.{without_equals}
-use Rattle.plan_check.proofs.Judged.{drop_end, trees_at}
+use Rattle.plan_lives.proofs.Steps.{drop_end, trees_at}
 use Rattle.plan_link.specs.Entering.{all_entered, all_left, asks, bound_slot, entered, left, left_by, slot_with}
 
 -- a leaf that asks for none keeps no bind

@@ -10,7 +10,7 @@ use Rattle.plan_law.specs.Plans.{group_at}
 use Rattle.plan_text.specs.Numbers.{rise_between}
 use Rattle.plan_text.specs.Plans.{GroupValue}
 use Rattle.plan_text.specs.Texts.{AreGroups, IsPlan, most_groups}
-use Rattle.plan_check.specs.Form.{IsPlanInForm}
+use Rattle.plan_lives.specs.Form.{IsPlanInForm}
 use Rattle.plan_link.specs.Linked.{IsLinked, IsLinkedGroup}
 use Rattle.plan_link.proofs.Pairs.{zip_length}
 

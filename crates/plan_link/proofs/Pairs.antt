@@ -3,7 +3,7 @@ use Rattle.std.proofs.Common.{◌≡◌, ◌<◌, ◌≤◌, ◌+◌, ◌∙◌,
 use Rattle.std.proofs.Math.Seq.{take-suc}
 use Rattle.std.proofs.lemmas.List.{get_or-map, take_all}
 use Rattle.std.specs.List.{AllZip}
-use Rattle.plan_check.proofs.Judged.{drop_end}
+use Rattle.plan_lives.proofs.Steps.{drop_end}
 
 pub zip_push : {A B : Type 0} (R : A → B → Type 0) (xs : List A) (ys : List B) (x : A) (y : B) → AllZip R xs ys → R x y → AllZip R (xs ++ (x ∷ [])) (ys ++ (y ∷ []))
 zip_push R [] [] x y h r = (r, tt)

@@ -12,7 +12,7 @@ use crate::finding::find;
 use crate::offers::Offers;
 use crate::package::entering;
 use pkg_state::Pkg;
-use plan_check as check;
+use plan_lives as lives;
 use plan_text::{Addition, Group, Removal};
 use std::alloc::{AllocError, Global};
 
@@ -90,15 +90,15 @@ fn places(alloc: Global, numbers: &[u32]) -> Result<Vec<usize>, AllocError>
     Ok(places)
 }
 
-fn removal_of(removal: &Removal) -> Result<check::Removal, AllocError>
+fn removal_of(removal: &Removal) -> Result<lives::Removal, AllocError>
     ensures { IfOk result (λ r. r ≡ removal_of removal.now) }
 {
     let id = removal.id.try_clone()?;
     let slot = removal.slot.try_clone()?;
-    Ok(check::Removal { id, slot })
+    Ok(lives::Removal { id, slot })
 }
 
-fn removals_of(alloc: Global, removals: &[Removal]) -> Result<Vec<check::Removal>, AllocError>
+fn removals_of(alloc: Global, removals: &[Removal]) -> Result<Vec<lives::Removal>, AllocError>
     ensures { IfOk result (λ copies. copies.items ≡ map removal_of removals.now) }
 {
     let mut copies = Vec::new(alloc);
@@ -114,7 +114,7 @@ pub(crate) fn link_group(
     offers: &Offers<'_>,
     g: usize,
     group: &Group,
-) -> Result<check::Group, LinkFault>
+) -> Result<lives::Group, LinkFault>
     requires { g < most_groups }
     ensures linked { IfOk result (λ r.
         IsLinkedGroup offers.now.offered.now (group_value group.now) r) }
@@ -123,7 +123,7 @@ pub(crate) fn link_group(
     let additions = link_additions(alloc, offers, g, &group.additions)?;
     let removals = removals_of(alloc, &group.removals)?;
     let after = places(alloc, &group.after)?;
-    Ok(check::Group {
+    Ok(lives::Group {
         after,
         removals,
         additions,

@@ -10,7 +10,8 @@ use crate::asking::asks_of;
 use crate::fault::{LinkFault, PlanFault};
 use crate::linking::link;
 use pkg_state::Pkg;
-use plan_check::{Plan, check};
+use plan_check::check;
+use plan_lives::Plan;
 use std::alloc::Global;
 
 /// Reads a text as a plan, links it to the packages that are offered, and checks it over those that

@@ -7,7 +7,7 @@
 //! whose condition isn't met, a block asks for none, and a slot that is written stays.
 //!
 //! **A contract sees** a text as the list of its groups, as `plan_text` has it, and a plan as
-//! `plan_check` has it.
+//! `plan_lives` has it.
 //!
 //! **Proved**: of a text in form [`link`] gives a plan that is linked to it, group by group and
 //! addition by addition (`IsLinked` of `specs/Linked.antt`). But for want of memory it is refused

@@ -9,7 +9,7 @@ use crate::fault::LinkFault;
 use crate::group::link_group;
 use crate::offers::Offers;
 use pkg_state::Pkg;
-use plan_check as check;
+use plan_lives as lives;
 use plan_text::{Group, Plan};
 use std::alloc::Global;
 
@@ -17,7 +17,7 @@ fn link_groups(
     alloc: Global,
     offers: &Offers<'_>,
     groups: &[Group],
-) -> Result<Vec<check::Group>, LinkFault>
+) -> Result<Vec<lives::Group>, LinkFault>
     requires { length groups.now ≤ most_groups }
     ensures linked { IfOk result (λ plan.
         IsLinked offers.now.offered.now (map group_value groups.now) plan.items) }
@@ -32,7 +32,7 @@ fn link_groups(
 
 /// The plan that the text stands for, over the packages that are offered. The flags that these have
 /// on are the implicit ones.
-pub fn link(alloc: Global, text: &Plan, offered: &[Pkg]) -> Result<check::Plan, LinkFault>
+pub fn link(alloc: Global, text: &Plan, offered: &[Pkg]) -> Result<lives::Plan, LinkFault>
     requires { IsPlan (plan_value text.now) }
     ensures found { IfOk result (λ plan. IsLinked offered.now (plan_value text.now) plan) }
     ensures fine { link_rule offered.now (plan_value text.now) None →
@@ -42,7 +42,7 @@ pub fn link(alloc: Global, text: &Plan, offered: &[Pkg]) -> Result<check::Plan, 
 {
     let offers = Offers::new(alloc, offered)?;
     let groups = link_groups(alloc, &offers, &text.groups)?;
-    match check::Plan::new(groups) {
+    match lives::Plan::new(groups) {
         Some(plan) => Ok(plan),
         None => unreachable!(),
     }

@@ -11,7 +11,7 @@ use crate::held::Held;
 use file_tree::{Tree, TreeFault};
 use opening::paths_of;
 use pkg_state::Pkg;
-use plan_check::{Group, Removal};
+use plan_lives::{Group, Removal};
 use record_read::Installed;
 use std::alloc::{AllocError, Global};
 use std::collections::BTreeSet;

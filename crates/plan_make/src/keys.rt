@@ -8,7 +8,7 @@ ghost use Rattle.plan_make.specs.Plans.{coming, key_of_id};
 use exchange_make::Places;
 use merge_record::OwnerKey;
 use pkg_state::Pkg;
-use plan_check::{Group, Removal};
+use plan_lives::{Group, Removal};
 use record_read::Installed;
 use std::alloc::{AllocError, Global};
 

@@ -11,7 +11,7 @@ use crate::keys::removed_keys;
 use exchange_make::Places;
 use merge_record::OwnerKey;
 use merge_site::SiteGroup;
-use plan_check::Group;
+use plan_lives::Group;
 use std::alloc::{AllocError, Global};
 
 /// What a site is opened for that merges the groups of the plan in their order.

@@ -17,7 +17,7 @@ use crate::held::Held;
 use exchange_make::{Newcomer, Places, add_free, files_of, newcomers_are_named, placed};
 use file_tree::{Entry, Path};
 use group_run::{Files, Turn};
-use plan_check::{Group, Removal};
+use plan_lives::{Group, Removal};
 use std::alloc::{AllocError, Global};
 
 /// Makes the turn of a group that brings these newcomers, and holds what they place.

@@ -13,7 +13,7 @@ use file_tree::{Sink, Tree, TreeFault};
 use group_run::{Stop, open_run};
 use merge_core::Core;
 use owner_book::OwnerBook;
-use plan_check::Group;
+use plan_lives::Group;
 use plan_make::Job;
 use record_read::Installed;
 use std::alloc::Global;

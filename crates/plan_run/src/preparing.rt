@@ -5,7 +5,7 @@ ghost use Rattle.plan_run.specs.Courses.{IsCourse};
 use exchange_make::Places;
 use file_tree::{Tree, TreeFault};
 use merge_site::SiteGroup;
-use plan_check::Group;
+use plan_lives::Group;
 use plan_make::{Held, Job, held_paths, plan_places, site_groups};
 use record_read::Installed;
 use std::alloc::Global;

@@ -12,7 +12,7 @@ use exchange_make::Places;
 use file_tree::{Sink, Tree};
 use group_run::merge_next;
 use merge_site::Site;
-use plan_check::Group;
+use plan_lives::Group;
 use plan_make::{Job, make_turn};
 use std::alloc::Global;
 

@@ -8,8 +8,9 @@ use crate::reading::packages;
 use crate::refused::refused_text;
 use asked_lines::{cut, unescaped};
 use pkg_state::Pkg;
-use plan_check::{Asked, Plan, PlanRefused, check};
+use plan_check::{Asked, PlanRefused, check};
 use plan_link::{asks_of, link};
+use plan_lives::Plan;
 use repair_check::check_repair;
 use std::alloc::Global;
 

@@ -6,7 +6,7 @@
 use crate::reading::package;
 use dep_atom::PackageId;
 use pkg_state::Pkg;
-use plan_check::{Group, Plan, Removal};
+use plan_lives::{Group, Plan, Removal};
 use pms_names::SlotName;
 use std::alloc::Global;
 

@@ -6,8 +6,8 @@
 use crate::answers::{class_name, push_id, push_number};
 use crate::refused::push_one_in;
 use pkg_state::{Class, Pkg};
-use plan_check::{Group, Plan, Removal};
 use plan_link::LinkFault;
+use plan_lives::{Group, Plan, Removal};
 use pms_names::Flags;
 use std::alloc::{AllocError, Global};
 

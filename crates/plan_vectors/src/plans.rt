@@ -5,8 +5,8 @@ use crate::reading::packages;
 use crate::refused::refused_text;
 use asked_lines::{cut, unescaped};
 use pkg_state::Pkg;
-use plan_check as check;
 use plan_link::{LinkFault, PlanFault, judge_plan, link};
+use plan_lives as lives;
 use plan_text::{Plan, PlanTextFault};
 use std::alloc::{AllocError, Global};
 
@@ -30,7 +30,7 @@ pub(crate) fn text(alloc: Global, text: &str) -> Option<String> {
     }
 }
 
-fn told_link(alloc: Global, answer: Result<check::Plan, LinkFault>) -> Option<String> {
+fn told_link(alloc: Global, answer: Result<lives::Plan, LinkFault>) -> Option<String> {
     match answer {
         Ok(plan) => plan_text(alloc, plan),
         Err(fault) => fault_text(alloc, fault),

@@ -4,7 +4,7 @@ ghost use Rattle.plan_law.specs.Plans.{changed, removed_line};
 ghost use Rattle.repair_check.specs.Repair.{behind, is_elsewhere};
 
 use pkg_state::{LineName, Pkg, copy_package};
-use plan_check::{Group, Plan, Removal};
+use plan_lives::{Group, Plan, Removal};
 use std::alloc::{AllocError, Global};
 
 /// The lines from which something goes.

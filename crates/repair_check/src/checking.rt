@@ -11,7 +11,8 @@ ghost use Rattle.repair_check.specs.Repair.{IsRepair, consistent_rule, refusal_o
 use crate::bare::all_bare;
 use crate::behind::packages_behind;
 use pkg_state::{Broken, Class, Pkg, consistent};
-use plan_check::{Asked, Plan, PlanRefused, check};
+use plan_check::{Asked, PlanRefused, check};
+use plan_lives::Plan;
 use std::alloc::Global;
 
 /// What is wrong with the packages, as the rule that fits tells it.

@@ -5,7 +5,7 @@
 //! the group are to go together, those that were there and stay among them. The first rule that is
 //! broken is told as the check of plans tells it.
 //!
-//! **A contract sees** a plan and packages as `plan_check` and `pkg_state` have them.
+//! **A contract sees** a plan and packages as `plan_lives` and `pkg_state` have them.
 //!
 //! **Proved**: [`check_repair`] answers Ok exactly on repairs (`IsRepair` of `specs/Repair.antt`),
 //! but for want of memory; the binds of what comes are right then, too. Behind a run of the whole

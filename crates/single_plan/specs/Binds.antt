@@ -8,7 +8,7 @@ use Rattle.dep_atom.specs.declared.slot.SlotPart.{SlotPart}
 use Rattle.dep_atom.specs.declared.slot.SlotPart.TheVariants.{Equals, Free, Given, Star}
 use Rattle.pkg_state.specs.Index.{those_named}
 use Rattle.pkg_state.specs.Package.{Package}
-use Rattle.plan_check.specs.Binding.{greater}
+use Rattle.plan_lives.specs.Binding.{greater}
 use Rattle.plan_link.specs.Entering.{all_asking_leaves}
 
 -- the packages that the leaf matches, of those of its name

@@ -10,8 +10,8 @@ ghost use Rattle.single_plan.specs.Binds.{written_slot};
 
 use dep_atom::{Atom, Bind, SlotPart};
 use pkg_state::{ByText, Pkg};
-use plan_check::greater;
 use plan_link::asking_leaves;
+use plan_lives::greater;
 use pms_names::{Flags, SlotName};
 use std::alloc::{AllocError, Global};
 

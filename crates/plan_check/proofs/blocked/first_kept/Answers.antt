@@ -1,6 +1,6 @@
 use Rattle.std.proofs.Common.{List, ap, map, subst}
 use Rattle.dep_atom.specs.Values.{AtomValue, atom_value}
-use Rattle.plan_check.specs.Index.{all_lives, plan_of}
+use Rattle.plan_lives.specs.Index.{all_lives, plan_of}
 use Rattle.plan_check.specs.Kept.{AreClear}
 use Rattle.plan_check.proofs.Clearing.{none_kept}
 use Rattle.plan_check.proofs.blocked.first_kept.Goals as goal

@@ -2,12 +2,12 @@ use Rattle.std.proofs.Common.{List, Option, None, Some, refl, subst, arith}
 use Rattle.basics.specs.Members.{Has}
 use Rattle.pkg_state.specs.Package.{Package}
 use Rattle.plan_law.specs.Lives as law
-use Rattle.plan_check.specs.Index.{plan_of}
+use Rattle.plan_lives.specs.Index.{plan_of}
+use Rattle.plan_lives.specs.Lives.{life_of, lives_of}
+use Rattle.plan_lives.proofs.Keyed.{item_at}
 use Rattle.plan_check.specs.Kept.{IsKeptOut}
-use Rattle.plan_check.specs.Lives.{life_of, lives_of}
 use Rattle.plan_check.specs.Verdicts.{each, refuse}
 use Rattle.plan_check.proofs.Judged.{at_end}
-use Rattle.plan_check.proofs.Keyed.{item_at}
 use Rattle.plan_check.proofs.Trying.{mapped_next, mapped_refused}
 use Rattle.plan_check.proofs.blocked.first_of_all.Goals as goal
 

@@ -1,7 +1,7 @@
 use Rattle.std.proofs.Common.{drop}
-use Rattle.plan_check.specs.Index.{plan_of}
+use Rattle.plan_lives.specs.Index.{plan_of}
+use Rattle.plan_lives.specs.Lives.{lives_of}
 use Rattle.plan_check.specs.Kept.{IsKeptOut}
-use Rattle.plan_check.specs.Lives.{lives_of}
 use Rattle.plan_check.specs.Verdicts.{each, refuse}
 use Rattle.plan_check.proofs.Trying.{Hears}
 use Rattle.plan_check.proofs.blocked.first_of_all.Given as goal

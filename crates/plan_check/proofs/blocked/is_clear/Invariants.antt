@@ -1,6 +1,6 @@
 use Rattle.std.proofs.Common.{drop, map}
 use Rattle.dep_atom.specs.Values.{atom_value}
-use Rattle.plan_check.specs.Index.{all_lives, plan_of}
+use Rattle.plan_lives.specs.Index.{all_lives, plan_of}
 use Rattle.plan_check.specs.Kept.{AreClear}
 use Rattle.plan_check.proofs.blocked.is_clear.Given as goal
 

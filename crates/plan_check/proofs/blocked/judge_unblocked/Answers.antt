@@ -1,13 +1,13 @@
 use Rattle.std.proofs.Common.{◌≡◌, ◌∙◌, None, Some, ap, sym, subst, length}
 use Rattle.pkg_state.specs.Package.{Package}
 use Rattle.plan_law.specs.Lives as law
-use Rattle.plan_check.specs.Index.{all_lives, plan_of, start_of}
-use Rattle.plan_check.specs.Lives.{life_of}
+use Rattle.plan_lives.specs.Index.{all_lives, plan_of, start_of}
+use Rattle.plan_lives.specs.Lives.{life_of}
+use Rattle.plan_lives.specs.Stretches.{IsStretchWithin}
+use Rattle.plan_lives.proofs.Within.{lives_within}
 use Rattle.plan_check.specs.PackageRules.{unblocked_rule}
 use Rattle.plan_check.specs.Refusals.{Refusal, Refusal as refused}
-use Rattle.plan_check.specs.Stretches.{IsStretchWithin}
 use Rattle.plan_check.proofs.KeptOut.{blocked_told}
-use Rattle.plan_check.proofs.Within.{lives_within}
 use Rattle.plan_check.proofs.blocked.judge_unblocked.Goals as goal
 
 pub first_kept-requires-clause-within : goal.first_kept-requires-clause-within

@@ -1,6 +1,6 @@
-use Rattle.plan_check.specs.Index.{plan_of, start_of}
-use Rattle.plan_check.specs.Lives.{life_of}
-use Rattle.plan_check.proofs.Within.{lives_within}
+use Rattle.plan_lives.specs.Index.{plan_of, start_of}
+use Rattle.plan_lives.specs.Lives.{life_of}
+use Rattle.plan_lives.proofs.Within.{lives_within}
 use Rattle.plan_check.proofs.blocked.keeps_out.Goals as goal
 
 pub meets-requires-clause-birth : goal.meets-requires-clause-birth

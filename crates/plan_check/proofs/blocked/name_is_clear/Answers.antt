@@ -4,11 +4,11 @@ use Rattle.std.proofs.lemmas.Slice.Eq.{bytes_eq-Decides}
 use Rattle.basics.specs.Members.{Has}
 use Rattle.dep_atom.specs.Values.{atom_value}
 use Rattle.pkg_state.proofs.Named.{same_package}
-use Rattle.plan_check.specs.Index.{all_lives, name_key, plan_of}
+use Rattle.plan_lives.specs.Index.{all_lives, name_key, plan_of}
+use Rattle.plan_lives.specs.Lives.{life_of, lives_of}
+use Rattle.plan_lives.specs.declared.life.Life.{Life}
+use Rattle.plan_lives.proofs.Keyed.{in_items, item_at, none_more}
 use Rattle.plan_check.specs.Kept.{IsKeptOut}
-use Rattle.plan_check.specs.Lives.{life_of, lives_of}
-use Rattle.plan_check.specs.declared.life.Life.{Life}
-use Rattle.plan_check.proofs.Keyed.{in_items, item_at, none_more}
 use Rattle.plan_check.proofs.blocked.name_is_clear.Goals as goal
 
 pub keeps_out-requires-clause-y : goal.keeps_out-requires-clause-y

@@ -1,8 +1,8 @@
 use Rattle.std.proofs.Common.{◌∙◌, List, subst}
 use Rattle.pkg_state.specs.Package.{Package}
 use Rattle.plan_law.specs.Plans.{Group}
+use Rattle.plan_lives.specs.Index.{plan_of}
 use Rattle.plan_check.specs.Asks.{all_asked}
-use Rattle.plan_check.specs.Index.{plan_of}
 use Rattle.plan_check.specs.PackageRules.{plan_rule}
 use Rattle.plan_check.specs.Refusals.{Says}
 use Rattle.plan_check.proofs.checking.judge.Goals as goal

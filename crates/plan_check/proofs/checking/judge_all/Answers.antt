@@ -1,6 +1,6 @@
 use Rattle.std.proofs.lemmas.Result.{err_from_is_err_and}
+use Rattle.plan_lives.specs.Index.{all_lives, plan_of, start_of}
 use Rattle.plan_check.specs.Asks.{all_asked, asking}
-use Rattle.plan_check.specs.Index.{all_lives, plan_of, start_of}
 use Rattle.plan_check.specs.PackageRules.{package_rule}
 use Rattle.plan_check.specs.Rules.{line_rule, opening_rule, present_rule, single_rule, vacant_rule, versions_rule}
 use Rattle.plan_check.specs.Verdicts.{both, each}

@@ -1,8 +1,8 @@
 use Rattle.std.specs.Option.{option_map}
 use Rattle.std.proofs.lemmas.Result.{err_from_is_err_and}
+use Rattle.plan_lives.specs.Index.{plan_of, start_of}
+use Rattle.plan_lives.specs.Lives.{life_of}
 use Rattle.plan_check.specs.Asks.{what_asked}
-use Rattle.plan_check.specs.Index.{plan_of, start_of}
-use Rattle.plan_check.specs.Lives.{life_of}
 use Rattle.plan_check.specs.PackageRules.{built_rule, coming_rule, finished_rule, lasting_rule, unbarred_rule, unblocked_rule}
 use Rattle.plan_check.specs.Verdicts.{both}
 use Rattle.plan_check.proofs.Told.{tells_first, tells_later}

@@ -3,13 +3,13 @@ use Rattle.std.specs.Option.{option_map}
 use Rattle.std.proofs.lemmas.Result.{err_from_is_err_and}
 use Rattle.basics.specs.Members.{Has}
 use Rattle.plan_law.specs.Lives as law
+use Rattle.plan_lives.specs.Index.{all_lives, plan_of, start_of}
+use Rattle.plan_lives.specs.Lives.{life_of, lives_of}
+use Rattle.plan_lives.proofs.Keyed.{item_at}
 use Rattle.plan_check.specs.Asks.{AskedValue, all_asked, asking, what_asked}
-use Rattle.plan_check.specs.Index.{all_lives, plan_of, start_of}
-use Rattle.plan_check.specs.Lives.{life_of, lives_of}
 use Rattle.plan_check.specs.PackageRules.{package_rule}
 use Rattle.plan_check.specs.Verdicts.{each}
 use Rattle.plan_check.proofs.Binds.{asked_next, asked_refused}
-use Rattle.plan_check.proofs.Keyed.{item_at}
 use Rattle.plan_check.proofs.Trying.{Hears, told_more}
 use Rattle.plan_check.proofs.checking.judge_packages.Goals as goal
 

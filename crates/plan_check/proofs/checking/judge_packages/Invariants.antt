@@ -1,7 +1,7 @@
 use Rattle.std.proofs.Common.{drop}
+use Rattle.plan_lives.specs.Index.{plan_of, start_of}
+use Rattle.plan_lives.specs.Lives.{lives_of}
 use Rattle.plan_check.specs.Asks.{all_asked, asking}
-use Rattle.plan_check.specs.Index.{plan_of, start_of}
-use Rattle.plan_check.specs.Lives.{lives_of}
 use Rattle.plan_check.specs.PackageRules.{package_rule}
 use Rattle.plan_check.specs.Verdicts.{each}
 use Rattle.plan_check.proofs.Trying.{Hears}

@@ -3,7 +3,7 @@ use Rattle.pkg_state.specs.Consistent.{facts_of, is_met}
 use Rattle.pkg_state.specs.Fault.{lacking_leaf}
 use Rattle.pkg_state.specs.Package.{Package}
 use Rattle.pkg_state.specs.declared.class.Class.TheVariants.{Pdepend}
-use Rattle.plan_check.specs.Lives.{moment_of}
+use Rattle.plan_lives.specs.Lives.{moment_of}
 use Rattle.plan_check.specs.PackageRules.{if_left}
 use Rattle.plan_check.specs.Refusals.{Refusal as refused, Says}
 use Rattle.plan_check.specs.Verdicts.{refuse}

@@ -1,8 +1,8 @@
 use Rattle.std.proofs.Common.{length}
-use Rattle.plan_check.specs.Index.{plan_of, start_of}
-use Rattle.plan_check.specs.Lives.{life_of}
-use Rattle.plan_check.proofs.Judged.{commit_within}
-use Rattle.plan_check.proofs.Within.{lives_within}
+use Rattle.plan_lives.specs.Index.{plan_of, start_of}
+use Rattle.plan_lives.specs.Lives.{life_of}
+use Rattle.plan_lives.proofs.Steps.{commit_within}
+use Rattle.plan_lives.proofs.Within.{lives_within}
 use Rattle.plan_check.proofs.lasting.judge_built.Goals as goal
 
 pub judge_class-requires-clause-there : goal.judge_class-requires-clause-there

@@ -8,10 +8,10 @@ use Rattle.dep_tree.specs.View.{trees_view}
 use Rattle.pkg_state.specs.Package.{Package, tree_of}
 use Rattle.pms_names.specs.Flags.{has}
 use Rattle.plan_law.specs.Firm.{IsChained, IsFirm}
-use Rattle.plan_check.specs.Index.{plan_of, start_of}
-use Rattle.plan_check.specs.Leaves.{IsLeafOfAll}
+use Rattle.plan_lives.specs.Index.{plan_of, start_of}
+use Rattle.plan_lives.specs.Leaves.{IsLeafOfAll}
+use Rattle.plan_lives.specs.Stretches.{stretch_value}
 use Rattle.plan_check.specs.PackageRules.{IsMissing}
-use Rattle.plan_check.specs.Stretches.{stretch_value}
 use Rattle.plan_check.proofs.lasting.missing.Goals as goal
 
 pub returns : goal.returns

@@ -6,15 +6,15 @@ use Rattle.basics.specs.Members.{Has}
 use Rattle.basics.proofs.Membership.{has-at, has-map}
 use Rattle.plan_law.specs.Accepted.{Changes}
 use Rattle.plan_law.specs.Plans.{Group}
+use Rattle.plan_lives.specs.IsReach.{IsReach}
+use Rattle.plan_lives.specs.declared.reach.Reach.{Reach}
+use Rattle.plan_lives.proofs.Places.{place_has}
 use Rattle.plan_check.specs.Changes.{change_of, changes_from, groups_on, pair_of}
 use Rattle.plan_check.specs.Pairs.{Pair}
-use Rattle.plan_check.specs.IsReach.{IsReach}
 use Rattle.plan_check.specs.Rules.{IsFirstUnordered, line_rule}
 use Rattle.plan_check.specs.declared.change.Change.{Change}
 use Rattle.plan_check.specs.declared.change.FoundPair.{FoundPair}
-use Rattle.plan_check.specs.declared.reach.Reach.{Reach}
 use Rattle.plan_check.proofs.Ordered.{Changed, IsBest, IsSeen, IsSeenWith, all_with, changes_at, first_apart, first_of_all, is_there, none_apart, not_unordered, on_line, unordered, with_none, with_pair}
-use Rattle.plan_check.proofs.Places.{place_has}
 use Rattle.plan_check.proofs.order.first_apart.Goals as goal
 use Rattle.plan_check.proofs.order.first_apart.Goals.{then-are_apart, else-are_apart}
 

@@ -2,12 +2,12 @@ use Rattle.std.proofs.Common.{◌≡◌, ◌∙◌, List, ap, sym, subst, refl, 
 use Rattle.std.proofs.lemmas.List.{take_all}
 use Rattle.basics.specs.Members.{Has}
 use Rattle.plan_law.specs.Plans.{removed_line}
-use Rattle.plan_check.specs.Index.{all_lives, line_key, plan_of, start_of}
-use Rattle.plan_check.specs.Lives.{life_of, lives_of}
+use Rattle.plan_lives.specs.Index.{all_lives, line_key, plan_of, start_of}
+use Rattle.plan_lives.specs.Lives.{life_of, lives_of}
+use Rattle.plan_lives.specs.declared.life.Life.{Life}
+use Rattle.plan_lives.proofs.AllLives.{has_lives}
+use Rattle.plan_lives.proofs.Keyed.{in_items, item_at, none_more}
 use Rattle.plan_check.specs.Rules.{IsTheOne}
-use Rattle.plan_check.specs.declared.life.Life.{Life}
-use Rattle.plan_check.proofs.AllLives.{has_lives}
-use Rattle.plan_check.proofs.Keyed.{in_items, item_at, none_more}
 use Rattle.plan_check.proofs.presence.is_present.Goals as goal
 
 pub returns-then-is_the_one : goal.returns-then-is_the_one

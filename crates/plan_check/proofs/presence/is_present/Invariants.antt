@@ -1,7 +1,7 @@
 use Rattle.std.proofs.Common.{take}
 use Rattle.basics.specs.Members.{Has}
 use Rattle.plan_law.specs.Lives as law
-use Rattle.plan_check.specs.Lives.{lives_of}
+use Rattle.plan_lives.specs.Lives.{lives_of}
 use Rattle.plan_check.specs.Rules.{IsTheOne}
 use Rattle.plan_check.proofs.presence.is_present.Given as goal
 

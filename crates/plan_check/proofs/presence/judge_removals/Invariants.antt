@@ -1,5 +1,5 @@
 use Rattle.std.proofs.Common.{drop}
-use Rattle.plan_check.specs.Index.{plan_of, start_of}
+use Rattle.plan_lives.specs.Index.{plan_of, start_of}
 use Rattle.plan_check.specs.Rules.{present_of}
 use Rattle.plan_check.specs.Verdicts.{each}
 use Rattle.plan_check.proofs.Trying.{Hears}

@@ -2,12 +2,12 @@ use Rattle.std.proofs.Common.{◌≡◌, length, map, subst, sym}
 use Rattle.pkg_state.specs.Package.{Package}
 use Rattle.plan_law.specs.Lives as law
 use Rattle.plan_text.specs.Texts.{most_groups}
-use Rattle.plan_check.specs.Home.{AreThereAt, IsThereAt}
-use Rattle.plan_check.specs.Index.{plan_of, start_of}
-use Rattle.plan_check.specs.Lives.{life_of, moment_of}
+use Rattle.plan_lives.specs.Home.{AreThereAt, IsThereAt}
+use Rattle.plan_lives.specs.Index.{plan_of, start_of}
+use Rattle.plan_lives.specs.Lives.{life_of, moment_of}
+use Rattle.plan_lives.proofs.Steps.{within_more}
+use Rattle.plan_lives.proofs.Within.{lives_within}
 use Rattle.plan_check.proofs.AtHome.{says_among}
-use Rattle.plan_check.proofs.Judged.{within_more}
-use Rattle.plan_check.proofs.Within.{lives_within}
 use Rattle.plan_check.proofs.unmet.judge_home.Goals as goal
 
 pub there_at-requires-clause-moment : goal.there_at-requires-clause-moment

@@ -3,16 +3,16 @@ use Rattle.pkg_state.specs.Package.{Package}
 use Rattle.plan_law.specs.Accepted.{AreLeft}
 use Rattle.plan_law.specs.Lives as law
 use Rattle.plan_text.specs.Texts.{most_groups}
+use Rattle.plan_lives.specs.Index.{plan_of, start_of}
+use Rattle.plan_lives.specs.Lives.{life_of, moment_of}
+use Rattle.plan_lives.specs.declared.life.Moment.{Moment}
+use Rattle.plan_lives.proofs.Steps.{within_more}
+use Rattle.plan_lives.proofs.Within.{lives_within}
 use Rattle.plan_check.specs.Home.{among, met_rule}
-use Rattle.plan_check.specs.Index.{plan_of, start_of}
-use Rattle.plan_check.specs.Lives.{life_of, moment_of}
 use Rattle.plan_check.specs.PackageRules.{if_left}
 use Rattle.plan_check.specs.Refusals.{Says}
-use Rattle.plan_check.specs.declared.life.Moment.{Moment}
 use Rattle.plan_check.proofs.Accepting.{left_are}
 use Rattle.plan_check.proofs.AtHome.{says_among}
-use Rattle.plan_check.proofs.Judged.{within_more}
-use Rattle.plan_check.proofs.Within.{lives_within}
 use Rattle.plan_check.proofs.unmet.judge_left.Goals as goal
 
 pub judge_among-requires : goal.judge_among-requires

@@ -2,15 +2,15 @@ use Rattle.std.proofs.Common.{◌≡◌, ◌+◌, ◌∙◌, Option, None, Some,
 use Rattle.pkg_state.specs.Package.{Package, line_of}
 use Rattle.plan_law.specs.Lives as law
 use Rattle.plan_law.specs.Plans.{group_at}
-use Rattle.plan_check.specs.Index.{all_lives, line_key, plan_of, start_of}
-use Rattle.plan_check.specs.Lives.{life_of, lives_of}
+use Rattle.plan_lives.specs.Index.{all_lives, line_key, plan_of, start_of}
+use Rattle.plan_lives.specs.Lives.{life_of, lives_of}
+use Rattle.plan_lives.proofs.AllLives.{has_lives}
+use Rattle.plan_lives.proofs.Keyed.{in_items, item_at}
 use Rattle.plan_check.specs.Refusals.{Refusal, Refusal as refused}
 use Rattle.plan_check.specs.Rules.{Crowds}
 use Rattle.plan_check.specs.Verdicts.{each, refuse}
-use Rattle.plan_check.proofs.AllLives.{has_lives}
 use Rattle.plan_check.proofs.InTheWay.{crowds, in_the_way}
-use Rattle.plan_check.proofs.Judged.{at_end}
-use Rattle.plan_check.proofs.Keyed.{heard_all, in_items, item_at}
+use Rattle.plan_check.proofs.Judged.{at_end, heard_all}
 use Rattle.plan_check.proofs.Trying.{mapped_next, mapped_refused}
 use Rattle.plan_check.proofs.vacancy.judge_addition.Goals as goal
 

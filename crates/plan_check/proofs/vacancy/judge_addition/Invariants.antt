@@ -1,7 +1,7 @@
 use Rattle.std.proofs.Common.{◌+◌, drop}
 use Rattle.plan_law.specs.Plans.{group_at}
-use Rattle.plan_check.specs.Index.{plan_of}
-use Rattle.plan_check.specs.Lives.{lives_of}
+use Rattle.plan_lives.specs.Index.{plan_of}
+use Rattle.plan_lives.specs.Lives.{lives_of}
 use Rattle.plan_check.specs.Refusals.{Refusal as refused}
 use Rattle.plan_check.specs.Rules.{Crowds}
 use Rattle.plan_check.specs.Verdicts.{each, refuse}

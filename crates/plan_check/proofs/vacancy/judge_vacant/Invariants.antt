@@ -1,5 +1,5 @@
 use Rattle.std.proofs.Common.{drop}
-use Rattle.plan_check.specs.Index.{plan_of, start_of}
+use Rattle.plan_lives.specs.Index.{plan_of, start_of}
 use Rattle.plan_check.specs.Rules.{vacant_at, vacant_rule}
 use Rattle.plan_check.specs.Verdicts.{each_from}
 use Rattle.plan_check.proofs.Trying.{Hears}

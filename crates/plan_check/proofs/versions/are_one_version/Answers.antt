@@ -1,9 +1,9 @@
 use Rattle.std.proofs.Common.{length, subst, sym}
 use Rattle.plan_law.specs.Lives as law
-use Rattle.plan_check.specs.Index.{plan_of, start_of}
-use Rattle.plan_check.specs.Lives.{life_of}
-use Rattle.plan_check.specs.Stretches.{IsStretchWithin}
-use Rattle.plan_check.proofs.Within.{lives_within}
+use Rattle.plan_lives.specs.Index.{plan_of, start_of}
+use Rattle.plan_lives.specs.Lives.{life_of}
+use Rattle.plan_lives.specs.Stretches.{IsStretchWithin}
+use Rattle.plan_lives.proofs.Within.{lives_within}
 use Rattle.plan_check.proofs.versions.are_one_version.Goals as goal
 
 pub meets-requires-clause-stretch : goal.meets-requires-clause-stretch

@@ -3,15 +3,16 @@ use Rattle.dep_atom.specs.declared.package.PackageId.{PackageId}
 use Rattle.pkg_state.specs.Package.{Package}
 use Rattle.plan_law.specs.Lives as law
 use Rattle.plan_text.specs.Texts.{most_groups}
-use Rattle.plan_check.specs.Index.{all_lives, name_key, plan_of, start_of}
-use Rattle.plan_check.specs.Lives.{life_of, lives_of, moment_of}
+use Rattle.plan_lives.specs.Index.{all_lives, name_key, plan_of, start_of}
+use Rattle.plan_lives.specs.Lives.{life_of, lives_of, moment_of}
+use Rattle.plan_lives.proofs.Steps.{within_more}
+use Rattle.plan_lives.proofs.Keyed.{in_items, item_at}
+use Rattle.plan_lives.proofs.Within.{lives_within}
 use Rattle.plan_check.specs.Refusals.{Refusal, Refusal as refused}
 use Rattle.plan_check.specs.Rules.{AreOneVersion, number_of}
 use Rattle.plan_check.specs.Verdicts.{each, refuse}
-use Rattle.plan_check.proofs.Judged.{at_end, within_more}
-use Rattle.plan_check.proofs.Keyed.{heard_all, in_items, item_at}
+use Rattle.plan_check.proofs.Judged.{at_end, heard_all}
 use Rattle.plan_check.proofs.Trying.{mapped_next, mapped_refused}
-use Rattle.plan_check.proofs.Within.{lives_within}
 use Rattle.plan_check.proofs.versions.judge_life.Goals as goal
 
 pub are_one_version-requires-clause-y : goal.are_one_version-requires-clause-y

@@ -1,6 +1,6 @@
 use Rattle.std.proofs.Common.{drop}
-use Rattle.plan_check.specs.Index.{plan_of}
-use Rattle.plan_check.specs.Lives.{life_of, lives_of}
+use Rattle.plan_lives.specs.Index.{plan_of}
+use Rattle.plan_lives.specs.Lives.{life_of, lives_of}
 use Rattle.plan_check.specs.Refusals.{Refusal as refused}
 use Rattle.plan_check.specs.Rules.{AreOneVersion, number_of}
 use Rattle.plan_check.specs.Verdicts.{each, refuse}

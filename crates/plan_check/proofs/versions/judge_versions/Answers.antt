@@ -1,8 +1,8 @@
 use Rattle.std.proofs.Common.{List, subst, arith}
 use Rattle.basics.specs.Members.{Has}
 use Rattle.plan_law.specs.Lives as law
-use Rattle.plan_check.specs.Lives.{life_of}
-use Rattle.plan_check.proofs.Keyed.{item_at}
+use Rattle.plan_lives.specs.Lives.{life_of}
+use Rattle.plan_lives.proofs.Keyed.{item_at}
 use Rattle.plan_check.proofs.versions.judge_versions.Goals as goal
 
 pub judge_life-requires-clause-x : goal.judge_life-requires-clause-x

@@ -1,6 +1,6 @@
 use Rattle.std.proofs.Common.{drop}
-use Rattle.plan_check.specs.Index.{plan_of, start_of}
-use Rattle.plan_check.specs.Lives.{lives_of}
+use Rattle.plan_lives.specs.Index.{plan_of, start_of}
+use Rattle.plan_lives.specs.Lives.{lives_of}
 use Rattle.plan_check.specs.Rules.{versions_of}
 use Rattle.plan_check.specs.Verdicts.{each}
 use Rattle.plan_check.proofs.Trying.{Hears}

@@ -5,7 +5,7 @@ use Rattle.basics.specs.Members.{Has}
 use Rattle.build_pool.specs.Pool.{PoolRose}
 use Rattle.build_pool.specs.declared.orders.Order.{Order}
 use Rattle.plan_law.specs.Plans.{Group, group_at}
-use Rattle.plan_check.proofs.Places.{group_is}
+use Rattle.plan_lives.proofs.Places.{group_is}
 use Rattle.merge_site.specs.declared.group.SiteGroup.{SiteGroup}
 use Rattle.file_tree.specs.declared.fault.TreeFault.TheVariants as trees
 use Rattle.group_run.specs.Lines.{AreLines, Wrote, line_in}

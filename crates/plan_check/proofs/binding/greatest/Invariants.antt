@@ -1,6 +1,0 @@
-use Rattle.std.specs.Option.{option_map}
-use Rattle.plan_check.proofs.Greatest.{Leads}
-use Rattle.plan_check.proofs.binding.greatest.Given as goal
-
-abbrev pub invariant-loop-y : goal.invariant-loop-y
-invariant-loop-y l = Leads l.reach.groups.now l.g l.fits l.y-index (option_map (λ p. p.now) l.best)

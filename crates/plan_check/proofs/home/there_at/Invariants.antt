@@ -1,9 +1,0 @@
-use Rattle.std.proofs.Common.{map, take}
-use Rattle.plan_check.specs.Home.{IsThereAt}
-use Rattle.plan_check.specs.Index.{plan_of}
-use Rattle.plan_check.specs.Lives.{lives_of, moment_of}
-use Rattle.plan_check.proofs.AtHome.{ArePicked}
-use Rattle.plan_check.proofs.home.there_at.Given as goal
-
-abbrev pub invariant-loop-x : goal.invariant-loop-x
-invariant-loop-x l = ArePicked (IsThereAt (plan_of l.index) (moment_of l.moment)) (lives_of (take l.x-index l.x-items)) (map (λ p. p.now) l.found.items)

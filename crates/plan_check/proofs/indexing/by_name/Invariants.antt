@@ -1,7 +1,0 @@
-use Rattle.std.proofs.Common.{take}
-use Rattle.plan_check.specs.Index.{AreKeyed, name_key}
-use Rattle.plan_check.specs.Lives.{lives_of}
-use Rattle.plan_check.proofs.indexing.by_name.Given as goal
-
-abbrev pub invariant-loop-life : goal.invariant-loop-life
-invariant-loop-life l = AreKeyed name_key (lives_of (take l.life-index l.lives)) l.found.lists

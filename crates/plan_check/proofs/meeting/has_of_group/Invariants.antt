@@ -1,7 +1,0 @@
-use Rattle.std.proofs.Common.{◌↔◌, drop}
-use Rattle.plan_check.specs.Lives.{lives_of}
-use Rattle.plan_check.specs.Meeting.{HasOfGroup}
-use Rattle.plan_check.proofs.meeting.has_of_group.Given as goal
-
-abbrev pub invariant-loop-x : goal.invariant-loop-x
-invariant-loop-x l = HasOfGroup (lives_of (drop l.x-index l.lives)) l.g ↔ HasOfGroup (lives_of l.lives) l.g

@@ -1,7 +1,0 @@
-use Rattle.plan_check.specs.Index.{plan_of, start_of}
-use Rattle.plan_check.specs.Lives.{life_of}
-use Rattle.plan_check.proofs.Within.{lives_within}
-use Rattle.plan_check.proofs.meeting.meeting.Goals as goal
-
-pub numbers_of-requires-clause-within : goal.numbers_of-requires-clause-within
-numbers_of-requires-clause-within c = lives_within (plan_of c.args.index.now) (start_of c.args.index.now) (life_of c.args.x.now) c.requires.x

@@ -1,7 +1,0 @@
-use Rattle.std.proofs.Common.{◌≡◌, ◌++◌, drop, map}
-use Rattle.plan_check.specs.Lives.{lives_of}
-use Rattle.plan_check.specs.PackageRules.{left_among}
-use Rattle.plan_check.proofs.packages.left_among.Given as goal
-
-abbrev pub invariant-loop-x : goal.invariant-loop-x
-invariant-loop-x l = map (λ p. p.now) l.left.items ++ left_among (lives_of (drop l.x-index l.lives)) ≡ left_among (lives_of l.lives)

@@ -1,6 +1,0 @@
-use Rattle.std.proofs.Common.{drop}
-use Rattle.plan_check.specs.Form.{AreBelow}
-use Rattle.plan_check.proofs.plan.are_below.Given as goal
-
-abbrev pub invariant-loop-h : goal.invariant-loop-h
-invariant-loop-h l = AreBelow (drop l.h-index l.after) l.g → AreBelow l.after l.g

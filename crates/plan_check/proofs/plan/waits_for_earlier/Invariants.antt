@@ -1,7 +1,0 @@
-use Rattle.std.proofs.Common.{◌<◌, ℕ}
-use Rattle.plan_law.specs.Plans.{group_at}
-use Rattle.plan_check.specs.Form.{AreBelow}
-use Rattle.plan_check.proofs.plan.waits_for_earlier.Given as goal
-
-abbrev pub invariant-loop-g : goal.invariant-loop-g
-invariant-loop-g l = (i : ℕ) → i < l.g → AreBelow (group_at l.groups i).after i

@@ -1,0 +1,14 @@
+pub mod Bits
+pub mod RowBits
+pub mod Places
+pub mod Clears
+pub mod AllLives
+pub mod Backwards
+pub mod Joining
+pub mod Keyed
+pub mod Steps
+pub mod Greatest
+pub mod Within
+pub mod Numbered
+pub mod Serving
+pub mod Picked

@@ -1,0 +1,15 @@
+pub mod Form
+pub mod Reaching
+pub mod IsReach
+pub mod Lives
+pub mod Clearings
+pub mod Index
+pub mod Stretches
+pub mod Chains
+pub mod Leaves
+pub mod Gathered
+pub mod Binding
+pub mod Meeting
+pub mod Keeping
+pub mod Home
+pub mod Left
