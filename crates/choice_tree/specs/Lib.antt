@@ -4,12 +4,10 @@ pub mod Places
 pub mod Lines
 pub mod Blocks
 pub mod Seen
-pub mod Marks
 pub mod Open
 pub mod Candidates
 pub mod Options
 pub mod Tree
-pub mod Settled
 pub mod Steps
 pub mod Shown
 pub mod Keys

@@ -12,8 +12,8 @@ use pms_names::Flags;
 
 /// The lines under a choice, with those under the names and the texts that their packages may have.
 #[derive(Drop)]
-pub(crate) struct Around<'p, 'a> {
-    pub(crate) places: &'p [Place<'a>],
+pub struct Around<'p, 'a> {
+    pub places: &'p [Place<'a>],
     named: &'p Keyed,
     told: &'p Keyed,
     ghost are_named: { AreKeyed Own (offers_in (places_of places.now)) named.now.lists },
@@ -21,7 +21,8 @@ pub(crate) struct Around<'p, 'a> {
 }
 
 impl<'p, 'a> Around<'p, 'a> {
-    pub(crate) fn new(places: &'p [Place<'a>], named: &'p Keyed, told: &'p Keyed) -> Around<'p, 'a>
+    /// These lines, with the lists of them by the names and by the texts.
+    pub fn new(places: &'p [Place<'a>], named: &'p Keyed, told: &'p Keyed) -> Around<'p, 'a>
         requires named { AreKeyed Own (offers_in (places_of places.now)) named.now.lists }
         requires told { AreKeyed Whole (offers_in (places_of places.now)) told.now.lists }
         ensures { result.places.now ≡ places.now }
@@ -34,7 +35,7 @@ impl<'p, 'a> Around<'p, 'a> {
     }
 
     /// The lines that may have a package of this name.
-    pub(crate) fn lines_named(&self, name: &str) -> &[usize]
+    pub fn lines_named(&self, name: &str) -> &[usize]
         ensures { result.now ≡ lines_at self.now.named.now.lists name.now }
     {
         self.named.get(name)

@@ -66,7 +66,7 @@ fn hits_any(atoms: &[&Atom], owner: &Pkg, around: &Around<'_, '_>) -> bool
 }
 
 /// Where this holds, nothing conflicts with what stands on the line. It may fail where nothing does.
-pub(crate) fn is_calm(around: &Around<'_, '_>, line: usize) -> bool
+pub fn is_calm(around: &Around<'_, '_>, line: usize) -> bool
     requires { line < length around.now.places.now }
     ensures { IsTrue result → (m : ℕ) → m < length around.now.places.now →
         is_open_of (places_of around.now.places.now) (conflict line m) ≡ false }

@@ -38,7 +38,7 @@ impl Choice {
     }
 
     /// These decisions, of which the newest comes last.
-    pub(crate) fn of(mut decisions: Vec<Decision>) -> Choice
+    pub fn of(mut decisions: Vec<Decision>) -> Choice
         ensures { result ≡ decisions_of (reverse decisions.items) }
     {
         decisions.reverse();
@@ -61,7 +61,7 @@ impl Choice {
     }
 
     /// The option to which a step leads from here.
-    pub(crate) fn after(&self, alloc: Global, step: Step) -> Result<Choice, AllocError>
+    pub fn after(&self, alloc: Global, step: Step) -> Result<Choice, AllocError>
         ensures { IfOk result (λ more. more ≡ after self.now step) }
     {
         let (line, value) = (step.decision.line, step.decision.value);

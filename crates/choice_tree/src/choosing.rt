@@ -199,7 +199,7 @@ fn push_ousting(
 }
 
 /// What may stand on the second line beside what stands on the first.
-pub(crate) fn beside(
+pub fn beside(
     alloc: Global,
     update: bool,
     places: &[Place<'_>],
@@ -227,7 +227,7 @@ pub(crate) fn beside(
 }
 
 /// The decisions that may be added for what is open, in their order.
-pub(crate) fn decisions(
+pub fn decisions(
     alloc: Global,
     update: bool,
     around: &Around<'_, '_>,

@@ -17,13 +17,13 @@ use std::collections::BTreeMap;
 
 /// Lists of lines under texts, which are found in the logarithm of the number of texts.
 #[derive(Drop)]
-pub(crate) struct Keyed {
-    pub(crate) lists: BTreeMap<String, Vec<usize>>,
+pub struct Keyed {
+    pub lists: BTreeMap<String, Vec<usize>>,
 }
 
 impl Keyed {
     /// The lines of a universe under what their packages may have of such keys.
-    pub(crate) fn new(alloc: Global, universe: &Universe, key: Key) -> Result<Keyed, AllocError>
+    pub fn new(alloc: Global, universe: &Universe, key: Key) -> Result<Keyed, AllocError>
         ensures { IfOk result (λ keyed. AreKeyed key (universe_of universe.now).offers keyed.lists) }
     {
         let lists = lists_of(alloc, &universe.offers, key)?;
@@ -31,7 +31,7 @@ impl Keyed {
     }
 
     /// The lines of a text, in their order.
-    pub(crate) fn get(&self, text: &str) -> &[usize]
+    pub fn get(&self, text: &str) -> &[usize]
         ensures { result.now ≡ lines_at self.now.lists text.now }
     {
         listed(&self.lists, text)

@@ -27,7 +27,7 @@ pub(crate) fn is_same(one: &str, other: &str) -> bool
 }
 
 /// Whether the package can't stand beside another, of which this is the text.
-pub(crate) fn conflict(one: &Standing<'_>, other: &Pkg, text: &str) -> bool
+pub fn conflict(one: &Standing<'_>, other: &Pkg, text: &str) -> bool
     requires { text.now ≡ id_text other.now.facts.id }
     ensures { result ≡ conflicts one.now.is_new one.now.owner.now other.now }
 {

@@ -13,10 +13,10 @@ use std::alloc::{AllocError, Global};
 
 /// A line under a choice: its offer, what is decided, and what stands there.
 #[derive(Drop)]
-pub(crate) struct Place<'a> {
-    pub(crate) offer: &'a Offer,
-    pub(crate) decided: Option<Value>,
-    pub(crate) standing: Option<Standing<'a>>,
+pub struct Place<'a> {
+    pub offer: &'a Offer,
+    pub decided: Option<Value>,
+    pub standing: Option<Standing<'a>>,
     ghost stands: { option_map (λ s. s.owner.now) standing ≡
         package_of_line offer.now decided } by { Prim.hlevel (codes, trees_code) },
     ghost newness: { option_map (λ s. s.is_new) standing ≡
@@ -34,7 +34,8 @@ fn is_new(value: Value) -> bool
 }
 
 impl<'a> Place<'a> {
-    pub(crate) fn new(
+    /// A line of which this is decided, with what stands there then.
+    pub fn new(
         alloc: Global,
         offer: &'a Offer,
         decided: Option<Value>,

@@ -1,41 +1,18 @@
-ghost use Rattle.std.specs.Prelude.{◌≡◌, IfOk, get_or};
+ghost use Rattle.std.specs.Prelude.{◌≡◌, get_or};
 ghost use Rattle.std.specs.List.{list_any};
 ghost use Rattle.dep_atom.specs.Match.{value_matches};
 ghost use Rattle.dep_atom.specs.Values.{atom_value};
 ghost use Rattle.choice_tree.specs.Open.{decides, opposes};
-ghost use Rattle.choice_tree.specs.Places.{is_one, no_place, package_in, places};
+ghost use Rattle.choice_tree.specs.Places.{is_one, no_place, package_in};
 ghost use Rattle.choice_tree.specs.Seen.{place_of, places_of};
-ghost use Rattle.choice_tree.specs.Views.{universe_of};
 ghost use Rattle.dep_atom.specs.Ids.{id_text};
 ghost use Rattle.std.specs.Prelude.{[]};
 
-use crate::choice::Choice;
-use crate::marks::marks;
 use crate::opposing::conflict;
 use crate::place::Place;
-use crate::universe::Universe;
 use dep_atom::Atom;
 use pkg_state::Pkg;
 use pms_names::Flags;
-use std::alloc::{AllocError, Global};
-
-/// All lines under a choice.
-pub(crate) fn all_places<'a>(
-    alloc: Global,
-    universe: &'a Universe,
-    choice: &Choice,
-) -> Result<Vec<Place<'a>>, AllocError>
-    ensures { IfOk result (λ v. places_of v.items ≡
-        places (universe_of universe.now) choice.now) }
-{
-    let marks = marks(alloc, choice.decisions(), universe.offers.len())?;
-    let mut places = Vec::with_capacity(alloc, universe.offers.len())?;
-    for (line, offer) in universe.offers.iter().enumerate() {
-        let place = Place::new(alloc, offer, marks[line])?;
-        places.push(place)?;
-    }
-    Ok(places)
-}
 
 fn decides(place: &Place<'_>, atom: &Atom, nobody: &Flags) -> bool
     requires { nobody.now ≡ [] }
@@ -59,12 +36,7 @@ fn decides_at(places: &[Place<'_>], line: usize, atom: &Atom, nobody: &Flags) ->
 }
 
 /// Whether one of the lines is decided, and has a package that the atom matches.
-pub(crate) fn any_decides(
-    places: &[Place<'_>],
-    lines: &[usize],
-    atom: &Atom,
-    nobody: &Flags,
-) -> bool
+pub fn any_decides(places: &[Place<'_>], lines: &[usize], atom: &Atom, nobody: &Flags) -> bool
     requires { nobody.now ≡ [] }
     ensures { result ≡ list_any
         (λ l. decides (atom_value atom.now) (get_or (places_of places.now) l no_place)) lines.now }
@@ -108,7 +80,7 @@ pub(crate) fn any_matches(places: &[Place<'_>], lines: &[usize], atom: &Atom, as
 }
 
 /// Whether what stands there can't stand beside the package, of which this is the text.
-pub(crate) fn opposes(place: &Place<'_>, other: &Pkg, text: &str) -> bool
+pub fn opposes(place: &Place<'_>, other: &Pkg, text: &str) -> bool
     requires { text.now ≡ id_text other.now.facts.id }
     ensures { result ≡ opposes other.now (place_of place.now) }
 {
@@ -119,7 +91,7 @@ pub(crate) fn opposes(place: &Place<'_>, other: &Pkg, text: &str) -> bool
 }
 
 /// The same of any line.
-pub(crate) fn any_opposes(places: &[Place<'_>], other: &Pkg, text: &str) -> bool
+pub fn any_opposes(places: &[Place<'_>], other: &Pkg, text: &str) -> bool
     requires { text.now ≡ id_text other.now.facts.id }
     ensures { result ≡ list_any (opposes other.now) (places_of places.now) }
 {

@@ -10,22 +10,19 @@ use std::alloc::{AllocError, Global};
 
 /// A package that stands on a line, with its text and the atoms that it blocks.
 #[derive(Drop)]
-pub(crate) struct Standing<'a> {
-    pub(crate) owner: &'a Pkg,
+pub struct Standing<'a> {
+    pub owner: &'a Pkg,
     /// It isn't there yet.
-    pub(crate) is_new: bool,
-    pub(crate) text: String,
-    pub(crate) blocks: Vec<&'a Atom>,
+    pub is_new: bool,
+    pub text: String,
+    pub blocks: Vec<&'a Atom>,
     ghost own_text: { string_bytes text ≡ id_text owner.now.facts.id },
     ghost own_blocks: { map (λ a. atom_value a.now) blocks.items ≡ blocks_of is_new owner.now },
 }
 
 impl<'a> Standing<'a> {
-    pub(crate) fn new(
-        alloc: Global,
-        owner: &'a Pkg,
-        is_new: bool,
-    ) -> Result<Standing<'a>, AllocError>
+    /// The package as it stands, with what it blocks.
+    pub fn new(alloc: Global, owner: &'a Pkg, is_new: bool) -> Result<Standing<'a>, AllocError>
         ensures owner { IfOk result (λ s. s.owner.now ≡ owner.now) }
         ensures new { IfOk result (λ s. s.is_new ≡ is_new) }
     {

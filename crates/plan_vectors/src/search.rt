@@ -7,7 +7,8 @@
 use crate::answers::{class_name, push_number};
 use crate::universes::universe;
 use asked_lines::cut;
-use choice_tree::{Choice, Decision, Obligation, Universe, Value, first_open, options};
+use choice_tree::{Choice, Decision, Obligation, Universe, Value};
+use choice_walk::{first_open, options};
 use resolver::{ResolveFault, resolve};
 use std::alloc::{AllocError, Global};
 

@@ -11,7 +11,8 @@ use crate::fault::ResolveFault;
 use crate::form::universe_is_plain;
 use crate::tree::Choices;
 use choice_law::{good_leaves_are_solutions, solutions_have_leaves};
-use choice_tree::{Choice, Universe, Walk, first_open_is_a_pick};
+use choice_tree::{Choice, Universe, first_open_is_a_pick};
+use choice_walk::Walk;
 use std::alloc::{AllocError, Global};
 use tree_search::{Outcome, first_good, jumps_lose_nothing};
 

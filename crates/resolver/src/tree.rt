@@ -1,4 +1,5 @@
-use choice_tree::{Choice, Step, Walk};
+use choice_tree::{Choice, Step};
+use choice_walk::Walk;
 use std::alloc::{AllocError, Global};
 use tree_search::{Deciding, Tree};
 
@@ -9,9 +10,10 @@ pub(crate) struct Choices<'a> {
 }
 
 impl<'a> Tree<Choice, Step> for Choices<'a> {
-    ghost use Rattle.choice_tree.specs.Steps.{above, after, here};
+    ghost use Rattle.choice_tree.specs.Steps.{after};
     ghost use Rattle.choice_tree.specs.Views.{universe_of};
     ghost use Rattle.choice_tree.proofs.Smaller.{smaller};
+    ghost use Rattle.choice_walk.specs.Way.{above, here};
     ghost use Rattle.resolver.specs.Tree.{tree_shape};
 
     ghost shape = { λ t. tree_shape t.walk.universe.now.update (universe_of t.walk.universe.now) };

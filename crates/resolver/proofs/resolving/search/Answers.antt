@@ -1,8 +1,8 @@
 use Rattle.std.proofs.Common.{[], ap, subst}
 use Rattle.choice_law.specs.Tree.{Choice}
-use Rattle.choice_tree.specs.Steps.{here}
 use Rattle.choice_tree.specs.Views.{universe_of}
 use Rattle.choice_tree.specs.declared.universe.Universe.{Universe}
+use Rattle.choice_walk.specs.Way.{here}
 use Rattle.tree_search.specs.Visit.{IsOutcome, visit}
 use Rattle.resolver.specs.Tree.{tree_shape}
 use Rattle.resolver.proofs.resolving.search.Goals as goal

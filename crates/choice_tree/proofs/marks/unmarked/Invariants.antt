@@ -1,6 +1,0 @@
-use Rattle.std.proofs.Common.{[]}
-use Rattle.choice_tree.specs.Marks.{AreMarks}
-use Rattle.choice_tree.proofs.marks.unmarked.Given as goal
-
-abbrev pub invariant-loop : goal.invariant-loop
-invariant-loop l = AreMarks l.counter [] l.marks.items

@@ -1,6 +1,0 @@
-use Rattle.std.proofs.Common.{take}
-use Rattle.choice_tree.specs.Settled.{AreIn, AreKept}
-use Rattle.choice_tree.proofs.settling.add_all.Given as goal
-
-abbrev pub invariant-loop-line : goal.invariant-loop-line
-invariant-loop-line l = AreKept l.fn.lines l.lines × AreIn (take l.line-index l.more) l.lines

@@ -1,6 +1,0 @@
-use Rattle.choice_tree.specs.Places.{numbers}
-use Rattle.choice_tree.specs.Settled.{AreIn}
-use Rattle.choice_tree.proofs.settling.all_lines.Given as goal
-
-abbrev pub invariant-loop-line : goal.invariant-loop-line
-invariant-loop-line l = AreIn (numbers l.line 0) l.lines

@@ -1,0 +1,7 @@
+pub mod Marked
+pub mod Found
+pub mod SameLeaves
+pub mod Unseen
+pub mod Shut
+pub mod Unsettled
+pub mod Way

@@ -1,0 +1,3 @@
+pub mod Marks
+pub mod Settled
+pub mod Way
