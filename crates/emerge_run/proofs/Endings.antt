@@ -69,6 +69,10 @@ early_words words = at_words words IsEarly (λ f h. tt) (λ h. tt) tt
 asks_words : (words : List (List ℕ)) (m : Map) (s : Status) → EndsAtWords words s → AsksEarly words m s
 asks_words words m = at_words words (AsksEarly words m) (λ f h. h) (λ h. h) tt
 
+-- the words alone make it, or want of memory
+pub words_or_memory : (words : List (List ℕ)) (s : Status) → EndsAtWords words s → IsOfWords s ⊎ (s ≡ status.Memory)
+words_or_memory words = at_words words (λ s. IsOfWords s ⊎ (s ≡ status.Memory)) (λ f h. inl tt) (λ h. inl tt) (inr refl)
+
 words_not_of_tree : (words : List (List ℕ)) (s : Status) → EndsAtWords words s → IsOfTree s → ⊥
 words_not_of_tree words = at_words words (λ s. IsOfTree s → ⊥) (λ f h of. of) (λ h of. of) (λ of. of)
 
@@ -154,6 +158,14 @@ recovery_keeps old new recovery.Limit same = inl (same tt)
 recovery_keeps old new (recovery.Tree trees.Failed) same = tt
 recovery_keeps old new (recovery.Tree trees.Memory) same = tt
 
+-- it is told as the device's only where that failed
+pub recovery_failed : (f : RecoverFault) → status_of_recovery f ≡ status.DeviceFault → f ≡ recovery.Tree trees.Failed
+recovery_failed (recovery.BadRecord g) is = absurd (cc is)
+recovery_failed (recovery.BadStage g i) is = absurd (cc is)
+recovery_failed recovery.Limit is = absurd (cc is)
+recovery_failed (recovery.Tree trees.Failed) is = refl
+recovery_failed (recovery.Tree trees.Memory) is = absurd (cc is)
+
 pub usage_recovery : (r : RecoverFault) (f : WordFault) → status_of_recovery r ≡ status.Usage f → ⊥
 usage_recovery r f is = recovery_not_of_words r (subst IsOfWords (sym is) tt)
 
@@ -167,19 +179,19 @@ pub at_rest : (opening : Map) (s : Story) → IsRecovered opening s.now.holds ×
 at_rest opening s h = record { untouched = h.1; reads = λ q. refl; empty = h.0.cleared }
 
 pub ends_at_words : (words : List (List ℕ)) (old : Story) (s : Status) → EndsAtWords words s → EndsEarly words old old s
-ends_at_words words old s ends = record { answer = asks_words words old.now.holds s ends; moments = kept_same old old refl; tree = λ of. absurd (words_not_of_tree words s ends of); journal = words_keep words old old s ends }
+ends_at_words words old s ends = record { answer = asks_words words old.now.holds s ends; moments = kept_same old old refl; tree = λ of. absurd (words_not_of_tree words s ends of); unchanged = λ of. refl; journal = words_keep words old old s ends }
 
 pub ends_at_recovery : (words : List (List ℕ)) (old new : Story) (f : RecoverFault) → AskForMerge words → IsFaultOf f old.now.holds → (promises.IsRefusal f → new.now.holds ≡ old.now.holds) → Since (IsImageOrAlike old.now) old new → EndsEarly words old new (status_of_recovery f)
 ends_at_recovery words old new f command is same since =
-    record { answer = recovery_asks words old.now.holds f command is; moments = since; tree = λ of. absurd (recovery_not_of_tree f of); journal = recovery_keeps old new f same }
+    record { answer = recovery_asks words old.now.holds f command is; moments = since; tree = λ of. absurd (recovery_not_of_tree f of); unchanged = λ of. absurd (recovery_not_of_words f of); journal = recovery_keeps old new f same }
 
 pub recovered_same : (old mid new : Story) → new ≡ mid → HasRecovered old mid → HasRecovered old new
 recovered_same old mid new same has = subst (HasRecovered old) (sym same) has
 
-pub early_kept : (words : List (List ℕ)) (old mid new : Story) (s : Status) → new ≡ mid → HasRecovered old mid → AsksEarly words old.now.holds s → (HasRecovered old new → KeepsJournal old new s) → EndsEarly words old new s
-early_kept words old mid new s same has asks keeps =
+pub early_kept : (words : List (List ℕ)) (old mid new : Story) (s : Status) → new ≡ mid → HasRecovered old mid → AsksEarly words old.now.holds s → (IsOfWords s → ⊥) → (HasRecovered old new → KeepsJournal old new s) → EndsEarly words old new s
+early_kept words old mid new s same has asks other keeps =
     let here = recovered_same old mid new same has in
-    record { answer = asks; moments = here.moments; tree = λ of. here; journal = keeps here }
+    record { answer = asks; moments = here.moments; tree = λ of. here; unchanged = λ of. absurd (other of); journal = keeps here }
 
 pub early_no_plan : (s : Status) → IsEarly s → HasPlan s → ⊥
 early_no_plan (status.Ok groups) early of = early
@@ -255,8 +267,8 @@ module _ (words : List (List ℕ)) (Image : Images) (old new : Story) (s : Statu
     },
   )
 
-  outcome_early : IsEarly s → (IsOfWords s → new ≡ old) → EndsEarly words old new s → Comes words Image old new [] s
-  outcome_early of unchanged ends = outcome_kept (early_asks words old.now.holds Image s of ends.answer) ends.moments ends.tree unchanged ends.journal
+  outcome_early : IsEarly s → EndsEarly words old new s → Comes words Image old new [] s
+  outcome_early of ends = outcome_kept (early_asks words old.now.holds Image s of ends.answer) ends.moments ends.tree ends.unchanged ends.journal
 
   outcome_over : HasRecovered old new → (IsOfWords s → ⊥) → KeepsJournal old new s → Asks words old.now.holds Image [] s → Comes words Image old new [] s
   outcome_over has other journal asks = outcome_kept asks has.moments (λ of. has) (λ of. absurd (other of)) journal
@@ -299,8 +311,8 @@ module _ (words : List (List ℕ)) (Image : Images) (old mid : Story) (history :
       outcome_none words Image old mid history (status.Ok 0) none (outcome_over words Image old mid (status.Ok 0) has (λ of. of) tt
       (rest_asks words old.now.holds mid.now.holds Image ps plan has.recovered choice empty))
 
-  pub outcome_unfound : (s : Status) → EndsEarly words old mid s → IsEarly s → (IsOfWords s → mid ≡ old) → Comes words Image old mid history s
-  outcome_unfound s ends early unchanged = outcome_none words Image old mid history s none (outcome_early words Image old mid s early unchanged ends)
+  pub outcome_unfound : (s : Status) → EndsEarly words old mid s → IsEarly s → Comes words Image old mid history s
+  outcome_unfound s ends early = outcome_none words Image old mid history s none (outcome_early words Image old mid s early ends)
 
 -- ---- a run that merges a plan
 

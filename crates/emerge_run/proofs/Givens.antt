@@ -1,5 +1,5 @@
 -- What a run gives back of the packages that were installed, and of its plan.
-use Rattle.std.proofs.Common.{◌≡◌, ◌⊎◌, ◌∙◌, ℕ, List, [], Option, None, Some, inl, inr, subst, sym}
+use Rattle.std.proofs.Common.{◌≡◌, ℕ, List, [], Option, None, Some, inl, inr, subst, sym}
 use Rattle.std.specs.Prelude.{IfSome, MatchOption}
 use Rattle.file_tree.specs.Disk.{Map, Story}
 use Rattle.file_tree.specs.declared.limits.Quantity.{Quantity}
@@ -27,7 +27,6 @@ use Rattle.emerge_run.specs.Words.{EndsAtWords}
 use Rattle.emerge_run.specs.declared.choosing.Work.{Work}
 use Rattle.emerge_run.specs.declared.choosing.Work.TheVariants as work
 use Rattle.run_status.specs.Faults.{status_of_recovery}
-use Rattle.run_status.specs.declared.status.Part.TheVariants as part
 use Rattle.run_status.specs.declared.status.Status.{Status}
 use Rattle.run_status.specs.declared.status.Status.TheVariants as status
 use Rattle.emerge_run.proofs.Endings.{at_words}

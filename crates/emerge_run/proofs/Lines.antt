@@ -1,5 +1,5 @@
 -- What a run writes, from its groups' lines to its last line.
-use Rattle.std.proofs.Common.{◌≡◌, ◌⊎◌, ℕ, Bool, List, [], ◌∷◌, ◌++◌, inl, inr, refl, ap, sym, ◌∙◌, subst, append_assoc, append-nil, length, take}
+use Rattle.std.proofs.Common.{◌≡◌, ℕ, Bool, List, [], ◌∷◌, ◌++◌, inl, inr, refl, ap, sym, ◌∙◌, subst, append_assoc, append-nil, length, take}
 use Rattle.file_tree.specs.Disk.{Map}
 use Rattle.group_run.specs.Lines.{AreLines, Wrote}
 use Rattle.plan_law.specs.Plans.{Group}

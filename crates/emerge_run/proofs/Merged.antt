@@ -1,5 +1,5 @@
 -- How the merge of a plan tells what a run leaves.
-use Rattle.std.proofs.Common.{◌≡◌, ◌≢◌, ◌∙◌, ◌<◌, ◌++◌, ◌⊎◌, ℕ, zero, suc, Bool, true, false, List, [], ◌∷◌, Option, None, Some, Result, Ok, Err, inl, inr, arith, length, refl, ap, subst, sym, slice_get}
+use Rattle.std.proofs.Common.{◌≡◌, ◌≢◌, ◌∙◌, ◌<◌, ℕ, zero, suc, Bool, true, false, List, [], ◌∷◌, Option, None, Some, Result, Ok, Err, inl, inr, arith, length, refl, ap, subst, sym, slice_get}
 use Rattle.std.specs.Prelude.{Contains, IfErr, IsErrOf, OnOk, ⊤}
 use Rattle.std.proofs.lemmas.List.{length-append}
 use Rattle.build_pool.specs.declared.orders.Order.{Order}
@@ -33,7 +33,6 @@ use Rattle.plan_run.specs.declared.stop.PlanStop.{PlanStop}
 use Rattle.plan_run.specs.declared.stop.PlanStop.TheVariants as plans
 use Rattle.plan_sound.specs.Ends.{Images}
 use Rattle.emerge_run.specs.Answers.{AsksMerge}
-use Rattle.emerge_run.specs.Builds.{IsPastLimit}
 use Rattle.emerge_run.specs.Outcomes.{IsOfMerge, IsTold, MergedTo}
 use Rattle.emerge_run.specs.Package.{AreMade, Making, StopsAt}
 use Rattle.emerge_run.specs.Collisions.{ids_with, owned_by, status_of_collision}

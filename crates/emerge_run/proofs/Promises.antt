@@ -1,12 +1,15 @@
 -- How the promise of each layer comes of that of the layer below.
-use Rattle.std.proofs.Common.{◌≡◌, ◌⊎◌, ◌∙◌, ◌≤◌, ◌+◌, ℕ, true, false, List, [], Option, None, Some, IsTrue, MatchOption, ap, arith, inl, inr, length, map, refl, subst, sym}
-use Rattle.std.specs.Prelude.{IfSome, Vec}
+use Rattle.std.proofs.Common.{◌≡◌, ◌⊎◌, ◌∙◌, ◌≤◌, ◌+◌, ℕ, true, false, List, [], Option, None, Some, Result, Ok, Err, IsTrue, MatchOption, ap, arith, inl, inr, length, map, refl, subst, sym}
+use Rattle.std.specs.Prelude.{IfSome, String, Vec, string_bytes}
 use Rattle.std.specs.Global.{Global}
 use Rattle.build_pool.specs.Pool.{Kept, PoolRose}
 use Rattle.build_pool.specs.declared.builders.Builder.{Ghosts as Builder}
 use Rattle.dep_atom.specs.declared.package.PackageId.{PackageId}
 use Rattle.emerge_words.specs.declared.request.WordFault.{WordFault}
 use Rattle.file_tree.specs.Disk.{CountsFault, Map, Rose, Story}
+use Rattle.file_tree.specs.Moments.{Since}
+use Rattle.file_tree.specs.declared.fault.TreeFault.TheVariants as causes
+use Rattle.file_tree.specs.declared.limits.Quantity.TheVariants.{Paths}
 use Rattle.file_tree.specs.declared.traits.Sink.{Ghosts as Sink}
 use Rattle.file_tree.specs.declared.traits.Tree.{Ghosts as Tree}
 use Rattle.database_law.specs.Packages.{Installed}
@@ -15,6 +18,10 @@ use Rattle.group_run.specs.Applied.{number}
 use Rattle.group_run.specs.Lines.{Wrote}
 use Rattle.group_run.specs.Went.{HaveRun}
 use Rattle.image_build.specs.Images.{IsBuilt, IsPastLimit}
+use Rattle.opening.specs.Faults as openings
+use Rattle.plan_find.specs.Choices.{IsFound}
+use Rattle.plan_find.specs.declared.asked.Asked.{Asked}
+use Rattle.plan_find.specs.declared.found.Found.{Found}
 use Rattle.plan_law.specs.Plans.{Group}
 use Rattle.plan_make.specs.Plans.{orders_at}
 use Rattle.plan_run.specs.Merges.{MergesPlan}
@@ -23,25 +30,36 @@ use Rattle.plan_run.specs.declared.merge.Merged.{Merged}
 use Rattle.plan_run.specs.declared.merge.Task.{Task}
 use Rattle.plan_run.proofs.Whole.{rose_earlier, rose_later}
 use Rattle.plan_sound.specs.Ends.{HasGroups, Images}
-use Rattle.emerge_run.specs.Answers.{Asks}
+use Rattle.recovery.specs.Promise as promises
+use Rattle.recovery.specs.Promise.{IsFaultOf}
+use Rattle.recovery.specs.declared.fault.RecoverFault.{RecoverFault}
+use Rattle.recovery.specs.declared.fault.RecoverFault.TheVariants as recovery
+use Rattle.run_law.specs.Ends.{IsImageOrAlike}
+use Rattle.run_law.specs.Openings.{AreOwners}
+use Rattle.emerge_run.specs.Answers.{Asks, IsRefused}
+use Rattle.emerge_run.specs.Choosing.{ChoosesWork, FindsWork}
 use Rattle.emerge_run.specs.Collisions.{ids_with}
 use Rattle.emerge_run.specs.Commands.{RunsCommand}
 use Rattle.emerge_run.specs.Merges.{MergesTask}
-use Rattle.emerge_run.specs.Openings.{AreInstalledAfter, GivesBack, HasPlan, HasTooMuchAfter, IsUnread}
+use Rattle.emerge_run.specs.Openings.{AreInstalled, AreInstalledAfter, GivesBack, HasPlan, HasRead, HasTooMuchAfter, IsUnread}
 use Rattle.emerge_run.specs.Outcomes.{EndsEarly, HasRecovered, IsChoice, IsEarly, IsNamed, IsOfMerge, IsOfTree, IsPlanOf, IsRefusal, IsTold, IsToDo, KeepsJournal}
-use Rattle.emerge_run.specs.Output.{IsSaid}
+use Rattle.emerge_run.specs.Output.{IsCut, IsSaid}
 use Rattle.emerge_run.specs.Package.{IsTask}
 use Rattle.emerge_run.specs.Refusals.{IsStatusOf}
-use Rattle.emerge_run.specs.Words.{AskForMerge, IsOfWords, IsUsage}
+use Rattle.emerge_run.specs.Tasks.{IsPrepared}
+use Rattle.emerge_run.specs.Words.{AskForMerge, EndsAtWords, IsOfWords, IsRequest, IsUsage}
+use Rattle.emerge_run.specs.declared.choosing.Seen.{Seen}
 use Rattle.emerge_run.specs.declared.choosing.Work.{Work}
 use Rattle.emerge_run.specs.declared.choosing.Work.TheVariants as work
 use Rattle.emerge_run.specs.declared.run.Ended.{Ended}
+use Rattle.run_status.specs.Faults.{status_of_recovery}
 use Rattle.run_status.specs.Last.{IsEnd}
 use Rattle.run_status.specs.declared.status.Status.{Status}
 use Rattle.run_status.specs.declared.status.Status.TheVariants as status
-use Rattle.emerge_run.proofs.Endings.{Comes, early_no_plan, merge_not_refused, merge_not_unread, outcome_merged, outcome_unfound}
-use Rattle.emerge_run.proofs.Givens.{beside_work, gives_all, is_there, plan_beside, plan_in}
-use Rattle.emerge_run.proofs.Lines.{wrote_all, wrote_lines, wrote_merging, wrote_nothing}
+use Rattle.emerge_run.proofs.Endings.{Comes, early_no_plan, early_recovery, early_words, ends_at_recovery, ends_at_words, merge_not_refused, merge_not_unread, outcome_merged, outcome_rest, outcome_shown, outcome_unfound, recovered_same, recovery_failed, usage_recovery, words_or_memory}
+use Rattle.emerge_run.proofs.Found.{asked_prepared, asks_of, ended_after, named_after, task_after, task_prepared, todo_after}
+use Rattle.emerge_run.proofs.Givens.{beside_work, gives_after, gives_all, gives_none, is_there, plan_beside, plan_in, recovery_no_paths, recovery_not_read, words_no_paths, words_not_read}
+use Rattle.emerge_run.proofs.Lines.{wrote_all, wrote_lines, wrote_merging, wrote_nothing, wrote_resting, wrote_showing}
 use Rattle.emerge_run.proofs.Merged.{all_counted, asked_so, builds_end, device_ended, end_of_merge, failed_ended, merged_to, ok_ended, output_ended, told_ended}
 
 -- ---- counts
@@ -101,6 +119,134 @@ module _ {T S B : Type 0} (trees : Tree T) (sinks : Sink S) (builders : Builder 
         };
       }
 
+-- ---- what is found for what is asked
+
+-- what a run has seen
+abbrev pub as_seen : Vec Installed Global → Result Work Status → Seen
+as_seen opening r = record { opening = opening; answer = r }
+
+-- .. whose answer is this
+pub seen_is : (seen : Seen) (r : Result Work Status) → seen.answer ≡ r → as_seen seen.opening r ≡ seen
+seen_is seen r is = ap (as_seen seen.opening) (sym is)
+
+module _ {T : Type 0} (trees : Tree T) (asked : Asked) (old new : T) (same : IsTrue trees.tells → trees.story new ≡ trees.story old) where
+  abbrev held : Map
+  held = (trees.story old).now.holds
+
+  -- what is found is to be done
+  pub finds_this : (found : Found) (w : Work) → (IsTrue trees.tells → IsFound held asked found) → (IsTrue trees.tells → AreOwners held found.packages.items found.book) → found.book.claims ≡ []
+      → IsPrepared found.chosen found.book asked.pretend w → trees.faults old ≤ trees.faults new → FindsWork trees asked old new (as_seen found.packages (Ok w))
+  finds_this found w is owners unclaimed prepared later = record {
+    answer = record {
+      found = λ t. (found, is t, refl, prepared);
+      pretend = asked_prepared found.chosen found.book asked w prepared;
+      task = task_prepared trees.tells held found.packages.items found.chosen found.book asked.pretend w owners unclaimed prepared;
+      ended = λ t. tt;
+      early = tt;
+      no_usage = λ f e. cc e;
+      device = record { later = later; rose = λ e. absurd (cc e) };
+    };
+    tree = same;
+    back = record { opening = λ t. tt; unread = tt };
+  }
+
+  -- nothing is
+  pub finds_none : (opening : Vec Installed Global) (s : Status) → (IsTrue trees.tells → IsRefused held asked s) → IsEarly s → ((f : WordFault) → s ≡ status.Usage f → ⊥) → CountsFault (s ≡ status.DeviceFault) (trees.faults old) (trees.faults new)
+      → (IsTrue trees.tells → GivesBack (AreInstalled held) (openings.HasTooMuch held) s opening.items) → (IsUnread s → opening.items ≡ []) → FindsWork trees asked old new (as_seen opening (Err s))
+  finds_none opening s refused early no_usage counts gives unread = record {
+    answer = record {
+      found = λ t. tt;
+      pretend = tt;
+      task = tt;
+      ended = refused;
+      early = early;
+      no_usage = λ f e. no_usage f (cc e);
+      device = counts_for (s ≡ status.DeviceFault) _ (trees.faults old) (trees.faults new) (λ e. cc e) counts;
+    };
+    tree = same;
+    back = record { opening = gives; unread = unread };
+  }
+
+-- ---- what the words choose
+
+module _ {T : Type 0} (trees : Tree T) (words : List (List ℕ)) (old : T) where
+  abbrev opened : Story
+  opened = trees.story old
+
+  -- what was chosen, where its answer is known
+  pub chooses_as : (new : T) (seen : Seen) (r : Result Work Status) → seen.answer ≡ r → ChoosesWork trees words old new seen → ChoosesWork trees words old new (as_seen seen.opening r)
+  chooses_as new seen r is chooses = subst (ChoosesWork trees words old new) (sym (seen_is seen r is)) chooses
+
+  -- it is what is found for what they ask, behind recovery
+  pub chooses_found : (mid new : T) (opening : Vec Installed Global) (asked : Asked) → IsRequest words asked → (IsTrue trees.tells → HasRecovered opened (trees.story mid)) → trees.faults old ≤ trees.faults mid
+      → (r : Result Work Status) → FindsWork trees asked mid new (as_seen opening r) → ChoosesWork trees words old new (as_seen opening r)
+  chooses_found mid new opening asked is has later (Ok w) finds =
+      let a = finds.answer in
+      let ps = opening.items in
+      record {
+        answer = record {
+          found = λ t. todo_after words asked opened (trees.story mid) (trees.story new) is (has t) (finds.tree t) ps w (a.found t);
+          task = task_after trees.tells (trees.story mid) (trees.story new) ps w finds.tree a.task;
+          work = named_after words asked trees.tells opened.now.holds (trees.story mid).now.holds is (λ t. (has t).recovered) ps w a.pretend a.found;
+          early = tt;
+          usage = λ f e. absurd (cc e);
+          no_merge = λ none. tt;
+          device = counts_before _ (trees.faults old) (trees.faults mid) (trees.faults new) later a.device;
+        };
+        tree = λ t. recovered_same opened (trees.story mid) (trees.story new) (finds.tree t) (has t);
+        back = record { opening = λ t. tt; unread = tt };
+      }
+  chooses_found mid new opening asked is has later (Err s) finds =
+      let a = finds.answer in
+      let b = finds.back in
+      record {
+        answer = record {
+          found = λ t. tt;
+          task = tt;
+          work = tt;
+          early = a.early;
+          usage = λ f e. absurd (a.no_usage f e);
+          no_merge = λ none. absurd (none (asked, is));
+          device = counts_before _ (trees.faults old) (trees.faults mid) (trees.faults new) later a.device;
+        };
+        tree = λ t. ended_after words asked opened (trees.story mid) (trees.story new) is (has t) (finds.tree t) s (a.ended t);
+        back = record { opening = λ t. gives_after opened.now.holds (trees.story mid).now.holds s opening.items (has t).recovered (b.opening t); unread = b.unread };
+      }
+
+  -- the run ends before it reads what is installed
+  module _ (new : T) (opening : Vec Installed Global) (none : opening.items ≡ []) where
+    unread : (s : Status) → (IsTrue trees.tells → EndsEarly words opened (trees.story new) s) → IsEarly s → ((f : WordFault) → s ≡ status.Usage f → IsUsage words f) → (¬ AskForMerge words → IsOfWords s ⊎ (s ≡ status.Memory))
+        → CountsFault (s ≡ status.DeviceFault) (trees.faults old) (trees.faults new) → (HasRead s → ⊥) → (s ≡ status.Limit Paths → ⊥) → ChoosesWork trees words old new (as_seen opening (Err s))
+    unread s ends early usage no_merge counts not_read no_paths = record {
+      answer = record {
+        found = λ t. tt;
+        task = tt;
+        work = tt;
+        early = early;
+        usage = λ f e. usage f (cc e);
+        no_merge = no_merge;
+        device = counts_for (s ≡ status.DeviceFault) _ (trees.faults old) (trees.faults new) (λ e. cc e) counts;
+      };
+      tree = ends;
+      back = record {
+        opening = λ t. gives_none (AreInstalledAfter opened.now.holds) (HasTooMuchAfter opened.now.holds) s opening.items not_read (λ e. absurd (no_paths e)) none;
+        unread = λ of. none;
+      };
+    }
+
+    -- since its tree isn't recovered
+    pub chooses_unrecovered : (f : RecoverFault) → AskForMerge words → (IsTrue trees.tells → IsFaultOf f opened.now.holds) → (IsTrue trees.tells → promises.IsRefusal f → (trees.story new).now.holds ≡ opened.now.holds)
+        → (IsTrue trees.tells → Since (IsImageOrAlike opened.now) opened (trees.story new)) → CountsFault (f ≡ recovery.Tree causes.Failed) (trees.faults old) (trees.faults new) → ChoosesWork trees words old new (as_seen opening (Err (status_of_recovery f)))
+    chooses_unrecovered f asks is same moments counts =
+        unread (status_of_recovery f) (λ t. ends_at_recovery words opened (trees.story new) f asks (is t) (same t) (moments t)) (early_recovery f) (λ u e. absurd (usage_recovery f u e)) (λ none. absurd (none asks))
+        (counts_for (f ≡ recovery.Tree causes.Failed) _ (trees.faults old) (trees.faults new) (recovery_failed f) counts) (recovery_not_read f) (recovery_no_paths f)
+
+  -- .. or at its words
+  pub chooses_nothing : (opening : Vec Installed Global) (none : opening.items ≡ []) (s : Status) → EndsAtWords words s → ChoosesWork trees words old old (as_seen opening (Err s))
+  chooses_nothing opening none s ends =
+      unread old opening none s (λ t. ends_at_words words opened s ends) (early_words words s ends) (λ f e. subst (EndsAtWords words) e ends) (λ other. words_or_memory words s ends)
+      (record { later = omega arith; rose = λ e. absurd (subst (EndsAtWords words) e ends) }) (words_not_read words s ends) (words_no_paths words s ends)
+
 -- ---- a command, from its parts
 
 module _ {T S B : Type 0} (trees : Tree T) (sinks : Sink S) (builders : Builder B) (words : List (List ℕ)) (tree : T) (out : S) (pool : Kept B) where
@@ -114,11 +260,14 @@ module _ {T S B : Type 0} (trees : Tree T) (sinks : Sink S) (builders : Builder 
   Image = IsBuilt builders.tells builders.told pool.resting
 
   -- a command that merges its plan
-  pub runs_merging : (mid : T) (ps : List Installed) (plan : List Group) (task : Task) (run : Ended T S (Kept B)) → (IsTrue trees.tells → HasRecovered old (trees.story mid)) → (IsTrue trees.tells → IsToDo words (trees.story mid).now.holds ps (work.Merge plan task))
-      → IsNamed words trees.tells before plan → trees.faults tree ≤ trees.faults mid
-      → MergesTask trees sinks builders ps plan task mid out pool run → RunsCommand trees sinks builders false words tree out pool run
-  runs_merging mid ps plan task run recovered todo named later merges =
+  pub runs_merging : (mid : T) (opening : Vec Installed Global) (plan : List Group) (task : Task) (run : Ended T S (Kept B)) → ChoosesWork trees words tree mid (as_seen opening (Ok (work.Merge plan task)))
+      → MergesTask trees sinks builders opening.items plan task mid out pool run → RunsCommand trees sinks builders false words tree out pool run
+  runs_merging mid opening plan task run chooses merges =
       let a = merges.answer in
+      let ps = opening.items in
+      let recovered : IsTrue trees.tells → HasRecovered old (trees.story mid) = chooses.tree in
+      let todo : IsTrue trees.tells → IsToDo words (trees.story mid).now.holds ps (work.Merge plan task) = chooses.answer.found in
+      let named : IsNamed words trees.tells before plan = chooses.answer.work in
       let s = run.status in
       let new = trees.story mid in
       let w = work.Merge plan task in
@@ -136,7 +285,7 @@ module _ {T S B : Type 0} (trees : Tree T) (sinks : Sink S) (builders : Builder 
           usage = λ f e. absurd (subst IsOfMerge e a.of);
           no_merge = λ none. absurd (none (named.asked, named.is));
           build = a.build;
-          device = counts_before (s ≡ status.DeviceFault) (trees.faults tree) (trees.faults mid) (trees.faults run.tree) later a.device;
+          device = counts_before (s ≡ status.DeviceFault) (trees.faults tree) (trees.faults mid) (trees.faults run.tree) chooses.answer.device.later a.device;
           output = a.output;
         };
         tree = λ t. (comes t).1;
@@ -197,29 +346,46 @@ module _ {T S B : Type 0} (trees : Tree T) (sinks : Sink S) (builders : Builder 
     }
 
     -- .. since its plan has no group, or is only shown
-    pub runs_resting : (w : Work) → MatchOption plan ⊥ (λ p. p ≡ plan_in w) → AskForMerge words → (s ≡ status.Ok 0) ⊎ (s ≡ status.OutputFault) → (IsTrue trees.tells → HasRecovered old (trees.story mid))
-        → (IsTrue trees.tells → IsToDo words (trees.story mid).now.holds opening.items w) → (IsTrue trees.tells → Comes words Image old (trees.story mid) history.items s)
-        → trees.faults tree ≤ trees.faults mid → CountsFault (s ≡ status.OutputFault) (sinks.faults out) (sinks.faults said)
+    runs_resting : (w : Work) → ChoosesWork trees words tree mid (as_seen opening (Ok w)) → MatchOption plan ⊥ (λ p. p ≡ plan_in w) → (s ≡ status.Ok 0) ⊎ (s ≡ status.OutputFault)
+        → (IsTrue trees.tells → Comes words Image old (trees.story mid) history.items s) → CountsFault (s ≡ status.OutputFault) (sinks.faults out) (sinks.faults said)
         → (IsTrue sinks.tells → Wrote (IsSaid words trees.tells before history.items acknowledged.items s) (sinks.written out) (sinks.written said)) → RunsCommand trees sinks builders false words tree out pool idle
-    runs_resting w is_plan asks ends recovered todo comes later output written =
+    runs_resting w chooses is_plan ends comes output written =
         runs_idle comes (λ n e. elim ends [ inl ok ↦ (let q : 0 ≡ n = cc (ok, e) in sym q) | inr fault ↦ absurd (cc (fault, e)) ]) (λ f e. absurd (elim ends [ inl ok ↦ cc (ok, e) | inr fault ↦ cc (fault, e) ]))
-        (λ other. absurd (other asks)) (λ id e. elim ends [ inl ok ↦ cc (ok, e) | inr fault ↦ cc (fault, e) ])
-        (record { later = later; rose = λ e. absurd (elim ends [ inl ok ↦ cc (ok, e) | inr fault ↦ cc (fault, e) ]) }) output written
-        (λ t. gives_all (AreInstalledAfter before) (HasTooMuchAfter before) s opening.items (beside_work words old (trees.story mid) opening.items opening.items w (recovered t) (todo t) refl))
+        (λ other. absurd (other (asks_of words trees.tells before w chooses.answer.work))) (λ id e. elim ends [ inl ok ↦ cc (ok, e) | inr fault ↦ cc (fault, e) ])
+        (record { later = chooses.answer.device.later; rose = λ e. absurd (elim ends [ inl ok ↦ cc (ok, e) | inr fault ↦ cc (fault, e) ]) }) output written
+        (λ t. gives_all (AreInstalledAfter before) (HasTooMuchAfter before) s opening.items (beside_work words old (trees.story mid) opening.items opening.items w (chooses.tree t) (chooses.answer.found t) refl))
         (λ of. absurd (elim ends [ inl ok ↦ subst IsUnread ok of | inr fault ↦ subst IsUnread fault of ]))
-        (λ t. plan_beside words old (trees.story mid) opening.items w plan (recovered t) (todo t) is_plan) (λ of. is_there (λ p. p ≡ plan_in w) plan is_plan)
+        (λ t. plan_beside words old (trees.story mid) opening.items w plan (chooses.tree t) (chooses.answer.found t) is_plan) (λ of. is_there (λ p. p ≡ plan_in w) plan is_plan)
+
+  -- a command that shows its plan
+  pub runs_showing : (mid : T) (said : S) (opening : Vec Installed Global) (text : String Global) (plan : List Group) (history acknowledged : Vec ℕ Global) (s : Status) (none : history.items ≡ []) (untold : acknowledged.items ≡ [])
+      → ChoosesWork trees words tree mid (as_seen opening (Ok (work.Show text plan))) → (s ≡ status.Ok 0) ⊎ (s ≡ status.OutputFault) → CountsFault (s ≡ status.OutputFault) (sinks.faults out) (sinks.faults said)
+      → (IsTrue sinks.tells → Wrote (IsCut (string_bytes text) s) (sinks.written out) (sinks.written said)) → RunsCommand trees sinks builders false words tree out pool (idle mid said opening (Some plan) history acknowledged s none untold)
+  runs_showing mid said opening text plan history acknowledged s none untold chooses ends output written =
+      runs_resting mid said opening (Some plan) history acknowledged s none untold (work.Show text plan) chooses refl ends
+      (λ t. outcome_shown words Image old (trees.story mid) history.items none opening.items (string_bytes text) plan s (chooses.tree t) (chooses.answer.found t) ends) output
+      (λ t. wrote_showing words trees.tells before (string_bytes text) history.items acknowledged.items s (sinks.written out) (sinks.written said) chooses.answer.work none (written t))
+
+  -- one whose plan has no group
+  pub runs_empty : (mid : T) (opening : Vec Installed Global) (plan : List Group) (history acknowledged : Vec ℕ Global) (none : history.items ≡ []) (untold : acknowledged.items ≡ [])
+      → ChoosesWork trees words tree mid (as_seen opening (Ok (work.Rest plan))) → RunsCommand trees sinks builders false words tree out pool (idle mid out opening (Some plan) history acknowledged (status.Ok 0) none untold)
+  runs_empty mid opening plan history acknowledged none untold chooses =
+      runs_resting mid out opening (Some plan) history acknowledged (status.Ok 0) none untold (work.Rest plan) chooses refl (inl refl)
+      (λ t. (let todo = chooses.answer.found t in outcome_rest words Image old (trees.story mid) history.items none opening.items plan (chooses.tree t) todo.0 todo.1)) (record { later = omega arith; rose = λ e. absurd (cc e) })
+      (λ t. wrote_resting words trees.tells before plan history.items acknowledged.items (status.Ok 0) (sinks.written out) (sinks.written out) chooses.answer.work none untold refl)
 
   -- a command that finds no plan
-  pub runs_unfound : (mid : T) (opening : Vec Installed Global) (history acknowledged : Vec ℕ Global) (s : Status) (none : history.items ≡ []) (untold : acknowledged.items ≡ []) → IsEarly s
-      → (IsTrue trees.tells → EndsEarly words old (trees.story mid) s) → (IsTrue trees.tells → IsOfWords s → trees.story mid ≡ old) → ((f : WordFault) → s ≡ status.Usage f → IsUsage words f)
-      → (¬ AskForMerge words → IsOfWords s ⊎ (s ≡ status.Memory)) → CountsFault (s ≡ status.DeviceFault) (trees.faults tree) (trees.faults mid)
-      → (IsTrue trees.tells → GivesBack (AreInstalledAfter before) (HasTooMuchAfter before) s opening.items) → (IsUnread s → opening.items ≡ []) → RunsCommand trees sinks builders false words tree out pool (idle mid out opening None history acknowledged s none untold)
-  runs_unfound mid opening history acknowledged s none untold early ends unchanged usage no_merge device gives unread =
+  pub runs_unfound : (mid : T) (opening : Vec Installed Global) (history acknowledged : Vec ℕ Global) (s : Status) (none : history.items ≡ []) (untold : acknowledged.items ≡ [])
+      → ChoosesWork trees words tree mid (as_seen opening (Err s)) → RunsCommand trees sinks builders false words tree out pool (idle mid out opening None history acknowledged s none untold)
+  runs_unfound mid opening history acknowledged s none untold chooses =
+      let a = chooses.answer in
+      let early : IsEarly s = a.early in
       let not : (x : Status) → s ≡ x → IsEarly x = λ x e. subst IsEarly e early in
       runs_idle mid out opening None history acknowledged s none untold
-      (λ t. outcome_unfound words Image old (trees.story mid) history.items none s (ends t) early (unchanged t)) (λ n e. absurd (not (status.Ok n) e)) usage no_merge (λ id e. not (status.BuildFailed id) e) device
+      (λ t. outcome_unfound words Image old (trees.story mid) history.items none s (chooses.tree t) early) (λ n e. absurd (not (status.Ok n) e)) (λ f e. a.usage f (ap Err e)) a.no_merge (λ id e. not (status.BuildFailed id) e)
+      (counts_for _ (s ≡ status.DeviceFault) (trees.faults tree) (trees.faults mid) (λ e. ap Err e) a.device)
       (record { later = omega arith; rose = λ e. absurd (not status.OutputFault e) }) (λ t. wrote_nothing words trees.tells before history.items acknowledged.items s (sinks.written out) (sinks.written out) early none refl)
-      gives unread (λ t. tt) (λ of. absurd (early_no_plan s early of))
+      chooses.back.opening chooses.back.unread (λ t. tt) (λ of. absurd (early_no_plan s early of))
 
   -- the last line of a command
   module _ (run : Ended T S (Kept B)) (s : Status) (said : S) (ends : (s ≡ run.status) ⊎ ((s ≡ status.Memory) ⊎ ((s ≡ status.OutputFault) × Rose (sinks.faults run.out) (sinks.faults said)))) where

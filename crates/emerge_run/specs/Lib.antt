@@ -1,5 +1,6 @@
 pub mod Answers
 pub mod Builds
+pub mod Choosing
 pub mod Collisions
 pub mod Commands
 pub mod Headline

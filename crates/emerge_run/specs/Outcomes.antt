@@ -101,12 +101,13 @@ pub record Outcome (words : List (List ℕ)) (Image : Images) (old new : Story) 
 
 -- How a run over this tree ended that found no plan: with the answer that it asks for. Each crash
 -- image of each moment is one of the beginning, or recovers to what the tree recovered to; a run
--- that tells how it went leaves what recovery made of the tree; and one that refuses its journal
--- leaves it as it read.
+-- that tells how it went leaves what recovery made of the tree; one that ends at its words leaves it
+-- as it was, and one that refuses its journal as it read.
 pub record EndsEarly (words : List (List ℕ)) (old new : Story) (s : Status) : Type 0 where
   pub answer : AsksEarly words old.now.holds s
   pub moments : Since (IsImageOrAlike old.now) old new
   pub tree : IsOfTree s → HasRecovered old new
+  pub unchanged : IsOfWords s → new ≡ old
   pub journal : KeepsJournal old new s
 
 -- this text is that of what is chosen

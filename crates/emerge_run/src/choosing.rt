@@ -1,17 +1,9 @@
-ghost use Rattle.std.specs.Prelude.{◌≡◌, ◌⊎◌, [], IfErr, IfOk, IsErrOf, IsTrue, map, string_bytes};
-ghost use Rattle.file_tree.specs.Disk.{CountsFault};
-ghost use Rattle.emerge_words.specs.declared.request.WordFault.{WordFault};
-ghost use Rattle.opening.specs.Faults.{HasTooMuch};
+ghost use Rattle.std.specs.Prelude.{◌≡◌, [], IfOk, IsErrOf, map, string_bytes};
 ghost use Rattle.plan_find.specs.Shapes.{IsInShape};
-ghost use Rattle.emerge_run.specs.Answers.{IsRefused};
-ghost use Rattle.emerge_run.specs.Openings.{AreInstalled, AreInstalledAfter, GivesBack};
-ghost use Rattle.emerge_run.specs.Openings.{HasTooMuchAfter, IsUnread};
-ghost use Rattle.emerge_run.specs.Outcomes.{EndsEarly, HasRecovered, IsEarly};
-ghost use Rattle.emerge_run.specs.Outcomes.{IsToDo, IsWork};
+ghost use Rattle.emerge_run.specs.Choosing.{ChoosesWork, FindsWork};
 ghost use Rattle.emerge_run.specs.Refusals.{packages_beside, packages_with, status_of};
 ghost use Rattle.emerge_run.specs.Refusals.{status_of_opening};
-ghost use Rattle.emerge_run.specs.Tasks.{IsAsked, IsPrepared, IsTaskOf, IsWanted};
-ghost use Rattle.emerge_run.specs.Words.{AskForMerge, IsOfWords, IsUsage};
+ghost use Rattle.emerge_run.specs.Tasks.{IsPrepared};
 
 use crate::prepare::jobs_of;
 use crate::words::read_request;
@@ -49,29 +41,7 @@ pub enum Work {
 
 /// Recovers the tree, and finds what the words choose in it; or answers how the run ends without it.
 pub fn choose<T: Tree>(alloc: Global, words: &[String], tree: &mut T) -> Seen
-    ensures recovered { IsTrue T.tells → IfOk result.answer (λ w.
-        HasRecovered (T.story tree.old) (T.story tree.new)) }
-    ensures found { IsTrue T.tells → IfOk result.answer (IsToDo (map string_bytes words.now)
-        (T.story tree.new).now.holds result.opening.items) }
-    ensures task { IfOk result.answer
-        (IsTaskOf T.tells (T.story tree.new).now.holds result.opening.items) }
-    ensures work { IfOk result.answer
-        (IsWork (map string_bytes words.now) T.tells (T.story tree.old).now.holds) }
-    ensures ended { IsTrue T.tells → IfErr result.answer
-        (EndsEarly (map string_bytes words.now) (T.story tree.old) (T.story tree.new)) }
-    ensures opening { IsTrue T.tells → IfErr result.answer (λ s.
-        GivesBack (AreInstalledAfter (T.story tree.old).now.holds)
-        (HasTooMuchAfter (T.story tree.old).now.holds) s result.opening.items) }
-    ensures unread { IfErr result.answer (λ s. IsUnread s → result.opening.items ≡ []) }
-    ensures early { IfErr result.answer IsEarly }
-    ensures unchanged { IsTrue T.tells → IfErr result.answer (λ s. IsOfWords s →
-        T.story tree.new ≡ T.story tree.old) }
-    ensures usage { (f : WordFault) → IsErrOf result.answer (Status.Usage f) →
-        IsUsage (map string_bytes words.now) f }
-    ensures no_merge { ¬ (AskForMerge (map string_bytes words.now)) →
-        IfErr result.answer (λ s. IsOfWords s ⊎ (s ≡ Status.Memory)) }
-    ensures device { CountsFault (IsErrOf result.answer Status.DeviceFault) (T.faults tree.old)
-        (T.faults tree.new) }
+    ensures { ChoosesWork T.Tree (map string_bytes words.now) tree.old tree.new result }
 {
     match read_request(alloc, words) {
         Ok(asked) => match recover(alloc, tree) {
@@ -95,22 +65,7 @@ fn ended(alloc: Global, status: Status) -> Seen
 
 /// Finds what is asked for in a recovered tree.
 fn find_work<T: Tree>(alloc: Global, asked: Asked, tree: &mut T) -> Seen
-    ensures found { IsTrue T.tells → IfOk result.answer
-        (IsWanted (T.story tree.old).now.holds asked result.opening.items) }
-    ensures pretend { IfOk result.answer (IsAsked asked) }
-    ensures task { IfOk result.answer
-        (IsTaskOf T.tells (T.story tree.old).now.holds result.opening.items) }
-    ensures ended { IsTrue T.tells →
-        IfErr result.answer (IsRefused (T.story tree.old).now.holds asked) }
-    ensures opening { IsTrue T.tells → IfErr result.answer (λ s.
-        GivesBack (AreInstalled (T.story tree.old).now.holds)
-        (HasTooMuch (T.story tree.old).now.holds) s result.opening.items) }
-    ensures unread { IfErr result.answer (λ s. IsUnread s → result.opening.items ≡ []) }
-    ensures early { IfErr result.answer IsEarly }
-    ensures no_usage { (f : WordFault) → ¬ IsErrOf result.answer (Status.Usage f) }
-    ensures same { IsTrue T.tells → T.story tree.new ≡ T.story tree.old }
-    ensures device { CountsFault (IsErrOf result.answer Status.DeviceFault) (T.faults tree.old)
-        (T.faults tree.new) }
+    ensures { FindsWork T.Tree asked tree.old tree.new result }
 {
     let pretend = asked.pretend;
     match find_plan(alloc, tree, asked) {

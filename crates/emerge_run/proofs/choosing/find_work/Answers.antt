@@ -1,17 +1,52 @@
-use Rattle.std.proofs.Common.{refl}
-use Rattle.file_tree.specs.Disk.{Map}
+use Rattle.std.proofs.Common.{◌∙◌, Err, Result, refl, subst, sym}
+use Rattle.std.specs.Prelude.{IsErrAnd, Vec}
+use Rattle.std.specs.Global.{Global}
+use Rattle.database_law.specs.Packages.{Installed}
+use Rattle.opening.specs.Faults.{HasTooMuch}
 use Rattle.file_tree.specs.declared.fault.TreeFault.TheVariants as trees
+use Rattle.plan_find.specs.Ends.{IsDeviceFailure}
+use Rattle.plan_find.specs.declared.ends.NoPlan.{NoPlan}
 use Rattle.plan_find.specs.declared.ends.NoPlan.TheVariants as ends
-use Rattle.emerge_run.proofs.Givens.{gives_refused}
+use Rattle.plan_find.specs.declared.found.Found.{Found}
+use Rattle.emerge_run.specs.Choosing.{FindsWork}
+use Rattle.emerge_run.specs.Openings.{AreInstalled}
+use Rattle.emerge_run.specs.Refusals.{status_of}
+use Rattle.run_status.specs.declared.status.Status.TheVariants as status
+use Rattle.emerge_run.proofs.Found.{plan_early, plan_failed, plan_no_usage, plan_unread}
+use Rattle.emerge_run.proofs.Givens.{gives_all, gives_refused, installed}
+use Rattle.emerge_run.proofs.Promises.{as_seen, counts_for, finds_none, finds_this, seen_is}
 use Rattle.emerge_run.proofs.choosing.find_work.Goals as goal
 
-pub returns-in-Ok-work_of-clause-found : goal.returns-in-Ok-work_of-clause-found
-returns-in-Ok-work_of-clause-found g c t = (c.in-Ok.found, c.in-Ok.ensures.found t, refl, c.in-Ok-work_of.ensures.work)
+pub returns-in-Ok-work_of : goal.returns-in-Ok-work_of
+returns-in-Ok-work_of g c =
+    let e = c.in-Ok.ensures in
+    finds_this g.T.Tree c.args.asked c.args.tree.now c.find_plan.new.tree c.find_plan.ensures.same c.in-Ok.found c.in-Ok-work_of.work e.found e.owners e.unclaimed c.in-Ok-work_of.ensures.work c.find_plan.ensures.faults.later
 
-pub returns-in-Ok-clause-ended : goal.returns-in-Ok-clause-ended
-returns-in-Ok-clause-ended g c t = rw c.over.ensures.answer (ends.Tree trees.Memory, tt, refl)
+pub returns-in-Ok : goal.returns-in-Ok
+returns-in-Ok g c =
+    let T = g.T.Tree in
+    let asked = c.args.asked in
+    let old = c.args.tree.now in
+    let new = c.find_plan.new.tree in
+    let m = (T.story old).now.holds in
+    let found = c.in-Ok.found in
+    let seen = c.over.result in
+    let one = finds_none T asked old new c.find_plan.ensures.same found.packages status.Memory (λ t. (ends.Tree trees.Memory, tt, refl)) tt (λ f e. cc e) (record { later = c.find_plan.ensures.faults.later; rose = λ e. absurd (cc e) })
+    (λ t. gives_all (AreInstalled m) (HasTooMuch m) status.Memory found.packages.items (installed m asked found (c.in-Ok.ensures.found t))) (λ of. absurd of) in
+    subst (FindsWork T asked old new) (seen_is seen _ c.over.ensures.answer) (subst (λ (v : Vec Installed Global). FindsWork T asked old new (as_seen v (Err status.Memory))) (sym c.over.ensures.opening) one)
 
-pub returns-in-Err-clause-opening : goal.returns-in-Err-clause-opening
-returns-in-Err-clause-opening g c t =
-    let m : Map = (g.T.Tree.story c.args.tree.now).now.holds in
-    rw c.unplanned.ensures.answer (gives_refused m c.args.asked c.in-Err.end c.unplanned.result.opening.items (c.in-Err.ensures.refused t) c.unplanned.ensures.opening)
+pub returns : goal.returns
+returns g c =
+    let T = g.T.Tree in
+    let asked = c.args.asked in
+    let old = c.args.tree.now in
+    let new = c.find_plan.new.tree in
+    let m = (T.story old).now.holds in
+    let end = c.in-Err.end in
+    let seen = c.unplanned.result in
+    let packages = c.unplanned.ensures.opening in
+    let refuses = c.in-Err.ensures.refused in
+    subst (FindsWork T asked old new) (seen_is seen _ c.unplanned.ensures.answer)
+    (finds_none T asked old new c.find_plan.ensures.same seen.opening (status_of end) (λ t. (end, refuses t, refl)) (plan_early end) (plan_no_usage end)
+    (counts_for _ _ (T.faults old) (T.faults new) (λ failed. subst (λ (r : Result Found NoPlan). IsErrAnd r IsDeviceFailure) (sym c.in-Err.is) (plan_failed end failed)) c.find_plan.ensures.faults)
+    (λ t. gives_refused m asked end seen.opening.items (refuses t) packages) (λ of. packages ∙ plan_unread end of))

@@ -1,4 +1,4 @@
-use Rattle.std.proofs.Common.{◌≡◌, ◌∙◌, ◌==◌, List, [], ap, map, refl, subst, sym}
+use Rattle.std.proofs.Common.{◌≡◌, ◌∙◌, List, [], ap, map, refl, subst, sym}
 use Rattle.std.specs.Prelude.{All}
 use Rattle.plan_orders.specs.Orders.{HasRisingFlags}
 use Rattle.plan_orders.proofs.InForm.{plan_rises}
