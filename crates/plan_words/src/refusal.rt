@@ -1,5 +1,5 @@
 ghost use Rattle.std.specs.Prelude.{◌≡◌, ◌++◌, ◌∷◌, [], List, MatchOption, OnOk, codes};
-ghost use Rattle.std.specs.Prelude.{decimal, string_bytes};
+ghost use Rattle.std.specs.Prelude.{decimal, map, string_bytes};
 ghost use Rattle.std.specs.List.{flat_map};
 ghost use Rattle.std.specs.Option.{option_map};
 ghost use Rattle.dep_atom.specs.Ids.{id_text};
@@ -7,7 +7,8 @@ ghost use Rattle.dep_atom.specs.Values.{atom_value};
 ghost use Rattle.pkg_state.specs.Fault as state;
 ghost use Rattle.plan_check.specs.Refusals.{told};
 ghost use Rattle.plan_text.specs.Printed.{spaced};
-ghost use Rattle.plan_words.specs.Words.{broken_id, class_word, leaf_word, refusal_words};
+ghost use Rattle.plan_words.specs.Words.{broken_id, class_word, found_word, leaf_word};
+ghost use Rattle.plan_words.specs.Words.{refusal_words};
 
 use crate::words::{
     push_class, push_found, push_id, push_leaf, push_number, push_numbers, push_word,
@@ -102,6 +103,60 @@ fn push_opening(out: &mut String, alloc: Global, broken: &Broken) -> Result<(), 
     }
 }
 
+/// The rule, a group, a package, and a class with a leaf of it.
+fn push_need(
+    out: &mut String,
+    alloc: Global,
+    rule: &str,
+    group: usize,
+    id: &PackageId,
+    class: Class,
+    leaf: &Option<Atom>,
+) -> Result<(), AllocError>
+    ensures { OnOk result (string_bytes out.new ≡ string_bytes out.old ++ flat_map spaced
+        (rule.now ∷ decimal group ∷ id_text id.now ∷ class_word class
+        ∷ leaf_word (option_map atom_value leaf.now) ∷ [])) }
+{
+    push_of_group(out, alloc, rule, group, id)?;
+    push_of_class(out, alloc, class, leaf)
+}
+
+/// A package whose need is missing in between, with the groups that may come meanwhile.
+fn push_unsafe(
+    out: &mut String,
+    alloc: Global,
+    id: &PackageId,
+    class: Class,
+    leaf: &Option<Atom>,
+    meeting: &[usize],
+) -> Result<(), AllocError>
+    ensures { OnOk result (string_bytes out.new ≡ string_bytes out.old ++ flat_map spaced
+        (codes "Unsafe" ∷ id_text id.now ∷ class_word class
+        ∷ leaf_word (option_map atom_value leaf.now) ∷ codes "groups" ∷ map decimal meeting.now)) }
+{
+    push_one(out, alloc, "Unsafe", id)?;
+    push_of_class(out, alloc, class, leaf)?;
+    push_word(out, "groups")?;
+    push_numbers(out, meeting)
+}
+
+/// A package, the leaf whose bind isn't right, and the bind that was found.
+fn push_binding(
+    out: &mut String,
+    alloc: Global,
+    id: &PackageId,
+    leaf: &Option<Atom>,
+    found: &Option<Bind>,
+) -> Result<(), AllocError>
+    ensures { OnOk result (string_bytes out.new ≡ string_bytes out.old ++ flat_map spaced
+        (codes "Binding" ∷ id_text id.now ∷ leaf_word (option_map atom_value leaf.now)
+        ∷ found_word found.now ∷ [])) }
+{
+    push_one(out, alloc, "Binding", id)?;
+    push_leaf(out, alloc, leaf)?;
+    push_found(out, found)
+}
+
 /// Puts the words that tell why a plan is refused behind a text, each behind a space. Want of
 /// memory has no words.
 pub fn push_refusal(
@@ -131,31 +186,19 @@ pub fn push_refusal(
             package,
             leaf,
             found,
-        } => {
-            push_one(out, alloc, "Binding", package)?;
-            push_leaf(out, alloc, leaf)?;
-            push_found(out, found)
-        }
+        } => push_binding(out, alloc, package, leaf, found),
         PlanRefused::Unsatisfied {
             group,
             package,
             class,
             leaf,
-        } => {
-            push_of_group(out, alloc, "Unsatisfied", *group, package)?;
-            push_of_class(out, alloc, *class, leaf)
-        }
+        } => push_need(out, alloc, "Unsatisfied", *group, package, *class, leaf),
         PlanRefused::Unsafe {
             package,
             class,
             leaf,
             meeting,
-        } => {
-            push_one(out, alloc, "Unsafe", package)?;
-            push_of_class(out, alloc, *class, leaf)?;
-            push_word(out, "groups")?;
-            push_numbers(out, meeting)
-        }
+        } => push_unsafe(out, alloc, package, *class, leaf, meeting),
         PlanRefused::Blocked { package, other } => {
             push_two(out, alloc, "WeakBlock", package, other)
         }
@@ -167,10 +210,7 @@ pub fn push_refusal(
             package,
             class,
             leaf,
-        } => {
-            push_of_group(out, alloc, "Build", *group, package)?;
-            push_of_class(out, alloc, *class, leaf)
-        }
+        } => push_need(out, alloc, "Build", *group, package, *class, leaf),
         PlanRefused::Final { package, leaf } => {
             push_one(out, alloc, "Final", package)?;
             push_leaf(out, alloc, leaf)
