@@ -28,22 +28,19 @@ not_begun n d rest h = bytes_eq-apart n (take (length n) d) (λ e. begun e)
         let same : n ≡ take (length n) (d ++ rest) = e ∙ sym (take-append-le (length n) d rest within) in
         true≢false (sym ((bytes_eq-Decides n (take (length n) (d ++ rest))).1 same) ∙ h)
 
-neither : (a b c : Bool) → a ≡ false → b ≡ false → c ≡ false → (a || (b || c)) ≡ false
-neither a b c p q r = rw (p, q, r) refl
+either : (a b : Bool) → a ≡ false → b ≡ false → (a || b) ≡ false
+either a b p q = rw (p, q) refl
 
 good_front : (d rest : List ℕ) → begins_badly (d ++ rest) ≡ false → begins_badly d ≡ false
 good_front d rest h =
     let x = d ++ rest in
     let one = or_parts (bytes_eq (10 ∷ []) (take 1 x)) (bytes_eq (0 ∷ []) (take 1 x) || bytes_eq (32 ∷ 45 ∷ 62 ∷ []) (take 3 x)) h in
     let two = or_parts (bytes_eq (0 ∷ []) (take 1 x)) (bytes_eq (32 ∷ 45 ∷ 62 ∷ []) (take 3 x)) one.1 in
-    neither _ _ _ (not_begun (10 ∷ []) d rest one.0) (not_begun (0 ∷ []) d rest two.0) (not_begun (32 ∷ 45 ∷ 62 ∷ []) d rest two.1)
+    either _ _ (not_begun (10 ∷ []) d rest one.0) (either _ _ (not_begun (0 ∷ []) d rest two.0) (not_begun (32 ∷ 45 ∷ 62 ∷ []) d rest two.1))
 
 begins_same : (a rest : List ℕ) (k : ℕ) → k ≤ length a → part_begins (a ++ rest) k ≡ part_begins a k
 begins_same a rest zero le = refl
 begins_same a rest (suc k) le = ap (λ (b : ℕ). (suc k == 0) || (b == 47)) (get_or_append_left a rest 0 (suc k - 1) (omega (arith, le)))
-
-either : (a b : Bool) → a ≡ false → b ≡ false → (a || b) ≡ false
-either a b p q = rw (p, q) refl
 
 good_before : (a r : List ℕ) (k : ℕ) → k ≤ length a → bad_at (a ++ 47 ∷ r) k ≡ false → bad_at a k ≡ false
 good_before a r k le h =
