@@ -1,8 +1,12 @@
 //! Programs that are asked line by line: each line of the input is a case, and one line is printed
 //! for it.
 //!
-//! It promises nothing but that it is safe: the programs that tests ask stand on it, and no other
-//! crate.
+//! **A contract sees** nothing of these calls: the programs that tests ask stand on them, and no
+//! other crate.
+//!
+//! **Proved**: that they are safe.
+//!
+//! **Only tested**: what they print, by the tests that ask those programs.
 //!
 //! ```
 //! answer_each(rt, alloc, answer)

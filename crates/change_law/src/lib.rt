@@ -8,6 +8,12 @@
 //! granted, with the files of the packages that come, and which removes what those own that go,
 //! does what its change says, and leaves a kept tree with the packages after it, which are the
 //! owners then.
+//!
+//! **Only tested**: nothing, since a law has no body.
+//!
+//! ```
+//! granted_exchanges_leave_owned_trees();
+//! ```
 #![tactic(auto)]
 
 mod laws;

@@ -11,6 +11,12 @@
 //! That something is open of a choice rests on some of the decided lines alone, which are its reason
 //! (`specs/Reasons.antt`). A solution that agrees with the choice on those agrees with what some
 //! option adds, whatever it has on the other lines.
+//!
+//! **Only tested**: nothing, since a law has no body.
+//!
+//! ```
+//! good_leaves_are_solutions();
+//! ```
 #![tactic(auto)]
 
 mod laws;

@@ -7,6 +7,12 @@
 //! what its change brings and takes away, a claim that the book takes is a good one: the change may
 //! come now, and has nothing to do with the groups whose claims were taken before. Once a claim is
 //! settled, the book's owners are the packages of the tree with its group.
+//!
+//! **Only tested**: nothing, since a law has no body.
+//!
+//! ```
+//! granted_claims_are_good();
+//! ```
 #![tactic(auto)]
 
 mod laws;

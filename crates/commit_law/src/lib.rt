@@ -9,6 +9,12 @@
 //! a group's claim is granted only while its change may come, over the settled groups and beside
 //! those under way, whatever a crash leaves at any moment of the plan's merge, with its events in any
 //! order and answered in any way, recovers to such a tree, with each settled group in it.
+//!
+//! **Only tested**: nothing, since a law has no body.
+//!
+//! ```
+//! commits_leave_sound_trees();
+//! ```
 #![tactic(auto)]
 
 mod laws;

@@ -6,6 +6,12 @@
 //!
 //! **Proved**: a group that is a fitting step takes a kept tree with a database to a kept tree with
 //! the database after it, and so does any number of them.
+//!
+//! **Only tested**: nothing, since a law has no body.
+//!
+//! ```
+//! groups_keep_the_database();
+//! ```
 #![tactic(auto)]
 
 mod laws;

@@ -7,4 +7,6 @@
 //! **Proved**: a group of files at different paths puts each object at its path and nothing else; a
 //! group that comes again changes nothing; and what is recorded of an image has its paths, and
 //! holds of its objects.
+//!
+//! **Only tested**: nothing, since there is no code; so there is no call to show.
 #![tactic(auto)]

@@ -6,6 +6,12 @@
 //! **Proved**: a plan that is accepted is sound. In whatever order its groups are committed, and
 //! wherever that stops, the packages are consistent; whenever a group may come, what its packages
 //! want for their build is there; and at the end they have all that they want.
+//!
+//! **Only tested**: nothing, since a law has no body.
+//!
+//! ```
+//! accepted_plans_are_sound();
+//! ```
 #![tactic(auto)]
 
 mod laws;

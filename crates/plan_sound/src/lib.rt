@@ -17,6 +17,12 @@
 //! `specs/Ends.antt`; that from a disk which runs begin with it leaves such a disk is a lemma for
 //! the calls that promise it (`proofs/Ended.antt`), since no clause can speak of each kind of
 //! choice.
+//!
+//! **Only tested**: nothing, since a law has no body.
+//!
+//! ```
+//! first_turns_leave_sound_trees();
+//! ```
 #![tactic(auto)]
 
 mod laws;

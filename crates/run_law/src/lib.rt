@@ -4,4 +4,6 @@
 //! ownership book as `owner_book` does.
 //!
 //! **Proved**: a tree at rest recovers to itself.
+//!
+//! **Only tested**: nothing, since there is no code; so there is no call to show.
 #![tactic(auto)]

@@ -4,7 +4,16 @@
 //! (`-` a file, `x` one that can be run, `l` a link), its bytes and its path, as `- 6162 etc/p`. Where
 //! more of them stand in one field, [`THEN`] is between two, which no path has in it.
 //!
-//! It promises nothing: the programs that are asked line by line stand on it, and no other crate.
+//! **A contract sees** nothing of these calls: the programs that are asked line by line stand on
+//! them, and no other crate.
+//!
+//! **Proved**: that they are safe.
+//!
+//! **Only tested**: what they read and print, by the tests that ask those programs.
+//!
+//! ```
+//! let entry = entry_of(alloc, field)?;
+//! ```
 #![tactic(auto)]
 
 pub use asked_lines::{cut, not_in_form};
