@@ -126,7 +126,7 @@ abbrev pub as_seen : Vec Installed Global → Result Work Status → Seen
 as_seen opening r = record { opening = opening; answer = r }
 
 -- .. whose answer is this
-pub seen_is : (seen : Seen) (r : Result Work Status) → seen.answer ≡ r → as_seen seen.opening r ≡ seen
+seen_is : (seen : Seen) (r : Result Work Status) → seen.answer ≡ r → as_seen seen.opening r ≡ seen
 seen_is seen r is = ap (as_seen seen.opening) (sym is)
 
 module _ {T : Type 0} (trees : Tree T) (asked : Asked) (old new : T) (same : IsTrue trees.tells → trees.story new ≡ trees.story old) where
@@ -151,9 +151,9 @@ module _ {T : Type 0} (trees : Tree T) (asked : Asked) (old new : T) (same : IsT
   }
 
   -- nothing is
-  pub finds_none : (opening : Vec Installed Global) (s : Status) → (IsTrue trees.tells → IsRefused held asked s) → IsEarly s → ((f : WordFault) → s ≡ status.Usage f → ⊥) → CountsFault (s ≡ status.DeviceFault) (trees.faults old) (trees.faults new)
-      → (IsTrue trees.tells → GivesBack (AreInstalled held) (openings.HasTooMuch held) s opening.items) → (IsUnread s → opening.items ≡ []) → FindsWork trees asked old new (as_seen opening (Err s))
-  finds_none opening s refused early no_usage counts gives unread = record {
+  pub finds_none : (seen : Seen) (s : Status) → seen.answer ≡ Err s → (IsTrue trees.tells → IsRefused held asked s) → IsEarly s → ((f : WordFault) → s ≡ status.Usage f → ⊥) → CountsFault (s ≡ status.DeviceFault) (trees.faults old) (trees.faults new)
+      → (IsTrue trees.tells → GivesBack (AreInstalled held) (openings.HasTooMuch held) s seen.opening.items) → (IsUnread s → seen.opening.items ≡ []) → FindsWork trees asked old new seen
+  finds_none seen s is refused early no_usage counts gives unread = subst (FindsWork trees asked old new) (seen_is seen (Err s) is) (record {
     answer = record {
       found = λ t. tt;
       pretend = tt;
@@ -165,7 +165,7 @@ module _ {T : Type 0} (trees : Tree T) (asked : Asked) (old new : T) (same : IsT
     };
     tree = same;
     back = record { opening = gives; unread = unread };
-  }
+  })
 
 -- ---- what the words choose
 
@@ -214,10 +214,10 @@ module _ {T : Type 0} (trees : Tree T) (words : List (List ℕ)) (old : T) where
       }
 
   -- the run ends before it reads what is installed
-  module _ (new : T) (opening : Vec Installed Global) (none : opening.items ≡ []) where
-    unread : (s : Status) → (IsTrue trees.tells → EndsEarly words opened (trees.story new) s) → IsEarly s → ((f : WordFault) → s ≡ status.Usage f → IsUsage words f) → (¬ AskForMerge words → IsOfWords s ⊎ (s ≡ status.Memory))
-        → CountsFault (s ≡ status.DeviceFault) (trees.faults old) (trees.faults new) → (HasRead s → ⊥) → (s ≡ status.Limit Paths → ⊥) → ChoosesWork trees words old new (as_seen opening (Err s))
-    unread s ends early usage no_merge counts not_read no_paths = record {
+  module _ (new : T) (seen : Seen) (none : seen.opening.items ≡ []) where
+    unread : (s : Status) → seen.answer ≡ Err s → (IsTrue trees.tells → EndsEarly words opened (trees.story new) s) → IsEarly s → ((f : WordFault) → s ≡ status.Usage f → IsUsage words f) → (¬ AskForMerge words → IsOfWords s ⊎ (s ≡ status.Memory))
+        → CountsFault (s ≡ status.DeviceFault) (trees.faults old) (trees.faults new) → (HasRead s → ⊥) → (s ≡ status.Limit Paths → ⊥) → ChoosesWork trees words old new seen
+    unread s is ends early usage no_merge counts not_read no_paths = subst (ChoosesWork trees words old new) (seen_is seen (Err s) is) (record {
       answer = record {
         found = λ t. tt;
         task = tt;
@@ -229,22 +229,22 @@ module _ {T : Type 0} (trees : Tree T) (words : List (List ℕ)) (old : T) where
       };
       tree = ends;
       back = record {
-        opening = λ t. gives_none (AreInstalledAfter opened.now.holds) (HasTooMuchAfter opened.now.holds) s opening.items not_read (λ e. absurd (no_paths e)) none;
+        opening = λ t. gives_none (AreInstalledAfter opened.now.holds) (HasTooMuchAfter opened.now.holds) s seen.opening.items not_read (λ e. absurd (no_paths e)) none;
         unread = λ of. none;
       };
-    }
+    })
 
     -- since its tree isn't recovered
-    pub chooses_unrecovered : (f : RecoverFault) → AskForMerge words → (IsTrue trees.tells → IsFaultOf f opened.now.holds) → (IsTrue trees.tells → promises.IsRefusal f → (trees.story new).now.holds ≡ opened.now.holds)
-        → (IsTrue trees.tells → Since (IsImageOrAlike opened.now) opened (trees.story new)) → CountsFault (f ≡ recovery.Tree causes.Failed) (trees.faults old) (trees.faults new) → ChoosesWork trees words old new (as_seen opening (Err (status_of_recovery f)))
-    chooses_unrecovered f asks is same moments counts =
-        unread (status_of_recovery f) (λ t. ends_at_recovery words opened (trees.story new) f asks (is t) (same t) (moments t)) (early_recovery f) (λ u e. absurd (usage_recovery f u e)) (λ none. absurd (none asks))
+    pub chooses_unrecovered : (f : RecoverFault) → seen.answer ≡ Err (status_of_recovery f) → AskForMerge words → (IsTrue trees.tells → IsFaultOf f opened.now.holds) → (IsTrue trees.tells → promises.IsRefusal f → (trees.story new).now.holds ≡ opened.now.holds)
+        → (IsTrue trees.tells → Since (IsImageOrAlike opened.now) opened (trees.story new)) → CountsFault (f ≡ recovery.Tree causes.Failed) (trees.faults old) (trees.faults new) → ChoosesWork trees words old new seen
+    chooses_unrecovered f told asks is same moments counts =
+        unread (status_of_recovery f) told (λ t. ends_at_recovery words opened (trees.story new) f asks (is t) (same t) (moments t)) (early_recovery f) (λ u e. absurd (usage_recovery f u e)) (λ none. absurd (none asks))
         (counts_for (f ≡ recovery.Tree causes.Failed) _ (trees.faults old) (trees.faults new) (recovery_failed f) counts) (recovery_not_read f) (recovery_no_paths f)
 
   -- .. or at its words
-  pub chooses_nothing : (opening : Vec Installed Global) (none : opening.items ≡ []) (s : Status) → EndsAtWords words s → ChoosesWork trees words old old (as_seen opening (Err s))
-  chooses_nothing opening none s ends =
-      unread old opening none s (λ t. ends_at_words words opened s ends) (early_words words s ends) (λ f e. subst (EndsAtWords words) e ends) (λ other. words_or_memory words s ends)
+  pub chooses_nothing : (seen : Seen) (none : seen.opening.items ≡ []) (s : Status) → seen.answer ≡ Err s → EndsAtWords words s → ChoosesWork trees words old old seen
+  chooses_nothing seen none s is ends =
+      unread old seen none s is (λ t. ends_at_words words opened s ends) (early_words words s ends) (λ f e. subst (EndsAtWords words) e ends) (λ other. words_or_memory words s ends)
       (record { later = omega arith; rose = λ e. absurd (subst (EndsAtWords words) e ends) }) (words_not_read words s ends) (words_no_paths words s ends)
 
 -- ---- a command, from its parts
@@ -358,34 +358,40 @@ module _ {T S B : Type 0} (trees : Tree T) (sinks : Sink S) (builders : Builder 
         (λ t. plan_beside words old (trees.story mid) opening.items w plan (chooses.tree t) (chooses.answer.found t) is_plan) (λ of. is_there (λ p. p ≡ plan_in w) plan is_plan)
 
   -- a command that shows its plan
-  pub runs_showing : (mid : T) (said : S) (opening : Vec Installed Global) (text : String Global) (plan : List Group) (history acknowledged : Vec ℕ Global) (s : Status) (none : history.items ≡ []) (untold : acknowledged.items ≡ [])
-      → ChoosesWork trees words tree mid (as_seen opening (Ok (work.Show text plan))) → (s ≡ status.Ok 0) ⊎ (s ≡ status.OutputFault) → CountsFault (s ≡ status.OutputFault) (sinks.faults out) (sinks.faults said)
-      → (IsTrue sinks.tells → Wrote (IsCut (string_bytes text) s) (sinks.written out) (sinks.written said)) → RunsCommand trees sinks builders false words tree out pool (idle mid said opening (Some plan) history acknowledged s none untold)
-  runs_showing mid said opening text plan history acknowledged s none untold chooses ends output written =
-      runs_resting mid said opening (Some plan) history acknowledged s none untold (work.Show text plan) chooses refl ends
+  pub runs_showing : (mid : T) (said : S) (opening : Vec Installed Global) (text : String Global) (plan : List Group) (s : Status) (run : Ended T S (Kept B)) (none : run.history.items ≡ []) (untold : run.acknowledged.items ≡ [])
+      → run ≡ idle mid said opening (Some plan) run.history run.acknowledged s none untold → ChoosesWork trees words tree mid (as_seen opening (Ok (work.Show text plan))) → (s ≡ status.Ok 0) ⊎ (s ≡ status.OutputFault)
+      → CountsFault (s ≡ status.OutputFault) (sinks.faults out) (sinks.faults said) → (IsTrue sinks.tells → Wrote (IsCut (string_bytes text) s) (sinks.written out) (sinks.written said)) → RunsCommand trees sinks builders false words tree out pool run
+  runs_showing mid said opening text plan s run none untold is chooses ends output written =
+      let history = run.history in
+      let told = run.acknowledged in
+      subst (RunsCommand trees sinks builders false words tree out pool) (sym is) (runs_resting mid said opening (Some plan) history told s none untold (work.Show text plan) chooses refl ends
       (λ t. outcome_shown words Image old (trees.story mid) history.items none opening.items (string_bytes text) plan s (chooses.tree t) (chooses.answer.found t) ends) output
-      (λ t. wrote_showing words trees.tells before (string_bytes text) history.items acknowledged.items s (sinks.written out) (sinks.written said) chooses.answer.work none (written t))
+      (λ t. wrote_showing words trees.tells before (string_bytes text) history.items told.items s (sinks.written out) (sinks.written said) chooses.answer.work none (written t)))
 
   -- one whose plan has no group
-  pub runs_empty : (mid : T) (opening : Vec Installed Global) (plan : List Group) (history acknowledged : Vec ℕ Global) (none : history.items ≡ []) (untold : acknowledged.items ≡ [])
-      → ChoosesWork trees words tree mid (as_seen opening (Ok (work.Rest plan))) → RunsCommand trees sinks builders false words tree out pool (idle mid out opening (Some plan) history acknowledged (status.Ok 0) none untold)
-  runs_empty mid opening plan history acknowledged none untold chooses =
-      runs_resting mid out opening (Some plan) history acknowledged (status.Ok 0) none untold (work.Rest plan) chooses refl (inl refl)
+  pub runs_empty : (mid : T) (opening : Vec Installed Global) (plan : List Group) (run : Ended T S (Kept B)) (none : run.history.items ≡ []) (untold : run.acknowledged.items ≡ [])
+      → run ≡ idle mid out opening (Some plan) run.history run.acknowledged (status.Ok 0) none untold → ChoosesWork trees words tree mid (as_seen opening (Ok (work.Rest plan))) → RunsCommand trees sinks builders false words tree out pool run
+  runs_empty mid opening plan run none untold is chooses =
+      let history = run.history in
+      let told = run.acknowledged in
+      subst (RunsCommand trees sinks builders false words tree out pool) (sym is) (runs_resting mid out opening (Some plan) history told (status.Ok 0) none untold (work.Rest plan) chooses refl (inl refl)
       (λ t. (let todo = chooses.answer.found t in outcome_rest words Image old (trees.story mid) history.items none opening.items plan (chooses.tree t) todo.0 todo.1)) (record { later = omega arith; rose = λ e. absurd (cc e) })
-      (λ t. wrote_resting words trees.tells before plan history.items acknowledged.items (status.Ok 0) (sinks.written out) (sinks.written out) chooses.answer.work none untold refl)
+      (λ t. wrote_resting words trees.tells before plan history.items told.items (status.Ok 0) (sinks.written out) (sinks.written out) chooses.answer.work none untold refl))
 
   -- a command that finds no plan
-  pub runs_unfound : (mid : T) (opening : Vec Installed Global) (history acknowledged : Vec ℕ Global) (s : Status) (none : history.items ≡ []) (untold : acknowledged.items ≡ [])
-      → ChoosesWork trees words tree mid (as_seen opening (Err s)) → RunsCommand trees sinks builders false words tree out pool (idle mid out opening None history acknowledged s none untold)
-  runs_unfound mid opening history acknowledged s none untold chooses =
+  pub runs_unfound : (mid : T) (opening : Vec Installed Global) (s : Status) (run : Ended T S (Kept B)) (none : run.history.items ≡ []) (untold : run.acknowledged.items ≡ [])
+      → run ≡ idle mid out opening None run.history run.acknowledged s none untold → ChoosesWork trees words tree mid (as_seen opening (Err s)) → RunsCommand trees sinks builders false words tree out pool run
+  runs_unfound mid opening s run none untold is chooses =
+      let history = run.history in
+      let told = run.acknowledged in
       let a = chooses.answer in
       let early : IsEarly s = a.early in
       let not : (x : Status) → s ≡ x → IsEarly x = λ x e. subst IsEarly e early in
-      runs_idle mid out opening None history acknowledged s none untold
+      subst (RunsCommand trees sinks builders false words tree out pool) (sym is) (runs_idle mid out opening None history told s none untold
       (λ t. outcome_unfound words Image old (trees.story mid) history.items none s (chooses.tree t) early) (λ n e. absurd (not (status.Ok n) e)) (λ f e. a.usage f (ap Err e)) a.no_merge (λ id e. not (status.BuildFailed id) e)
       (counts_for _ (s ≡ status.DeviceFault) (trees.faults tree) (trees.faults mid) (λ e. ap Err e) a.device)
-      (record { later = omega arith; rose = λ e. absurd (not status.OutputFault e) }) (λ t. wrote_nothing words trees.tells before history.items acknowledged.items s (sinks.written out) (sinks.written out) early none refl)
-      chooses.back.opening chooses.back.unread (λ t. tt) (λ of. absurd (early_no_plan s early of))
+      (record { later = omega arith; rose = λ e. absurd (not status.OutputFault e) }) (λ t. wrote_nothing words trees.tells before history.items told.items s (sinks.written out) (sinks.written out) early none refl)
+      chooses.back.opening chooses.back.unread (λ t. tt) (λ of. absurd (early_no_plan s early of)))
 
   -- the last line of a command
   module _ (run : Ended T S (Kept B)) (s : Status) (said : S) (ends : (s ≡ run.status) ⊎ ((s ≡ status.Memory) ⊎ ((s ≡ status.OutputFault) × Rose (sinks.faults run.out) (sinks.faults said)))) where

@@ -3,8 +3,9 @@
 //! **A contract sees** the tree as its story, the sink as the bytes that it took, the builders by
 //! the images that they tell, and a run's end by its status, the packages that it found installed,
 //! its plan, the order of its machine, its groups and the acknowledged ones. What a run promises is
-//! the headline and one record, `RunsCommand` (`specs/Commands.antt`); what the merge in it promises
-//! is `MergesTask` (`specs/Merges.antt`), and `proofs/Promises.antt` leads from the one to the other.
+//! the headline and one record, `RunsCommand` (`specs/Commands.antt`); what it promises of what it
+//! finds is `ChoosesWork` (`specs/Choosing.antt`), and of the merge in it `MergesTask`
+//! (`specs/Merges.antt`). `proofs/Promises.antt` leads from these two to the whole.
 //!
 //! **Proved**: a crash at any moment recovers to what the tree recovered to, with some first groups
 //! of the plan, at its end with all of the history; from a tree that keeps what its packages

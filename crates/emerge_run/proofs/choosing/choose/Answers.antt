@@ -1,9 +1,8 @@
-use Rattle.std.proofs.Common.{◌∙◌, Err, IsTrue, ap, map, subst}
+use Rattle.std.proofs.Common.{◌∙◌, Err, IsTrue, ap, map}
 use Rattle.std.specs.Prelude.{string_bytes}
-use Rattle.emerge_run.specs.Choosing.{ChoosesWork}
 use Rattle.emerge_run.specs.Outcomes.{HasRecovered}
 use Rattle.emerge_run.proofs.Endings.{at_rest}
-use Rattle.emerge_run.proofs.Promises.{chooses_found, chooses_nothing, chooses_unrecovered, counts_for, seen_is}
+use Rattle.emerge_run.proofs.Promises.{chooses_found, chooses_nothing, chooses_unrecovered, counts_for}
 use Rattle.emerge_run.proofs.choosing.choose.Goals as goal
 
 pub returns-in-Ok-recover : goal.returns-in-Ok-recover
@@ -18,20 +17,14 @@ returns-in-Ok-recover g c =
 pub returns-in-Err-recover : goal.returns-in-Err-recover
 returns-in-Err-recover g c =
     let T = g.T.Tree in
-    let words = map string_bytes c.args.words.now in
     let start = c.args.tree.now in
     let mid = c.recover.new.tree in
-    let ended = c.ended.result in
     let arm = c.in-Err-recover in
     let e = c.recover.ensures in
-    subst (ChoosesWork T words start mid) (seen_is ended _ (c.ended.ensures.answer ∙ ap Err c.from.ensures))
-    (chooses_unrecovered T words start mid ended.opening c.ended.ensures.opening arm.fault (c.in-Ok.asked, c.in-Ok.ensures.found) arm.ensures.refused arm.ensures.unchanged e.moments
-    (counts_for _ _ (T.faults start) (T.faults mid) (λ failed. arm.is ∙ ap Err failed) e.faults))
+    chooses_unrecovered T (map string_bytes c.args.words.now) start mid c.ended.result c.ended.ensures.opening arm.fault (c.ended.ensures.answer ∙ ap Err c.from.ensures) (c.in-Ok.asked, c.in-Ok.ensures.found) arm.ensures.refused arm.ensures.unchanged e.moments
+    (counts_for _ _ (T.faults start) (T.faults mid) (λ failed. arm.is ∙ ap Err failed) e.faults)
 
 pub returns-in-Err : goal.returns-in-Err
 returns-in-Err g c =
-    let T = g.T.Tree in
-    let words = map string_bytes c.args.words.now in
-    let start = c.args.tree.now in
-    let ended = c.ended-in-Err.result in
-    subst (ChoosesWork T words start start) (seen_is ended _ c.ended-in-Err.ensures.answer) (chooses_nothing T words start ended.opening c.ended-in-Err.ensures.opening c.in-Err.status c.in-Err.ensures.refused)
+    let e = c.ended-in-Err.ensures in
+    chooses_nothing g.T.Tree (map string_bytes c.args.words.now) c.args.tree.now c.ended-in-Err.result e.opening c.in-Err.status e.answer c.in-Err.ensures.refused

@@ -1,7 +1,6 @@
-use Rattle.std.proofs.Common.{◌∙◌, ℕ, false, List, Ok, ap, map, subst, sym}
+use Rattle.std.proofs.Common.{◌∙◌, ℕ, List, Ok, ap, map, subst}
 use Rattle.std.specs.Prelude.{string_bytes}
 use Rattle.group_run.specs.Lines.{Wrote}
-use Rattle.emerge_run.specs.Commands.{RunsCommand}
 use Rattle.emerge_run.specs.Output.{IsCut}
 use Rattle.emerge_run.proofs.Promises.{chooses_as, runs_empty, runs_merging, runs_showing, runs_unfound}
 use Rattle.emerge_run.proofs.run.attempt.Goals as goal
@@ -35,11 +34,10 @@ returns-in-Ok-Show g c =
     let seen = c.choose-opening.result in
     let arm = c.in-Ok-Show in
     let show = c.show_plan-status in
-    let u = c.unmerged in
-    subst (RunsCommand g.T.Tree S g.B.Builder false words c.args.tree c.args.out c.args.pool) (sym u.ensures.ended)
-    (runs_showing g.T.Tree S g.B.Builder words c.args.tree c.args.out c.args.pool mid show.new.out seen.opening arm.text arm.plan u.result.history u.result.acknowledged show.result u.ensures.history u.ensures.acknowledged
+    let u = c.unmerged.ensures in
+    runs_showing g.T.Tree S g.B.Builder words c.args.tree c.args.out c.args.pool mid show.new.out seen.opening arm.text arm.plan show.result c.unmerged.result u.history u.acknowledged u.ended
     (chooses_as g.T.Tree words c.args.tree mid seen _ (arm.is ∙ ap Ok arm.field-0-is) c.choose-opening.ensures) show.ensures.status (record { later = show.ensures.out_count; rose = show.ensures.output })
-    (λ t. subst (λ (b : List ℕ). Wrote (IsCut b show.result) (S.written c.args.out) (S.written show.new.out)) c.as_str.ensures.value (show.ensures.written t)))
+    (λ t. subst (λ (b : List ℕ). Wrote (IsCut b show.result) (S.written c.args.out) (S.written show.new.out)) c.as_str.ensures.value (show.ensures.written t))
 
 pub returns-in-Ok-Rest : goal.returns-in-Ok-Rest
 returns-in-Ok-Rest g c =
@@ -47,10 +45,9 @@ returns-in-Ok-Rest g c =
     let mid = c.choose-opening.new.tree in
     let seen = c.choose-opening.result in
     let arm = c.in-Ok-Rest in
-    let u = c.unmerged-in-Ok-Rest in
-    subst (RunsCommand g.T.Tree g.S.Sink g.B.Builder false words c.args.tree c.args.out c.args.pool) (sym u.ensures.ended)
-    (runs_empty g.T.Tree g.S.Sink g.B.Builder words c.args.tree c.args.out c.args.pool mid seen.opening arm.plan u.result.history u.result.acknowledged u.ensures.history u.ensures.acknowledged
-    (chooses_as g.T.Tree words c.args.tree mid seen _ (arm.is ∙ ap Ok arm.field-0-is) c.choose-opening.ensures))
+    let u = c.unmerged-in-Ok-Rest.ensures in
+    runs_empty g.T.Tree g.S.Sink g.B.Builder words c.args.tree c.args.out c.args.pool mid seen.opening arm.plan c.unmerged-in-Ok-Rest.result u.history u.acknowledged u.ended
+    (chooses_as g.T.Tree words c.args.tree mid seen _ (arm.is ∙ ap Ok arm.field-0-is) c.choose-opening.ensures)
 
 pub returns-in-Err : goal.returns-in-Err
 returns-in-Err g c =
@@ -58,7 +55,6 @@ returns-in-Err g c =
     let mid = c.choose-opening.new.tree in
     let seen = c.choose-opening.result in
     let arm = c.in-Err in
-    let u = c.unmerged-in-Err in
-    subst (RunsCommand g.T.Tree g.S.Sink g.B.Builder false words c.args.tree c.args.out c.args.pool) (sym u.ensures.ended)
-    (runs_unfound g.T.Tree g.S.Sink g.B.Builder words c.args.tree c.args.out c.args.pool mid seen.opening u.result.history u.result.acknowledged arm.status u.ensures.history u.ensures.acknowledged
-    (chooses_as g.T.Tree words c.args.tree mid seen _ arm.is c.choose-opening.ensures))
+    let u = c.unmerged-in-Err.ensures in
+    runs_unfound g.T.Tree g.S.Sink g.B.Builder words c.args.tree c.args.out c.args.pool mid seen.opening arm.status c.unmerged-in-Err.result u.history u.acknowledged u.ended
+    (chooses_as g.T.Tree words c.args.tree mid seen _ arm.is c.choose-opening.ensures)
