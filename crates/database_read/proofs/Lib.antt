@@ -1,6 +1,5 @@
 mod Cuts
 mod Files
-mod Fronts
 mod Listed
 mod Owners
 mod Placed

@@ -14,7 +14,7 @@ use Rattle.database_law.specs.Fields.{Field, name_of}
 use Rattle.database_law.proofs.FileNames.{name_is_file_name}
 use Rattle.database_read.specs.Folders.{IsAmong, folder_text}
 use Rattle.database_read.specs.Telling.{AreAtPaths, HasFilePaths, file_path, folder_path}
-use Rattle.database_read.proofs.Fronts.{front_is_path}
+use Rattle.file_tree.proofs.Fronts.{front_is_path}
 
 at_path : (id : PackageId) → IsId id → (k : Field) → is_path (file_path (id_text id) k) ≡ true
 unfolding record_path

@@ -1,4 +1,5 @@
 pub mod Below
+pub mod Fronts
 pub mod Grammar
 pub mod Moments
 pub mod PlainParts

@@ -38,7 +38,8 @@ pub fn is_below(top: &[u8], path: &[u8]) -> bool
 }
 
 impl Path {
-    ghost use Rattle.std.specs.Prelude.{◌≡◌, ◌≢◌, ◌++◌, ◌∷◌, true, List, ℕ, IfErr, IfOk, MatchOption};
+    ghost use Rattle.std.specs.Prelude.{◌≡◌, ◌≢◌, ◌<◌, ◌++◌, ◌∷◌, true, List, ℕ, IfErr, IfOk};
+    ghost use Rattle.std.specs.Prelude.{MatchOption, length, slice_index, take};
     ghost use Rattle.file_tree.specs.Paths.{FirstFault, is_below, is_path};
     ghost use Rattle.file_tree.specs.declared.fault.PathFault.TheVariants as faults;
 
@@ -81,6 +82,22 @@ impl Path {
     {
         let rest = self.text().strip_prefix(folder)?;
         rest.strip_prefix('/')
+    }
+
+    /// What stands before a place of the path, where a slash stands there. It is a path again.
+    pub fn above(&self, alloc: Global, at: usize) -> Result<Option<Path>, AllocError>
+        requires { at < length self.now }
+        ensures { IfOk result (λ r. MatchOption r (slice_index self.now at ≢ 47)
+            (λ p. (slice_index self.now at ≡ 47) × (p ≡ take at self.now))) }
+    {
+        let text = self.text();
+        if text.as_bytes()[at] != b'/' {
+            return Ok(None);
+        }
+        let Some(front) = text.get(..at) else {
+            return Err(AllocError);
+        };
+        Ok(Some(Path::of(alloc, front)?))
     }
 
     pub fn text(&self) -> &str

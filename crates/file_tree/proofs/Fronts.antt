@@ -1,9 +1,10 @@
 -- What stands before a slash of a path is a path.
-use Rattle.std.proofs.Common.{◌≡◌, ◌==◌, ◌<◌, ◌≤◌, ◌-◌, ◌&&◌, ◌||◌, ℕ, zero, suc, Bool, true, false, cond, not, List, [], ◌∷◌, ◌++◌, length, take, drop, refl, sym, ap, ◌∙◌, arith}
+use Rattle.std.proofs.Common.{◌≡◌, ◌==◌, ◌<◌, ◌≤◌, ◌-◌, ◌&&◌, ◌||◌, ℕ, zero, suc, Bool, true, false, cond, not, List, [], ◌∷◌, ◌++◌, length, get_or, take, drop, refl, sym, ap, ◌∙◌, arith}
 use Rattle.std.specs.Prelude.{bytes_eq}
 use Rattle.std.proofs.lemmas.Bool.{or_parts, true≢false}
-use Rattle.std.proofs.lemmas.List.{drop-append-le, get_or_append_left, length-append, length-take, take-append-le}
+use Rattle.std.proofs.lemmas.List.{drop-append-le, get_or_append_left, length-append, length-take, length-take-le, take-append-le}
 use Rattle.std.proofs.lemmas.List.Sums.{take_while-cons}
+use Rattle.std.proofs.Math.Seq.{split_at}
 use Rattle.std.proofs.lemmas.Slice.Eq.{bytes_eq-Decides}
 use Rattle.basics.proofs.Texts.{bytes_eq-apart}
 use Rattle.file_tree.specs.Paths.{bad_at, bad_part_at, begins_badly, first_part, is_bad_part, is_path, part_begins}
@@ -59,3 +60,24 @@ front_is_path a r some path =
     let short : length (a ++ 47 ∷ r) ≤ 4095 = form.short in
     let size = length-append a (47 ∷ r) in
     is_path_if_good a some (omega (arith, short, size)) (λ k lt. good_before a r k (omega (arith, lt)) (form.good k (omega (arith, lt, size))))
+
+-- a text whose place holds a slash, in parts
+parted : (path : List ℕ) (at : ℕ) → at < length path → get_or path at 0 ≡ 47 → path ≡ take at path ++ 47 ∷ drop (suc at) path
+parted path at lt slash = split_at path at 0 lt ∙ ap (λ (b : ℕ). take at path ++ b ∷ drop (suc at) path) slash
+
+empty_part : (rest : List ℕ) → bad_at (47 ∷ rest) 0 ≡ true
+empty_part rest = ap (λ (l : List ℕ). is_bad_part l || begins_badly (47 ∷ rest)) (take_while-cons (λ b. not (b == 47)) 47 rest)
+
+-- no path begins with a slash
+slash_inside : (path : List ℕ) (at : ℕ) → path ≡ take at path ++ 47 ∷ drop (suc at) path → is_path path ≡ true → 0 < at
+slash_inside path zero parts form =
+    let good : bad_at path 0 ≡ false = (form_of_path path form).good 0 (omega arith) in
+    absurd (true≢false (sym (empty_part (drop 1 path)) ∙ ap (λ (l : List ℕ). bad_at l 0) (sym parts) ∙ good))
+slash_inside path (suc at) parts form = omega arith
+
+-- so is what stands before a place that holds one
+pub above_is_path : (path : List ℕ) (at : ℕ) → at < length path → get_or path at 0 ≡ 47 → is_path path ≡ true → is_path (take at path) ≡ true
+above_is_path path at lt slash form =
+    let parts = parted path at lt slash in
+    let some = slash_inside path at parts form in
+    front_is_path (take at path) (drop (suc at) path) (omega (arith, some, length-take-le at path (omega (arith, lt)))) (ap is_path (sym parts) ∙ form)
