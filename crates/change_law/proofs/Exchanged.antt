@@ -9,7 +9,7 @@ use Rattle.basics.proofs.Tests.{none_is_not_some}
 use Rattle.dep_atom.specs.Ids.{IsId}
 use Rattle.dep_atom.specs.declared.package.PackageId.{PackageId}
 use Rattle.dep_atom.proofs.Joined.{ComesApart}
-use Rattle.file_tree.specs.Disk.{Map}
+use Rattle.file_tree.specs.Disk.{Map, held_by}
 use Rattle.file_tree.specs.Paths.{is_below}
 use Rattle.file_tree.specs.Thing.{Thing}
 use Rattle.file_tree.specs.declared.objects.Entry.{Entry}
@@ -41,7 +41,7 @@ use Rattle.claim_law.proofs.Settled.{owners_by}
 use Rattle.group_run.specs.Granted.{MayChange, changes_in, wishes_in, wishes_of}
 use Rattle.group_run.specs.Working.{all_in, all_of, changing}
 use Rattle.group_run.specs.declared.files.Files.{Files}
-use Rattle.package_law.specs.Packages.{AreFilesOf, held_by}
+use Rattle.package_law.specs.Packages.{AreFilesOf}
 use Rattle.package_law.proofs.LetIn.{let_in_outside}
 use Rattle.package_law.proofs.Places.{distinct_back, held_at, held_none, placed_paths, put_at, put_by}
 use Rattle.change_law.specs.Changes.{Exchange, GrantedExchangesAreTold, GrantedExchangesLeaveOwnedTrees, IsExchange, IsOwnedTree, LeavesOwnedTree, change_by, changes_by}

@@ -6,6 +6,7 @@ use Rattle.std.proofs.lemmas.List.{map-append}
 use Rattle.basics.specs.Members.{Has}
 use Rattle.basics.proofs.Membership.{has-append_cases, has-append_left, has-append_right, has-map, has-map_back}
 use Rattle.basics.proofs.Tests.{none_is_not_some}
+use Rattle.file_tree.specs.Disk.{held_by}
 use Rattle.file_tree.specs.declared.objects.Entry.{Entry}
 use Rattle.image_fit.specs.Images as images
 use Rattle.journal.specs.Judging.{is_in}
@@ -19,7 +20,7 @@ use Rattle.claim_law.specs.Owners.{IsWishOf}
 use Rattle.group_run.specs.Granted.{wishes_for, wishes_in, wishes_of}
 use Rattle.group_run.specs.Working.{all_in, all_of}
 use Rattle.group_run.specs.declared.files.Files.{Files}
-use Rattle.package_law.specs.Packages.{AreFilesOf, held_by}
+use Rattle.package_law.specs.Packages.{AreFilesOf}
 use Rattle.package_law.proofs.Places.{held_none, wished_paths}
 use Rattle.change_law.proofs.Pieces.{left}
 

@@ -7,8 +7,7 @@ use Rattle.basics.specs.Members.{AreDistinct, Has}
 use Rattle.basics.proofs.Each.{all_has}
 use Rattle.basics.proofs.Membership.{has-map, has-map_back}
 use Rattle.basics.proofs.Permutations.{has-moved}
-use Rattle.file_tree.specs.Disk.{Map}
-use Rattle.file_tree.specs.Thing.{Thing}
+use Rattle.file_tree.specs.Disk.{held_by}
 use Rattle.file_tree.specs.declared.objects.Entry.{Entry}
 use Rattle.image_fit.specs.Images as images
 use Rattle.image_fit.specs.Images.{is_good}
@@ -22,7 +21,6 @@ use Rattle.database_law.specs.Database.{folder}
 use Rattle.database_law.specs.Fields.{Says}
 use Rattle.database_law.specs.Packages.{Installed, paths}
 use Rattle.group_run.specs.declared.files.Files.{Files}
-use Rattle.package_law.specs.Packages as laws
 use Rattle.package_law.specs.Packages.{AreFilesOf, IsRecorded}
 use Rattle.package_law.specs.Records.{owned_of}
 use Rattle.package_law.proofs.LetIn.{let_in_apart}
@@ -44,10 +42,6 @@ ownable_path p free outside = ap (λ (b : Bool). b || meets_jobs p) (let_in_apar
 all_ownable : (es : List Entry) → ((e : Entry) → Has es e → IsOwnable (owned_of e)) → AllByRecursion IsOwnable (map owned_of es)
 all_ownable [] each = tt
 all_ownable (e ∷ es) each = (each e (inl refl), all_ownable es (λ d has. each d (inr has)))
-
-same_held : (es : List Entry) (q : List ℕ) → records.held_by es q ≡ laws.held_by es q
-same_held [] q = refl
-same_held (e ∷ es) q = ap (λ (x : Option Thing). if bytes_eq q e.path then Some e.object else x) (same_held es q)
 
 -- what a group that is granted knows of a package's image
 pub record IsTakenImage (es : List Entry) : Type 0 where
@@ -89,8 +83,8 @@ module _ (read : SortedRecordsAreReadBack) (inside : FilesAreInTheFolder) (flags
   abbrev a : Installed
   a = installed_with (as_recorded n.pkg) found.0
 
-  said : Says (folder (laws.held_by own) n.pkg.facts.id) a
-  said = subst (λ (m : Map). Says (folder m n.pkg.facts.id) a) (λ i q. same_held own q i) found.2
+  said : Says (folder (held_by own) n.pkg.facts.id) a
+  said = found.2
 
   owned_here : (o : Owned) → Has found.0 o → (e : Entry) × Has files.image.items e × IsRecorded e o
   owned_here o has =

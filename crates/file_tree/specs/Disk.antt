@@ -2,12 +2,18 @@
 use Rattle.std.specs.Prelude.{◌≡◌, ◌↔◌, ◌⊎◌, ◌<◌, ◌≤◌, ◌+◌, ◌^◌, ℕ, Bool, true, false, List, [], ◌∷◌, ◌++◌, Option, Some, None, bytes_eq, Contains, IsSome, if◌then◌else◌}
 use Rattle.file_tree.specs.Thing.{Thing}
 use Rattle.file_tree.specs.Paths.{is_below}
+use Rattle.file_tree.specs.declared.objects.Entry.{Entry}
 use Rattle.file_tree.specs.declared.objects.Look.{Look}
 use Rattle.file_tree.specs.declared.objects.Look.TheVariants.{Nothing, Item, Folder}
 
 -- what each path holds
 abbrev pub Map : Type 0
 Map = List ℕ → Option Thing
+
+-- the map of some files: at each path the first of them that has it
+abbrev pub held_by : List Entry → Map
+held_by [] q = None
+held_by (e ∷ es) q = if bytes_eq q e.path then Some e.object else held_by es q
 
 -- what each path reads as, and which paths were changed since the last sync
 pub record Disk : Type 0 where

@@ -6,6 +6,7 @@ use Rattle.basics.specs.Members.{AreDistinct, Has}
 use Rattle.basics.proofs.Membership.{has-append_left, has-map, has-map_back}
 use Rattle.basics.proofs.Texts.{bytes_eq-apart, bytes_eq-same}
 use Rattle.basics.proofs.Tests.{none_is_not_some}
+use Rattle.file_tree.specs.Disk.{held_by}
 use Rattle.file_tree.specs.Thing.{Thing}
 use Rattle.file_tree.specs.declared.objects.Entry.{Entry}
 use Rattle.image_fit.specs.Images.{path_of}
@@ -20,7 +21,6 @@ use Rattle.database_law.specs.Step.{put}
 use Rattle.group_run.specs.Granted.{wishes_for}
 use Rattle.group_run.specs.Working.{object_of, placing}
 use Rattle.owner_book.specs.Book as books
-use Rattle.package_law.specs.Packages.{held_by}
 
 pub wished_paths : (k : OwnerKey) (folder : Bool) (es : List Entry) → map books.path_of (wishes_for k folder es) ≡ map path_of es
 wished_paths k folder [] = refl

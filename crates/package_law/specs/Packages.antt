@@ -1,19 +1,14 @@
 -- A package that is merged, as its files tell it.
-use Rattle.std.specs.Prelude.{◌≡◌, List, [], ◌∷◌, Some, None, bytes_eq, if◌then◌else◌}
+use Rattle.std.specs.Prelude.{◌≡◌, List, Some}
 use Rattle.basics.specs.Members.{Has}
 use Rattle.dep_atom.specs.Ids.{IsId}
-use Rattle.file_tree.specs.Disk.{Map}
+use Rattle.file_tree.specs.Disk.{held_by}
 use Rattle.file_tree.specs.declared.objects.Entry.{Entry}
 use Rattle.contents_text.specs.declared.owned.Owned.{Owned}
 use Rattle.database_law.specs.Database.{Holds, IsOf, folder}
 use Rattle.database_law.specs.Fields.{Says}
 use Rattle.database_law.specs.Packages.{Installed, id_of, paths}
 use Rattle.group_run.specs.declared.files.Files.{Files}
-
--- the map of some files: at each path the first of them that has it
-abbrev pub held_by : List Entry → Map
-held_by [] q = None
-held_by (e ∷ es) q = if bytes_eq q e.path then Some e.object else held_by es q
 
 -- the package records this entry of its image so
 pub record IsRecorded (e : Entry) (o : Owned) : Type 0 where

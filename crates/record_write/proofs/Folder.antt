@@ -11,6 +11,7 @@ use Rattle.basics.proofs.Texts.{bytes_eq-apart, bytes_eq-same}
 use Rattle.basics.proofs.Permutations.{has-moved}
 use Rattle.basics.proofs.Each.{all_by_has, all_has}
 use Rattle.dep_atom.specs.declared.package.PackageId.{PackageId}
+use Rattle.file_tree.specs.Disk.{held_by}
 use Rattle.file_tree.specs.Thing.{Thing, plain}
 use Rattle.file_tree.specs.declared.objects.Entry.{Entry}
 use Rattle.pkg_state.specs.Package.{tree_of}
@@ -23,7 +24,7 @@ use Rattle.database_law.specs.Database.{IsOf}
 use Rattle.database_law.specs.Fields.{Field, Reads, Says, contents, eapi, field_text, flags, is_needed, known, name_of, needs, required, slots, text_of}
 use Rattle.database_law.specs.Packages.{Installed, id_of, paths}
 use Rattle.record_write.specs.Written.{AreInOrder, fields, file_if_written, folder_files, has_bytes, installed_with, is_written, value_of}
-use Rattle.record_write.specs.Recorded.{AreNamed, FilesAreInTheFolder, IsRecordable, RecordsAreReadBack, SortedRecordsAreReadBack, folder_of, held_by}
+use Rattle.record_write.specs.Recorded.{AreNamed, FilesAreInTheFolder, IsRecordable, RecordsAreReadBack, SortedRecordsAreReadBack, folder_of}
 use Rattle.record_write.proofs.Order.{already_sorted, distinct_moved, rising_distinct}
 use Rattle.record_write.proofs.Words.{flags_said, known_said, needs_said, required_said, slots_said}
 

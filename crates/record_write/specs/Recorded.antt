@@ -1,5 +1,5 @@
 -- When what is written of a package is read back.
-use Rattle.std.specs.Prelude.{◌≡◌, ℕ, List, [], ◌∷◌, Some, None, bytes_eq, if◌then◌else◌}
+use Rattle.std.specs.Prelude.{◌≡◌, ℕ, List, [], ◌∷◌}
 use Rattle.std.specs.List.{AllByRecursion}
 use Rattle.basics.specs.Members.{AreDistinct, Has}
 use Rattle.pms_names.specs.Flags.{IsRising}
@@ -10,7 +10,7 @@ use Rattle.dep_group.specs.Tokens.{IsFlag, IsInForm}
 use Rattle.dep_tree.specs.Grammar as dependencies
 use Rattle.dep_tree.specs.Texts.{Dependencies}
 use Rattle.required_use.specs.Grammar as expressions
-use Rattle.file_tree.specs.Disk.{Map}
+use Rattle.file_tree.specs.Disk.{held_by}
 use Rattle.file_tree.specs.declared.objects.Entry.{Entry}
 use Rattle.pkg_state.specs.Package.{tree_of}
 use Rattle.pkg_state.specs.declared.class.Class.{Class}
@@ -43,11 +43,6 @@ pub record IsRecordable (p : Installed) : Type 0 where
   pub needs : (class : Class) → AreBound (tree_of class p.package_is)
   pub required : IsInForm expressions.grammar expressions.never p.package_is.required
   pub owned : AllByRecursion IsOwnable p.owned
-
--- the map of some files: at each path the first of them that has it
-abbrev pub held_by : List Entry → Map
-held_by [] q = None
-held_by (e ∷ es) q = if bytes_eq q e.path then Some e.object else held_by es q
 
 -- what the files hold in the package's folder
 abbrev pub folder_of : Installed → List Entry → Folder
