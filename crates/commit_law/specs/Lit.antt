@@ -2,33 +2,13 @@
 use Rattle.std.specs.Prelude.{ℕ, List, [], ◌∷◌, filter, map}
 use Rattle.std.specs.BTreeSet.{insert_key}
 use Rattle.pms_names.specs.Flags.{byte_order, has}
-use Rattle.dep_atom.specs.declared.package.Facts.{Facts}
-use Rattle.pkg_state.specs.Package.{Package}
+use Rattle.pkg_state.specs.Package.{Package, with_enabled}
 use Rattle.database_law.specs.Packages.{Installed}
 
 -- the flags that are on, with these beside them: each at its place in byte order, and once
 abbrev pub lit_flags : List (List ℕ) → List (List ℕ) → List (List ℕ)
 lit_flags [] on = on
 lit_flags (flag ∷ flags) on = lit_flags flags (insert_key byte_order on flag)
-
--- the package with just these flags on
-abbrev pub with_enabled : List (List ℕ) → Package → Package
-with_enabled on p = record {
-  facts = record {
-    id = p.facts.id;
-    slot = p.facts.slot;
-    subslot = p.facts.subslot;
-    iuse = p.facts.iuse;
-    enabled = on;
-  };
-  eapi = p.eapi;
-  rdepend = p.rdepend;
-  pdepend = p.pdepend;
-  depend = p.depend;
-  bdepend = p.bdepend;
-  idepend = p.idepend;
-  required = p.required;
-}
 
 -- the package with these flags on beside its own
 abbrev pub lit : List (List ℕ) → Package → Package

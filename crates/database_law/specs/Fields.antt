@@ -17,9 +17,8 @@ use Rattle.use_flags.specs.Items.{flag_of}
 use Rattle.file_tree.specs.Thing.{Thing}
 use Rattle.file_tree.specs.declared.objects.Kind.{Kind}
 use Rattle.file_tree.specs.declared.objects.Kind.TheVariants.{Exec, Link, Plain}
-use Rattle.pkg_state.specs.Package.{tree_of}
+use Rattle.pkg_state.specs.Package.{class_word, tree_of}
 use Rattle.pkg_state.specs.declared.class.Class.{Class}
-use Rattle.pkg_state.specs.declared.class.Class.TheVariants.{Bdepend, Depend, Idepend, Pdepend, Rdepend}
 use Rattle.contents_text.specs.Contents.{TellsOwned}
 use Rattle.database_law.specs.Packages.{Installed}
 
@@ -47,13 +46,6 @@ pub data Field : Type 0 where
   required : Field
   needs : Class → Field
 
-abbrev pub file_of : Class → List ℕ
-file_of Rdepend = codes "RDEPEND"
-file_of Pdepend = codes "PDEPEND"
-file_of Depend = codes "DEPEND"
-file_of Bdepend = codes "BDEPEND"
-file_of Idepend = codes "IDEPEND"
-
 -- the name of the file
 abbrev pub name_of : Field → List ℕ
 name_of contents = codes "CONTENTS"
@@ -62,7 +54,7 @@ name_of slots = codes "SLOT"
 name_of flags = codes "USE"
 name_of known = codes "IUSE"
 name_of required = codes "REQUIRED_USE"
-name_of (needs class) = file_of class
+name_of (needs class) = class_word class
 
 -- the file must be there
 abbrev pub is_needed : Field → Bool

@@ -8,11 +8,11 @@ use Rattle.basics.proofs.Membership.{has-filter_back}
 use Rattle.dep_group.specs.Tokens.{IsFlag}
 use Rattle.pms_names.specs.Flags.{IsRising, byte_order, has}
 use Rattle.pms_names.proofs.Sets.{one_set}
-use Rattle.pkg_state.specs.Package.{Package, tree_of}
+use Rattle.pkg_state.specs.Package.{Package, tree_of, with_enabled}
 use Rattle.pkg_state.specs.declared.class.Class.{Class}
 use Rattle.pkg_state.specs.declared.class.Class.TheVariants.{Bdepend, Depend, Idepend, Pdepend, Rdepend}
 use Rattle.record_write.specs.Recorded.{AreNamed, IsFlagSet}
-use Rattle.commit_law.specs.Lit.{as_recorded, with_enabled}
+use Rattle.commit_law.specs.Lit.{as_recorded}
 
 -- it needs what the package needs
 pub same_tree : (p : Package) (class : Class) → tree_of class (as_recorded p) ≡ tree_of class p

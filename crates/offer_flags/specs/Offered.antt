@@ -2,20 +2,11 @@
 use Rattle.std.specs.Prelude.{◌≡◌, ℕ, Bool, false, true, List, [], ◌∷◌}
 use Rattle.std.specs.List.{AllZip}
 use Rattle.candidate_flags.specs.Variants.{Setting}
-use Rattle.dep_atom.specs.declared.package.Facts.{Facts}
 use Rattle.md5_cache.specs.Entries.{Entry}
-use Rattle.pkg_state.specs.Package.{Package}
+use Rattle.pkg_state.specs.Package.{Package, with_enabled}
 use Rattle.pms_names.specs.Flags.{IsRising, has}
 use Rattle.offer_flags.specs.Flags.{FlagConfigValue, settings_of}
 use Rattle.offer_flags.specs.declared.candidate.Candidate.{Candidate}
-
--- the facts with just these flags on
-abbrev pub with_flags : List (List ℕ) → Facts → Facts
-with_flags on facts = record facts { enabled = on }
-
--- the package with just these flags on
-abbrev pub with_enabled : List (List ℕ) → Package → Package
-with_enabled on p = record p { facts = with_flags on p.facts }
 
 -- the package with just the flags of the setting on
 pub record HasOn (p : Package) (setting : Setting) (q : Package) : Type 0 where

@@ -1,14 +1,13 @@
 ghost use Rattle.std.specs.Prelude.{◌≡◌, IfOk};
 ghost use Rattle.std.specs.List.{AllZip};
 ghost use Rattle.pms_names.specs.Flags.{has};
-ghost use Rattle.offer_flags.specs.Offered.{HasOn, IsOffered, with_enabled, with_flags};
+ghost use Rattle.offer_flags.specs.Offered.{HasOn, IsOffered};
 
 use crate::candidate::Candidate;
 use crate::choosing::settings_of;
 use crate::config::FlagConfig;
-use dep_atom::Facts;
 use md5_cache::CacheEntry;
-use pkg_state::{Pkg, copy_facts};
+use pkg_state::{Pkg, package_with};
 use pms_names::Flags;
 use std::alloc::{AllocError, Global};
 
@@ -25,7 +24,7 @@ pub fn offer(
     let settings = settings_of(alloc, config, entry, flips)?;
     let variants = variants_with(alloc, pkg, &settings)?;
     let implicit = implicit_of(config)?;
-    let offered = with_enabled(pkg, implicit)?;
+    let offered = package_with(pkg, implicit)?;
     Ok(Candidate { offered, variants })
 }
 
@@ -57,36 +56,5 @@ fn variant_with(pkg: &Pkg, on: &Flags) -> Result<Pkg, AllocError>
     ensures { IfOk result (HasOn pkg.now (has on.now)) }
 {
     let _in_order = on.list();
-    with_enabled(pkg, on.try_clone()?)
-}
-
-/// The package with just these flags on.
-fn with_enabled(pkg: &Pkg, on: Flags) -> Result<Pkg, AllocError>
-    ensures { IfOk result (λ q. q ≡ with_enabled on pkg.now) }
-{
-    let rdepend = pkg.rdepend.try_clone()?;
-    let pdepend = pkg.pdepend.try_clone()?;
-    let depend = pkg.depend.try_clone()?;
-    let bdepend = pkg.bdepend.try_clone()?;
-    let idepend = pkg.idepend.try_clone()?;
-    let required_use = pkg.required_use.try_clone()?;
-    let facts = facts_with(&pkg.facts, on)?;
-    Ok(Pkg {
-        facts,
-        eapi: pkg.eapi,
-        rdepend,
-        pdepend,
-        depend,
-        bdepend,
-        idepend,
-        required_use,
-    })
-}
-
-fn facts_with(facts: &Facts, enabled: Flags) -> Result<Facts, AllocError>
-    ensures { IfOk result (λ copy. copy ≡ with_flags enabled facts.now) }
-{
-    let mut copy = copy_facts(facts)?;
-    copy.enabled = enabled;
-    Ok(copy)
+    package_with(pkg, on.try_clone()?)
 }

@@ -19,6 +19,14 @@ pub record Package : Type 0 where
   pub idepend : Dependencies
   pub required : Expressions
 
+-- the facts with just these flags on
+abbrev pub with_flags : List (List ℕ) → Facts → Facts
+with_flags on facts = record facts { enabled = on }
+
+-- the package with just these flags on
+abbrev pub with_enabled : List (List ℕ) → Package → Package
+with_enabled on p = record p { facts = with_flags on p.facts }
+
 -- what the package needs in a class
 abbrev pub tree_of : Class → Package → Dependencies
 tree_of Rdepend p = p.rdepend
@@ -26,6 +34,14 @@ tree_of Pdepend p = p.pdepend
 tree_of Depend p = p.depend
 tree_of Bdepend p = p.bdepend
 tree_of Idepend p = p.idepend
+
+-- the name of the variable that says what a package needs in a class (PMS 8.1)
+abbrev pub class_word : Class → List ℕ
+class_word Rdepend = codes "RDEPEND"
+class_word Pdepend = codes "PDEPEND"
+class_word Depend = codes "DEPEND"
+class_word Bdepend = codes "BDEPEND"
+class_word Idepend = codes "IDEPEND"
 
 -- a line is a name and a slot; it is told and ordered by the text `category/package:slot`
 abbrev pub line_text : Name → List ℕ → List ℕ

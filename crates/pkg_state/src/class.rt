@@ -1,3 +1,6 @@
+ghost use Rattle.std.specs.Prelude.{◌≡◌};
+ghost use Rattle.pkg_state.specs.Package.{class_word};
+
 /// When a package needs what a tree of dependencies names (PMS 8.1).
 #[derive(Clone, Copy, Debug)]
 pub enum Class {
@@ -11,6 +14,21 @@ pub enum Class {
     Bdepend,
     /// While it is merged or unmerged.
     Idepend,
+}
+
+impl Class {
+    /// The name of the variable that says what a package needs.
+    pub fn word(self) -> &'static str
+        ensures { result.now ≡ class_word self }
+    {
+        match self {
+            Class::Rdepend => "RDEPEND",
+            Class::Pdepend => "PDEPEND",
+            Class::Depend => "DEPEND",
+            Class::Bdepend => "BDEPEND",
+            Class::Idepend => "IDEPEND",
+        }
+    }
 }
 
 /// The edition of the package manager standard that a package is written for.

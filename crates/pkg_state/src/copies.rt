@@ -1,7 +1,9 @@
 ghost use Rattle.std.specs.Prelude.{◌≡◌, IfOk};
+ghost use Rattle.pkg_state.specs.Package.{with_enabled, with_flags};
 
 use crate::package::Pkg;
 use dep_atom::Facts;
+use pms_names::Flags;
 use std::alloc::AllocError;
 
 /// The same facts, in memory of their own.
@@ -22,11 +24,19 @@ pub fn copy_facts(facts: &Facts) -> Result<Facts, AllocError>
     })
 }
 
-/// The same package, in memory of its own.
-pub fn copy_package(pkg: &Pkg) -> Result<Pkg, AllocError>
-    ensures { IfOk result (λ copy. copy ≡ pkg.now) }
+/// The same facts, but with just these flags on.
+pub fn facts_with(facts: &Facts, on: Flags) -> Result<Facts, AllocError>
+    ensures { IfOk result (λ copy. copy ≡ with_flags on facts.now) }
 {
-    let facts = copy_facts(&pkg.facts)?;
+    let mut copy = copy_facts(facts)?;
+    copy.enabled = on;
+    Ok(copy)
+}
+
+/// The same package, but for its facts.
+fn with_facts(pkg: &Pkg, facts: Facts) -> Result<Pkg, AllocError>
+    ensures { IfOk result (λ copy. copy ≡ record pkg.now { facts = facts }) }
+{
     let rdepend = pkg.rdepend.try_clone()?;
     let pdepend = pkg.pdepend.try_clone()?;
     let depend = pkg.depend.try_clone()?;
@@ -43,4 +53,20 @@ pub fn copy_package(pkg: &Pkg) -> Result<Pkg, AllocError>
         idepend,
         required_use,
     })
+}
+
+/// The same package, in memory of its own.
+pub fn copy_package(pkg: &Pkg) -> Result<Pkg, AllocError>
+    ensures { IfOk result (λ copy. copy ≡ pkg.now) }
+{
+    let facts = copy_facts(&pkg.facts)?;
+    with_facts(pkg, facts)
+}
+
+/// The same package, but with just these flags on.
+pub fn package_with(pkg: &Pkg, on: Flags) -> Result<Pkg, AllocError>
+    ensures { IfOk result (λ copy. copy ≡ with_enabled on pkg.now) }
+{
+    let facts = facts_with(&pkg.facts, on)?;
+    with_facts(pkg, facts)
 }

@@ -35,7 +35,7 @@ pub use around::by_own_name;
 pub use broken::Broken;
 pub use by_text::ByText;
 pub use class::{Class, Eapi};
-pub use copies::{copy_facts, copy_package};
+pub use copies::{copy_facts, copy_package, facts_with, package_with};
 pub use judging::consistent;
 pub use laws::{one_fault, one_state};
 pub use leaf::copy_leaf;

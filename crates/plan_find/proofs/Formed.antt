@@ -7,7 +7,7 @@ use Rattle.basics.proofs.Membership.{has-filter_back, has-map_back}
 use Rattle.dep_group.specs.Tokens.{IsInForm}
 use Rattle.dep_tree.specs.Grammar as dependencies
 use Rattle.file_tree.specs.Disk.{Map}
-use Rattle.pkg_state.specs.Package.{Package, tree_of}
+use Rattle.pkg_state.specs.Package.{Package, tree_of, with_enabled}
 use Rattle.pkg_state.specs.declared.class.Class.{Class}
 use Rattle.pkg_state.specs.declared.class.Class.TheVariants.{Bdepend, Depend, Idepend, Pdepend, Rdepend}
 use Rattle.md5_cache.specs.Entries.{Entry, TellsNeeds}
@@ -16,7 +16,7 @@ use Rattle.candidate_set.specs.Candidates.{IsVerdict, visible_of}
 use Rattle.candidate_set.specs.declared.rules.VisibleRules.{VisibleRules}
 use Rattle.candidate_set.specs.declared.verdict.Verdict.{Verdict}
 use Rattle.candidate_set.specs.declared.verdict.Verdict.TheVariants as verdicts
-use Rattle.offer_flags.specs.Offered.{IsOffered, has_variant, with_enabled}
+use Rattle.offer_flags.specs.Offered.{IsOffered, has_variant}
 use Rattle.offer_flags.specs.declared.candidate.Candidate.{Candidate}
 use Rattle.offer_read.specs.Offers.{AreOffers}
 use Rattle.offer_read.specs.declared.offers.Hidden.{Hidden}

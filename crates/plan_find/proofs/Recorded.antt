@@ -8,8 +8,8 @@ use Rattle.std.proofs.lemmas.Slice.Eq.{bytes_eq-Decides}
 use Rattle.basics.proofs.Tests.{or-true}
 use Rattle.pms_names.specs.Flags.{IsRising, byte_order, has}
 use Rattle.pms_names.proofs.Sets.{one_set}
-use Rattle.pkg_state.specs.Package.{Package}
-use Rattle.commit_law.specs.Lit.{as_recorded, lit, lit_flags, with_enabled}
+use Rattle.pkg_state.specs.Package.{Package, with_enabled}
+use Rattle.commit_law.specs.Lit.{as_recorded, lit, lit_flags}
 use Rattle.commit_law.proofs.Lit.{set_put}
 use Rattle.plan_link.specs.Laws.{IsLit}
 

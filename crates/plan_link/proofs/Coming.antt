@@ -6,11 +6,11 @@ use Rattle.pms_names.specs.Flags.{IsRising, has}
 use Rattle.dep_atom.specs.declared.package.Facts.{Facts}
 use Rattle.dep_tree.specs.Texts.{Dependencies}
 use Rattle.required_use.specs.Texts.{Expressions}
-use Rattle.pkg_state.specs.Package.{Package}
+use Rattle.pkg_state.specs.Package.{Package, with_flags}
 use Rattle.plan_text.specs.Plans.{AdditionValue}
 use Rattle.plan_link.specs.Entering.{all_entered}
 use Rattle.plan_lives.proofs.Steps.{drop_end}
-use Rattle.plan_link.specs.Offers.{AreOn, ComesAs, IsFirst, Names, with_flags}
+use Rattle.plan_link.specs.Offers.{AreOn, ComesAs, IsFirst, Names}
 
 pub comes : (a : AdditionValue) (p : Package) (on : List (List ℕ)) (f : Facts) (r pd d b i : Dependencies) (q : Expressions) → AreOn a.enabled p.facts.enabled on
     → f ≡ with_flags on p.facts → r ≡ all_entered (has on) a.binds p.rdepend → pd ≡ all_entered (has on) [] p.pdepend → d ≡ all_entered (has on) [] p.depend → b ≡ all_entered (has on) [] p.bdepend → i ≡ all_entered (has on) [] p.idepend → q ≡ p.required

@@ -2,9 +2,8 @@
 use Rattle.std.specs.Prelude.{◌≡◌, ◌⊎◌, ◌||◌, ℕ, true, List, [], ◌∷◌, Option, None, Some}
 use Rattle.basics.specs.Members.{Has}
 use Rattle.pms_names.specs.Flags.{IsRising, has}
-use Rattle.dep_atom.specs.declared.package.Facts.{Facts}
 use Rattle.dep_atom.specs.declared.slot.Bind.{Bind}
-use Rattle.pkg_state.specs.Package.{Package}
+use Rattle.pkg_state.specs.Package.{Package, with_flags}
 use Rattle.plan_text.specs.Plans.{AdditionValue}
 use Rattle.plan_link.specs.Entering.{all_entered}
 
@@ -23,16 +22,6 @@ IsFirst a (p ∷ ps) found = (Names a p × (found ≡ Some p)) ⊎ ((¬ Names a 
 pub record AreOn (text implicit on : List (List ℕ)) : Type 0 where
   pub rising : IsRising on
   pub members : (flag : List ℕ) → has on flag ≡ (has text flag || has implicit flag)
-
-abbrev pub with_flags : List (List ℕ) → Facts → Facts
-with_flags on f =
-    record {
-      id = f.id;
-      slot = f.slot;
-      subslot = f.subslot;
-      iuse = f.iuse;
-      enabled = on;
-    }
 
 -- the package with these flags on, as it enters: in RDEPEND its slot operators are bound by these
 -- binds, and in the other classes by none

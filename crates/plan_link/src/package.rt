@@ -1,22 +1,12 @@
-ghost use Rattle.std.specs.Prelude.{◌≡◌, IfOk};
+ghost use Rattle.std.specs.Prelude.{IfOk};
 ghost use Rattle.plan_text.specs.Plans.{addition_value};
-ghost use Rattle.plan_link.specs.Offers.{ComesAs, with_flags};
+ghost use Rattle.plan_link.specs.Offers.{ComesAs};
 
 use crate::entering::{closed_tree, entered_tree};
 use crate::flags::flags_on;
-use dep_atom::Facts;
-use pkg_state::{Pkg, copy_facts};
+use pkg_state::{Pkg, facts_with};
 use plan_text::Addition;
-use pms_names::Flags;
 use std::alloc::{AllocError, Global};
-
-fn facts_with(facts: &Facts, enabled: Flags) -> Result<Facts, AllocError>
-    ensures { IfOk result (λ copy. copy ≡ with_flags enabled facts.now) }
-{
-    let mut copy = copy_facts(facts)?;
-    copy.enabled = enabled;
-    Ok(copy)
-}
 
 /// The offered package as it enters with the addition.
 pub(crate) fn entering(alloc: Global, addition: &Addition, pkg: &Pkg) -> Result<Pkg, AllocError>

@@ -7,18 +7,9 @@ use Rattle.dep_atom.specs.declared.package.PackageId.{PackageId}
 use Rattle.dep_atom.specs.declared.slot.Bind.{Bind}
 use Rattle.pkg_state.specs.Fault.{Fault}
 use Rattle.pkg_state.specs.Fault as state
-use Rattle.pkg_state.specs.declared.class.Class.{Class}
-use Rattle.pkg_state.specs.declared.class.Class.TheVariants.{Bdepend, Depend, Idepend, Pdepend, Rdepend}
+use Rattle.pkg_state.specs.Package.{class_word}
 use Rattle.plan_check.specs.Refusals.{Refusal, Absent, Barred, Binding, Blocked, Build, Final, Line, Occupied, Opening, RequiredUse, Unsafe, Unsatisfied}
 use Rattle.plan_text.specs.Words.{slots_word}
-
--- the class, as its variable is named
-abbrev pub class_word : Class → List ℕ
-class_word Rdepend = codes "RDEPEND"
-class_word Pdepend = codes "PDEPEND"
-class_word Depend = codes "DEPEND"
-class_word Bdepend = codes "BDEPEND"
-class_word Idepend = codes "IDEPEND"
 
 -- a leaf, or `-` where none is named
 abbrev pub leaf_word : Option AtomValue → List ℕ

@@ -5,9 +5,10 @@ ghost use Rattle.std.specs.Option.{option_map};
 ghost use Rattle.dep_atom.specs.Ids.{id_text};
 ghost use Rattle.dep_atom.specs.Values.{atom_value};
 ghost use Rattle.pkg_state.specs.Fault as state;
+ghost use Rattle.pkg_state.specs.Package.{class_word};
 ghost use Rattle.plan_check.specs.Refusals.{told};
 ghost use Rattle.plan_text.specs.Printed.{spaced};
-ghost use Rattle.plan_words.specs.Words.{broken_id, class_word, found_word, leaf_word};
+ghost use Rattle.plan_words.specs.Words.{broken_id, found_word, leaf_word};
 ghost use Rattle.plan_words.specs.Words.{refusal_words};
 
 use crate::words::{

@@ -3,8 +3,9 @@ ghost use Rattle.std.specs.List.{flat_map};
 ghost use Rattle.std.specs.Option.{option_map};
 ghost use Rattle.dep_atom.specs.Ids.{id_text};
 ghost use Rattle.dep_atom.specs.Values.{atom_value};
+ghost use Rattle.pkg_state.specs.Package.{class_word};
 ghost use Rattle.plan_text.specs.Printed.{spaced};
-ghost use Rattle.plan_words.specs.Words.{class_word, found_word, leaf_word};
+ghost use Rattle.plan_words.specs.Words.{found_word, leaf_word};
 
 use dep_atom::{Atom, Bind, PackageId};
 use itoa::Buffer;
@@ -49,13 +50,7 @@ pub(crate) fn push_class(out: &mut String, class: Class) -> Result<(), AllocErro
     ensures { OnOk result (string_bytes out.new ≡
         string_bytes out.old ++ spaced (class_word class)) }
 {
-    match class {
-        Class::Rdepend => push_word(out, "RDEPEND"),
-        Class::Pdepend => push_word(out, "PDEPEND"),
-        Class::Depend => push_word(out, "DEPEND"),
-        Class::Bdepend => push_word(out, "BDEPEND"),
-        Class::Idepend => push_word(out, "IDEPEND"),
-    }
+    push_word(out, class.word())
 }
 
 pub(crate) fn push_leaf(

@@ -1,5 +1,5 @@
 ghost use Rattle.std.specs.Prelude.{◌≡◌};
-ghost use Rattle.database_law.specs.Fields.{file_of, name_of};
+ghost use Rattle.database_law.specs.Fields.{name_of};
 ghost use Rattle.record_read.specs.Views.{field_of};
 
 use pkg_state::Class;
@@ -29,19 +29,7 @@ impl RecordFile {
             RecordFile::Use => "USE",
             RecordFile::Iuse => "IUSE",
             RecordFile::RequiredUse => "REQUIRED_USE",
-            RecordFile::Needs(class) => class_name(class),
+            RecordFile::Needs(class) => class.word(),
         }
-    }
-}
-
-fn class_name(class: Class) -> &'static str
-    ensures { result.now ≡ file_of class }
-{
-    match class {
-        Class::Rdepend => "RDEPEND",
-        Class::Pdepend => "PDEPEND",
-        Class::Depend => "DEPEND",
-        Class::Bdepend => "BDEPEND",
-        Class::Idepend => "IDEPEND",
     }
 }

@@ -1,7 +1,6 @@
 use Rattle.std.proofs.Common.{◌≡◌, ◌∙◌, ◌&&◌, ℕ, List, ap, subst}
 use Rattle.pms_names.specs.Flags.{IsRising, has}
-use Rattle.pkg_state.specs.Package.{Package}
-use Rattle.commit_law.specs.Lit.{with_enabled}
+use Rattle.pkg_state.specs.Package.{Package, with_enabled}
 use Rattle.exchange_make.proofs.Kept.{recorded_with}
 use Rattle.exchange_make.proofs.files.as_recorded.Goals as goal
 

@@ -1,10 +1,10 @@
 use Rattle.std.proofs.Common.{◌∙◌, List, ap, subst, ℕ}
 use Rattle.std.specs.List.{AllZip}
 use Rattle.candidate_flags.specs.Variants.{Setting}
-use Rattle.pkg_state.specs.Package.{Package}
+use Rattle.pkg_state.specs.Package.{Package, with_enabled}
 use Rattle.pms_names.specs.Flags.{has}
 use Rattle.offer_flags.specs.Flags.{settings_of}
-use Rattle.offer_flags.specs.Offered.{HasOn, with_enabled}
+use Rattle.offer_flags.specs.Offered.{HasOn}
 use Rattle.offer_flags.proofs.Each.{zip_mapped}
 use Rattle.offer_flags.proofs.offering.offer.Goals as goal
 

@@ -4,7 +4,8 @@ use Rattle.std.specs.Option.{option_map}
 use Rattle.std.proofs.lemmas.Result.{on_ok_weaker}
 use Rattle.dep_atom.specs.Ids.{id_text}
 use Rattle.dep_atom.specs.Values.{atom_value}
-use Rattle.plan_words.specs.Words.{class_word, leaf_word}
+use Rattle.pkg_state.specs.Package.{class_word}
+use Rattle.plan_words.specs.Words.{leaf_word}
 use Rattle.plan_words.proofs.Joined.{more_words}
 use Rattle.plan_words.proofs.refusal.push_need.Goals as goal
 
