@@ -31,16 +31,8 @@ fn put_on<T: Tree>(tree: &mut T, place: &Path, object: &Object) -> Result<bool, 
     }
 }
 
-fn add_placement(list: &mut Vec<Placement>, item: Placement)
-    requires { vec_len list.old < vec_capacity list.old }
-    ensures { list.new.items ≡ list.old.items ++ item ∷ [] }
-{
-    if list.push(item).is_err() {
-        unreachable!();
-    }
-}
-
-fn add_object(list: &mut Vec<Snapshot<Object>>, item: Snapshot<Object>)
+/// Puts the item at the end of the list, which has room for it.
+fn add<T: Drop>(list: &mut Vec<T>, item: T)
     requires { vec_len list.old < vec_capacity list.old }
     ensures { list.new.items ≡ list.old.items ++ item ∷ [] }
 {
@@ -72,8 +64,8 @@ impl Standing {
         let ok = put_on(tree, place, object)?;
         self.stamp = syncs;
         if ok {
-            add_placement(&mut self.placements, placement);
-            add_object(&mut self.objects, Snapshot::of(object));
+            add(&mut self.placements, placement);
+            add(&mut self.objects, Snapshot::of(object));
         }
         Ok(ok)
     }
