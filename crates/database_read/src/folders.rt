@@ -69,11 +69,7 @@ fn in_order(alloc: Global, texts: BTreeSet<Text>) -> Result<Vec<Text>, AllocErro
     ensures items { IfOk result (λ v. v.items ≡ texts.keys) }
     ensures rising { IfOk result (λ v. IsRising v.items) }
 {
-    let mut list = Vec::new(alloc);
-    for text in texts {
-        list.push(text)?;
-    }
-    Ok(list)
+    texts.into_iter().collect(alloc)
 }
 
 /// The category, and the name with the version, of the folder in which a path is.

@@ -128,9 +128,5 @@ impl Tree for HostTree {
 pub fn in_order(alloc: Global, paths: BTreeSet<Path>) -> Result<Vec<Path>, AllocError>
     ensures { IfOk result (λ v. IsStrictlySortedBy (slice_cmp nat_cmp) v.items) }
 {
-    let mut list = Vec::new(alloc);
-    for path in paths {
-        list.push(path)?;
-    }
-    Ok(list)
+    paths.into_iter().collect(alloc)
 }

@@ -54,9 +54,5 @@ pub fn unsigned(text: &str) -> &str
 fn in_order<'a>(alloc: Global, standing: IndexSet<&'a str>) -> Result<Vec<&'a str>, AllocError>
     ensures { IfOk result (λ v. v.items ≡ standing.entry.keys) }
 {
-    let mut items = Vec::new(alloc);
-    for item in standing {
-        items.push(item)?;
-    }
-    Ok(items)
+    standing.into_iter().collect(alloc)
 }

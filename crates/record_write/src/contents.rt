@@ -52,9 +52,5 @@ pub(crate) fn in_order(alloc: Global, owned: &[Owned]) -> Result<Vec<&Owned>, Al
 fn all_of(alloc: Global, owned: &[Owned]) -> Result<Vec<&Owned>, AllocError>
     ensures { IfOk result (λ v. map (λ o. o.now) v.items ≡ owned.now) }
 {
-    let mut all = Vec::with_capacity(alloc, owned.len())?;
-    for one in owned {
-        all.push(one)?;
-    }
-    Ok(all)
+    owned.iter().collect(alloc)
 }

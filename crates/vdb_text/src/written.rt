@@ -35,11 +35,7 @@ fn in_order(alloc: Global, image: &[Entry]) -> Result<Vec<&Entry>, AllocError>
 fn all_of(alloc: Global, image: &[Entry]) -> Result<Vec<&Entry>, AllocError>
     ensures { IfOk result (λ v. map (λ e. e.now) v.items ≡ image.now) }
 {
-    let mut all = Vec::with_capacity(alloc, image.len())?;
-    for entry in image {
-        all.push(entry)?;
-    }
-    Ok(all)
+    image.iter().collect(alloc)
 }
 
 /// Puts the line of an entry behind a text.
