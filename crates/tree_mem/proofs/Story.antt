@@ -1,15 +1,13 @@
 -- One more change in the record is one more state in the story.
 use Rattle.std.specs.Prelude.{bytes_eq, reverse}
-use Rattle.std.proofs.Common.{◌≡◌, ◌∙◌, ℕ, Bool, true, false, cond, not, List, [], ◌∷◌, ◌++◌, Option, sym, refl, ap}
+use Rattle.std.proofs.Common.{◌≡◌, ◌∙◌, ℕ, Bool, true, false, cond, List, [], ◌∷◌, ◌++◌, Option, sym, refl, ap}
 use Rattle.std.proofs.lemmas.List.{reverse-append}
-use Rattle.std.proofs.lemmas.Map.Text.{is_eq-slice_cmp}
-use Rattle.std.specs.BTreeMap.{is_at}
 use Rattle.basics.proofs.Texts.{same_text}
 use Rattle.file_tree.specs.Thing.{Thing}
 use Rattle.file_tree.specs.Disk.{Map, Disk, Story, next, settled, with_path, write}
 use Rattle.tree_mem.specs.declared.record.Change.{Change}
 use Rattle.tree_mem.specs.declared.record.Change.TheVariants.{Wrote, Touched}
-use Rattle.tree_mem.specs.Items.{Item, held, path_cmp}
+use Rattle.tree_mem.specs.Items.{Item, held}
 use Rattle.tree_mem.specs.Record.{disk_of, earlier, is_among, story_of, undo}
 use Rattle.tree_mem.proofs.Held.{cond-twice}
 
@@ -39,13 +37,13 @@ disk-equal : {h k : Map} {t u : List ℕ → Bool} → h ≡ k → t ≡ u → (
 disk-equal a b = λ i. record { holds = a i; touched = b i }
 
 -- one more touched path
-noted : (old new : List (List ℕ)) (p : List ℕ) → ((q : List ℕ) → is_among new q ≡ cond (is_at (path_cmp p) q) true (is_among old q)) → is_among new ≡ (λ q. cond (bytes_eq p q) true (is_among old q))
-noted old new p h = λ i q. (h q ∙ ap (λ (b : Bool). cond b true (is_among old q)) (is_eq-slice_cmp p q)) i
+noted : (old new : List (List ℕ)) (p : List ℕ) → ((q : List ℕ) → is_among new q ≡ cond (bytes_eq p q) true (is_among old q)) → is_among new ≡ (λ q. cond (bytes_eq p q) true (is_among old q))
+noted old new p h = λ i q. h q i
 
 pub story_of-wrote :
     (es fs : List Item) (old new : List (List ℕ)) (cs : List Change) (p : List ℕ) (x before : Option Thing) (was : Bool)
     → held fs ≡ with_path (held es) p x
-    → ((q : List ℕ) → is_among new q ≡ cond (is_at (path_cmp p) q) true (is_among old q))
+    → ((q : List ℕ) → is_among new q ≡ cond (bytes_eq p q) true (is_among old q))
     → before ≡ held es p
     → was ≡ is_among old p
     → story_of (disk_of fs new) (cs ++ Wrote p before was ∷ []) ≡ next (story_of (disk_of es old) cs) (write (disk_of es old) p x)
@@ -59,7 +57,7 @@ story_of-wrote es fs old new cs p x before was h t b w =
 
 pub story_of-touched :
     (es : List Item) (old new : List (List ℕ)) (cs : List Change) (p : List ℕ) (was : Bool)
-    → ((q : List ℕ) → is_among new q ≡ cond (is_at (path_cmp p) q) true (is_among old q))
+    → ((q : List ℕ) → is_among new q ≡ cond (bytes_eq p q) true (is_among old q))
     → was ≡ is_among old p
     → story_of (disk_of es new) (cs ++ Touched p was ∷ []) ≡ next (story_of (disk_of es old) cs) (write (disk_of es old) p (held es p))
 story_of-touched es old new cs p was t w =
@@ -74,8 +72,3 @@ story_of-touched es old new cs p was t w =
 pub story_of-synced : (es : List Item) (old : List (List ℕ)) (cs : List Change) (new : List (List ℕ)) (c : Change) → undo c (settled (disk_of es old)) ≡ disk_of es old → new ≡ [] → story_of (disk_of es new) (cs ++ c ∷ []) ≡ next (story_of (disk_of es old) cs) (settled (disk_of es old))
 story_of-synced es old cs new c u e =
     ap (λ (names : List (List ℕ)). story_of (disk_of es names) (cs ++ c ∷ [])) e ∙ story_of-push (disk_of es old) (settled (disk_of es old)) cs c u
-
--- what an insert says of a path that was touched before
-pub not-added : (added before : Bool) → added ≡ not before → not added ≡ before
-not-added added true e = ap not e
-not-added added false e = ap not e

@@ -1,3 +1,4 @@
+use file_tree::Failed;
 use std::alloc::{AllocError, Global};
 use std::collections::BTreeSet;
 
@@ -12,7 +13,8 @@ pub struct Calls {
 }
 
 impl Calls {
-    ghost use Rattle.std.specs.Prelude.{◌≡◌, ◌≤◌, ◌||◌, ◌==◌, ℕ, false, nat_le, OnErr, OnOk};
+    ghost use Rattle.std.specs.Prelude.{◌≡◌, ◌≤◌, ◌||◌, ◌==◌, ℕ, false, is_err, nat_le};
+    ghost use Rattle.std.specs.Prelude.{OnErr, OnOk};
     ghost use Rattle.file_tree.specs.Disk.{Rose};
     ghost use Rattle.tree_mem.specs.Calls.{call_fails, counts_of, one_more};
 
@@ -74,6 +76,22 @@ impl Calls {
             None => false,
         };
         self.listed.contains(&self.made) || stopped
+    }
+
+    /// Counts a call, which fails where it is to fail.
+    pub fn enter(&mut self) -> Result<(), Failed>
+        ensures answer { is_err result ≡ call_fails self.old (one_more self.old.made) }
+        ensures ok { OnOk result (self.new ≡ record self.old { made = one_more self.old.made }) }
+        ensures err { OnErr result (self.new ≡ record self.old
+            { made = one_more self.old.made; faults = one_more self.old.faults }) }
+        ensures grows { self.old.faults ≤ self.new.faults }
+        ensures rose { OnErr result (Rose self.old.faults self.new.faults) }
+    {
+        if self.begin() {
+            self.fail();
+            return Err(Failed);
+        }
+        Ok(())
     }
 
     /// The call failed.

@@ -1,5 +1,7 @@
-ghost use Rattle.std.specs.Prelude.{◌≡◌, ◌<◌, ◌++◌, ◌∷◌, [], vec_capacity, vec_len};
+ghost use Rattle.std.specs.Prelude.{◌≡◌, ◌<◌, ◌++◌, ◌∷◌, ℕ, List, [], true, IfOk, OnErr, OnOk};
+ghost use Rattle.std.specs.Prelude.{bytes_eq, vec_capacity, vec_len, if◌then◌else◌};
 ghost use Rattle.tree_mem.specs.Items.{IsRising, IsRising-prop};
+ghost use Rattle.tree_mem.specs.Record.{is_among};
 
 use crate::fault::ImageFault;
 use crate::record::Change;
@@ -26,6 +28,27 @@ fn note(changes: &mut Vec<Change>, change: Change)
     ensures { changes.new.items ≡ changes.old.items ++ change ∷ [] }
 {
     changes.push(change).unwrap()
+}
+
+/// Makes room for one more change, and touches the path. Tells the path, and whether it was touched
+/// before.
+fn begin_change(
+    changes: &mut Vec<Change>,
+    touched: &mut BTreeSet<Path>,
+    path: &Path,
+) -> Result<(Path, bool), AllocError>
+    ensures room { OnOk result (vec_len changes.new < vec_capacity changes.new) }
+    ensures same { changes.new.items ≡ changes.old.items }
+    ensures path { IfOk result (λ told. told.0 ≡ path.now) }
+    ensures was { IfOk result (λ told. told.1 ≡ is_among touched.old.keys path.now) }
+    ensures touched { OnOk result ((q : List ℕ) → is_among touched.new.keys q ≡
+        (if bytes_eq path.now q then true else is_among touched.old.keys q)) }
+    ensures err { OnErr result (touched.new.keys ≡ touched.old.keys) }
+{
+    changes.reserve(1)?;
+    let told = path.try_clone()?;
+    let is_new = touched.insert(path.try_clone()?)?;
+    Ok((told, !is_new))
 }
 
 impl MemDisk {
@@ -120,18 +143,11 @@ impl MemDisk {
             with_write (disk_story self.old) path.now (Some object)) }
         ensures err { OnErr result (disk_story self.new ≡ disk_story self.old) }
     {
-        self.changes.reserve(1)?;
         self.objects.reserve(1)?;
         let kept = path.try_clone()?;
-        let noted = path.try_clone()?;
-        let is_new = self.touched.insert(path.try_clone()?)?;
+        let (path, was) = begin_change(&mut self.changes, &mut self.touched, path)?;
         let old = items::store(&mut self.objects, kept, object);
-        let change = Change::Wrote {
-            path: noted,
-            old,
-            was: !is_new,
-        };
-        note(&mut self.changes, change);
+        note(&mut self.changes, Change::Wrote { path, old, was });
         Ok(())
     }
 
@@ -141,16 +157,9 @@ impl MemDisk {
             with_write (disk_story self.old) path.now None) }
         ensures err { OnErr result (disk_story self.new ≡ disk_story self.old) }
     {
-        self.changes.reserve(1)?;
-        let noted = path.try_clone()?;
-        let is_new = self.touched.insert(path.try_clone()?)?;
-        let old = items::clear(&mut self.objects, path);
-        let change = Change::Wrote {
-            path: noted,
-            old,
-            was: !is_new,
-        };
-        note(&mut self.changes, change);
+        let (path, was) = begin_change(&mut self.changes, &mut self.touched, path)?;
+        let old = items::clear(&mut self.objects, &path);
+        note(&mut self.changes, Change::Wrote { path, old, was });
         Ok(())
     }
 
@@ -159,14 +168,8 @@ impl MemDisk {
         ensures ok { OnOk result (disk_story self.new ≡ with_touch (disk_story self.old) path.now) }
         ensures err { OnErr result (disk_story self.new ≡ disk_story self.old) }
     {
-        self.changes.reserve(1)?;
-        let noted = path.try_clone()?;
-        let is_new = self.touched.insert(path.try_clone()?)?;
-        let change = Change::Touched {
-            path: noted,
-            was: !is_new,
-        };
-        note(&mut self.changes, change);
+        let (path, was) = begin_change(&mut self.changes, &mut self.touched, path)?;
+        note(&mut self.changes, Change::Touched { path, was });
         Ok(())
     }
 

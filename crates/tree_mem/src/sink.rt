@@ -76,10 +76,7 @@ impl Sink for MemSink {
         ensures faults { CountsFault (IsErr result) (sink_fault_count self.old)
             (sink_fault_count self.new) }
     {
-        if self.calls.begin() {
-            self.calls.fail();
-            return Err(Failed);
-        }
+        self.calls.enter()?;
         match self.bytes.extend_from_slice(bytes) {
             Ok(()) => Ok(()),
             Err(_) => {

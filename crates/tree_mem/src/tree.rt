@@ -169,10 +169,7 @@ impl Tree for MemTree {
         ensures syncs { mem_syncs self.new ≡ mem_syncs self.old }
         ensures faults { CountsFault (IsErr result) (fault_count self.old) (fault_count self.new) }
     {
-        if self.calls.begin() {
-            self.calls.fail();
-            return Err(Failed);
-        }
+        self.calls.enter()?;
         match self.disk.look(path) {
             Ok(look) => Ok(look),
             Err(_) => {
@@ -192,10 +189,7 @@ impl Tree for MemTree {
         ensures faults { CountsFault (IsErrOf result TreeFault.Failed) (fault_count self.old)
             (fault_count self.new) }
     {
-        if self.calls.begin() {
-            self.calls.fail();
-            return Err(TreeFault::Failed);
-        }
+        self.calls.enter()?;
         let object = self.disk.read(path)?;
         Ok(object)
     }
@@ -211,10 +205,7 @@ impl Tree for MemTree {
         ensures faults { CountsFault (IsErrOf result TreeFault.Failed) (fault_count self.old)
             (fault_count self.new) }
     {
-        if self.calls.begin() {
-            self.calls.fail();
-            return Err(TreeFault::Failed);
-        }
+        self.calls.enter()?;
         let paths = self.disk.list(below)?;
         Ok(paths)
     }
@@ -299,10 +290,7 @@ impl Tree for MemTree {
         ensures syncs { CountsSync (is_ok result) self.old self.new }
         ensures faults { CountsFault (IsErr result) (fault_count self.old) (fault_count self.new) }
     {
-        if self.calls.begin() {
-            self.calls.fail();
-            return Err(Failed);
-        }
+        self.calls.enter()?;
         match self.disk.settle() {
             Ok(()) => {
                 self.syncs = self.syncs.saturating_add(1);

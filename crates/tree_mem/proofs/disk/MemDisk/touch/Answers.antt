@@ -1,19 +1,14 @@
-use Rattle.std.proofs.Common.{◌≡◌, ◌∙◌, ℕ, cond, not, true, List, [], ◌∷◌, ◌++◌, ap}
-use Rattle.std.specs.BTreeMap.{is_at}
+use Rattle.std.proofs.Common.{◌≡◌, ◌∙◌, List, [], ◌∷◌, ◌++◌, ap}
 use Rattle.tree_mem.specs.declared.record.Change.{Change}
 use Rattle.tree_mem.specs.declared.record.Change.TheVariants.{Touched}
-use Rattle.tree_mem.specs.Items.{path_cmp}
-use Rattle.tree_mem.specs.Record.{disk_of, is_among, story_of}
-use Rattle.tree_mem.proofs.Story.{not-added, story_of-touched}
+use Rattle.tree_mem.specs.Record.{disk_of, story_of}
+use Rattle.tree_mem.proofs.Story.{story_of-touched}
 use Rattle.tree_mem.proofs.disk.MemDisk.touch.Goals as goal
 
 pub returns-clause-ok : goal.returns-clause-ok
 returns-clause-ok c =
     let old = c.args.self.now in
-    let key = c.in_ok-try_clone.ensures in
-    let adds : (q : List ℕ) → is_among c.insert.new.self.keys q ≡ cond (is_at (path_cmp c.args.path.now) q) true (is_among old.touched.keys q)
-    = rw key at c.in_ok-is_new.ensures.updates.0 in
-    let was : not c.in_ok-is_new.is_new ≡ is_among old.touched.keys c.args.path.now = not-added _ _ (rw key at c.in_ok-is_new.ensures.added) in
-    let changes : c.note.new.changes.items ≡ old.changes.items ++ Touched c.args.path.now (not c.in_ok-is_new.is_new) ∷ [] = rw (c.in_ok-reserve.ensures.items, c.in_ok-noted.ensures) at c.note.ensures in
-    ap (λ (cs : List Change). story_of (disk_of old.objects.items c.insert.new.self.keys) cs) changes
-    ∙ story_of-touched old.objects.items old.touched.keys c.insert.new.self.keys old.changes.items c.args.path.now (not c.in_ok-is_new.is_new) adds was
+    let told = c.in_ok-path.ensures in
+    let changes : c.note.new.changes.items ≡ old.changes.items ++ Touched c.args.path.now c.in_ok-path.was' ∷ [] = rw (told.same, told.path) at c.note.ensures in
+    ap (λ (cs : List Change). story_of (disk_of old.objects.items c.begin_change.new.touched.keys) cs) changes
+    ∙ story_of-touched old.objects.items old.touched.keys c.begin_change.new.touched.keys old.changes.items c.args.path.now c.in_ok-path.was' told.touched told.was
