@@ -7,6 +7,7 @@ ghost use Rattle.host_side.specs.Words.{order_words};
 
 use crate::faults::{Faults, is_memory};
 use crate::folder::Folder;
+use crate::programs;
 use crate::tree::in_order;
 use build_pool::{BuildStop, Builder, Order};
 use dep_atom::PackageId;
@@ -186,12 +187,7 @@ fn add_word(command: &mut Command, word: &str) -> Result<(), AllocError>
 fn run_program(rt: &HostRuntime, program: &str, order: &Order) -> io::Result<()> {
     let mut command = command_for(rt.alloc(), program, order)?;
     command.stdin(Stdio::null()).stdout(rt.stderr());
-    let status = command.status(rt)?;
-    if status.success() {
-        Ok(())
-    } else {
-        Err(io::Error::other("the program failed"))
-    }
+    programs::run(rt, &mut command, "the program failed")
 }
 
 impl Builder for CommandBuilder {

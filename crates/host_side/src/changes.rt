@@ -1,3 +1,4 @@
+use crate::programs;
 use basics::Text;
 use std::alloc::{AllocError, Global};
 use std::collections::BTreeSet;
@@ -62,12 +63,7 @@ impl Changes {
 fn sync_host(rt: &HostRuntime) -> io::Result<()> {
     let mut command = Command::new(rt.alloc(), "sync")?;
     command.stdin(Stdio::null()).stdout(Stdio::null());
-    let status = command.status(rt)?;
-    if status.success() {
-        Ok(())
-    } else {
-        Err(io::Error::other("the program sync failed"))
-    }
+    programs::run(rt, &mut command, "the program sync failed")
 }
 
 fn sync_folders(rt: &HostRuntime, folders: &BTreeSet<Text>) -> io::Result<()> {

@@ -28,6 +28,7 @@ mod changes;
 mod faults;
 mod folder;
 mod open;
+mod programs;
 mod sink;
 mod spare;
 mod tree;
