@@ -64,10 +64,6 @@ fn with_group(
     } = draft;
     if let Some(group) = current {
         groups.push(group)?;
-        return Ok(Draft {
-            groups,
-            current: Some(bare(alloc)),
-        });
     }
     Ok(Draft {
         groups,
@@ -123,82 +119,47 @@ fn bare(alloc: Global) -> Group
     }
 }
 
-fn with_after(group: Group, after: Vec<u32>) -> Group
+fn with_after(mut group: Group, after: Vec<u32>) -> Group
     requires bare { FitsGroup places.Group (group_value group) }
     requires some { 0 < length after.items }
     ensures lines { GrowsBy (group_value group) (group_value result)
         (line_of kinds.After after.items) }
     ensures fits { FitsGroup places.After (group_value result) }
 {
-    let Group {
-        removals,
-        additions,
-        ..
-    } = group;
-    Group {
-        after,
-        removals,
-        additions,
-    }
+    group.after = after;
+    group
 }
 
-fn with_removal(group: Group, removal: Removal) -> Result<Group, AllocError>
+fn with_removal(mut group: Group, removal: Removal) -> Result<Group, AllocError>
     requires { (group_value group).additions ≡ [] }
     ensures lines { IfOk result (λ g. GrowsBy (group_value group) (group_value g)
         (remove_line removal)) }
     ensures fits { IfOk result (λ g. FitsGroup places.Removals (group_value g)) }
 {
-    let Group {
-        after,
-        mut removals,
-        additions,
-    } = group;
-    removals.push(removal)?;
-    Ok(Group {
-        after,
-        removals,
-        additions,
-    })
+    group.removals.push(removal)?;
+    Ok(group)
 }
 
-fn with_addition(group: Group, addition: Addition) -> Result<Group, AllocError>
+fn with_addition(mut group: Group, addition: Addition) -> Result<Group, AllocError>
     requires { addition.binds.items ≡ [] }
     ensures lines { IfOk result (λ g. GrowsBy (group_value group) (group_value g)
         (line_of kinds.Add (addition_value addition))) }
     ensures fits { IfOk result (λ g. FitsGroup places.Additions (group_value g)) }
 {
-    let Group {
-        after,
-        removals,
-        mut additions,
-    } = group;
-    additions.push(addition)?;
-    Ok(Group {
-        after,
-        removals,
-        additions,
-    })
+    group.additions.push(addition)?;
+    Ok(group)
 }
 
-fn with_bind(group: Group, bind: Bind) -> Result<Group, AllocError>
+fn with_bind(mut group: Group, bind: Bind) -> Result<Group, AllocError>
     requires { FitsGroup places.Additions (group_value group) }
     ensures lines { IfOk result (λ g. GrowsBy (group_value group) (group_value g)
         (line_of kinds.Bind bind)) }
     ensures fits { IfOk result (λ g. FitsGroup places.Additions (group_value g)) }
 {
-    let Group {
-        after,
-        removals,
-        mut additions,
-    } = group;
-    let Some(mut last) = additions.pop() else {
+    let Some(mut last) = group.additions.pop() else {
         unreachable!()
     };
     last.binds.push(bind)?;
-    additions.push(last)?;
-    Ok(Group {
-        after,
-        removals,
-        additions,
-    })
+    group.additions.push(last)?;
+    Ok(group)
 }
