@@ -43,4 +43,5 @@ mod words;
 pub use fault::PlanTextFault;
 pub use laws::one_plan;
 pub use plan::{Addition, Group, Plan, Removal};
+pub use print::push_flags;
 pub use standing::MOST_GROUPS;

@@ -117,7 +117,8 @@ fn push_entry(out: &mut String, alloc: Global, addition: &Addition) -> Result<()
     out.push_str("\n")
 }
 
-fn push_flags(out: &mut String, flags: &[Flag]) -> Result<(), AllocError>
+/// Puts each of the flags behind the text, with a space before it.
+pub fn push_flags(out: &mut String, flags: &[Flag]) -> Result<(), AllocError>
     ensures { OnOk result (string_bytes out.new ≡
         string_bytes out.old ++ flat_map spaced flags.now) }
 {

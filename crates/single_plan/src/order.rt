@@ -1,7 +1,6 @@
-ghost use Rattle.std.specs.Prelude.{◌≡◌, ◌++◌, IfOk, OnOk, map, string_bytes};
-ghost use Rattle.std.specs.List.{AllByRecursion, flat_map};
+ghost use Rattle.std.specs.Prelude.{◌≡◌, IfOk, map, string_bytes};
+ghost use Rattle.std.specs.List.{AllByRecursion};
 ghost use Rattle.basics.specs.Members.{AreDistinct};
-ghost use Rattle.plan_text.specs.Printed.{spaced};
 ghost use Rattle.single_plan.specs.Lined.{IsLined, line_begun};
 ghost use Rattle.single_plan.specs.Order.{AreInTextOrder, text_of};
 ghost use Rattle.single_plan.specs.declared.change.Change.TheVariants as changes;
@@ -9,7 +8,7 @@ ghost use Rattle.single_plan.specs.declared.change.Change.TheVariants as changes
 use crate::change::Change;
 use crate::flags::enabled_of;
 use pkg_state::Pkg;
-use pms_names::Flag;
+use plan_text::push_flags;
 use std::alloc::{AllocError, Global};
 
 /// A package with its line in the text of a plan.
@@ -31,17 +30,6 @@ fn begun(alloc: Global, head: &str, pkg: &Pkg) -> Result<String, AllocError>
     text.push_str(":")?;
     text.push_str(pkg.facts.slot.text())?;
     Ok(text)
-}
-
-fn push_flags(text: &mut String, flags: &[Flag]) -> Result<(), AllocError>
-    ensures { OnOk result (string_bytes text.new ≡
-        string_bytes text.old ++ flat_map spaced flags.now) }
-{
-    for flag in flags {
-        text.push_str(" ")?;
-        text.push_str(flag.text())?;
-    }
-    Ok(())
 }
 
 fn removal_text(alloc: Global, pkg: &Pkg) -> Result<String, AllocError>
