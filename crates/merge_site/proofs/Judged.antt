@@ -2,7 +2,7 @@
 use Rattle.std.proofs.Common.{◌≡◌, ◌<◌, ◌+◌, ◌++◌, ◌∷◌, ◌∙◌, ℕ, zero, suc, true, false, List, [], Option, Some, None, Result, Ok, Err, Vec, ap, refl, subst, sym, length, length-append, map, get_or, MatchOption, arith}
 use Rattle.std.specs.Prelude.{IfErr, IsErrOf, OnErr, OnOk, is_err, is_ok, option_to_list, replicate, slice_index_or, slice_set}
 use Rattle.std.specs.Global.{Global}
-use Rattle.std.proofs.lemmas.List.{get_or-set_same, map-set}
+use Rattle.std.proofs.lemmas.List.{get_or-set_same, length-map, map-set}
 use Rattle.owner_book.specs.Book.{Book, ChangesClaim, HasOwnersOf, owner_in, path_of}
 use Rattle.owner_book.specs.Removing.{AreRemovable}
 use Rattle.owner_book.specs.Rules.{is_dying}
@@ -12,13 +12,19 @@ use Rattle.owner_book.specs.declared.fault.ClaimFault.TheVariants as claims
 use Rattle.owner_book.specs.declared.fault.Collision.TheVariants as collisions
 use Rattle.owner_book.specs.declared.wish.Wish.{Wish}
 use Rattle.merge_record.specs.declared.record.OwnerKey.{OwnerKey}
-use Rattle.merge_site.specs.Booking.{lists_of, wishes_at, with_wish}
+use Rattle.merge_core.specs.Core.{standing_in}
+use Rattle.merge_core.specs.Keeping.{Keeping}
+use Rattle.merge_core.specs.Payloads.{IsAt}
+use Rattle.merge_core.specs.declared.phase.Phase.TheVariants as phases
+use Rattle.merge_site.specs.Booking.{dying_at, dying_of, lists_of, wishes_at, with_wish}
 use Rattle.file_tree.specs.Disk.{Map}
 use Rattle.file_tree.specs.declared.fault.TreeFault.TheVariants as trees
 use Rattle.merge_site.specs.Claiming.{IsTakenIn, Stops, StopsAt, record_paths}
 use Rattle.merge_site.specs.Stopping.{EarlyStops, LateStops, stop_of}
 use Rattle.merge_site.specs.declared.fault.ClaimStop.{ClaimStop}
 use Rattle.merge_site.specs.declared.fault.ClaimStop.TheVariants as stops
+use Rattle.merge_site.specs.declared.group.SiteGroup.{SiteGroup}
+use Rattle.merge_site.proofs.Reading.{got}
 
 pub path_at : (ws : List Wish) (i : ℕ) (w : Wish) → i < length ws → w ≡ get_or ws i w → path_of w ≡ get_or (map path_of ws) i (path_of w)
 path_at [] i w lt is = absurd (omega (arith, lt))
@@ -118,6 +124,25 @@ pub list_at : (vs : List (Vec (Wish) Global)) (g : ℕ) (v : Vec (Wish) Global) 
 list_at [] g v lt is = absurd (omega (arith, lt))
 list_at (x ∷ vs) zero v lt is = ap (λ (y : Vec (Wish) Global). y.items) (sym is)
 list_at (x ∷ vs) (suc g) v lt is = list_at vs g v (omega (arith, lt)) is
+
+-- the three lists that a claim is judged by are those of its group
+pub record AreOfGroup (k : Keeping) (ws : List (List Wish)) (gs : List SiteGroup) (g : ℕ) (d : List OwnerKey) (w : List Wish) (r : List (List ℕ)) : Type 0 where
+  pub dying : d ≡ dying_at gs g
+  pub wishes : w ≡ wishes_at ws g
+  pub removals : r ≡ (standing_in k.standings g).removals
+
+pub lists_are : (k : Keeping) (vs : List (Vec (Wish) Global)) (gs : List SiteGroup) (g : ℕ) (v : Vec (Wish) Global) (x : SiteGroup) (d : List OwnerKey) (w : List Wish) (r : List (List ℕ)) → IsAt k g phases.Sealed
+    → length (lists_of vs) ≡ length k.standings → length gs ≡ length k.standings → v ≡ slice_index_or vs g v → w ≡ v.items → x ≡ slice_index_or gs g x → d ≡ x.dying.items → r ≡ (standing_in k.standings g).removals → AreOfGroup k (lists_of vs) gs g d w r
+lists_are k vs gs g v x d w r at rows all wishes lent group dying removals = record {
+  dying = dying ∙ sym (ap dying_of (got gs g x (omega (arith, at.running.0, all)) group));
+  wishes = lent ∙ sym (list_at vs g v (omega (arith, at.running.0, rows, length-map vs (λ (y : Vec (Wish) Global). y.items))) wishes);
+  removals = removals;
+}
+
+-- so what is said of them is said of the group's
+pub said_of_group : (P : List OwnerKey → List Wish → List (List ℕ) → Type 0) (k : Keeping) (ws : List (List Wish)) (gs : List SiteGroup) (g : ℕ) (d : List OwnerKey) (w : List Wish) (r : List (List ℕ))
+    → AreOfGroup k ws gs g d w r → P d w r → P (dying_at gs g) (wishes_at ws g) (standing_in k.standings g).removals
+said_of_group P k ws gs g d w r are h = said P d _ w _ r _ are.dying are.wishes are.removals h
 
 pub wish_added : (vs : List (Vec (Wish) Global)) (g : ℕ) (v v' : Vec (Wish) Global) (w : Wish) → g < length vs → v ≡ slice_index_or vs g v → v'.items ≡ v.items ++ w ∷ [] → lists_of (slice_set vs g v') ≡ with_wish (lists_of vs) g w
 wish_added vs g v v' w lt is more =
