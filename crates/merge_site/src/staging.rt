@@ -1,12 +1,13 @@
-ghost use Rattle.std.specs.Prelude.{◌≡◌, ◌<◌, ◌≤◌, true, false, Some, IfErr, IsErrOf, IsTrue};
-ghost use Rattle.std.specs.Prelude.{OnErr, OnOk, length, slice_get};
+ghost use Rattle.std.specs.Prelude.{◌≡◌, ◌<◌, ◌≤◌, true, false, List, Some, IfErr, IsErrOf};
+ghost use Rattle.std.specs.Prelude.{IsTrue, OnErr, OnOk, length, slice_get};
 ghost use Rattle.file_tree.specs.Disk.{CountsFault};
 ghost use Rattle.merge_core.specs.Event.{PutStage};
 ghost use Rattle.merge_core.specs.Payloads.{IsAt};
-ghost use Rattle.merge_site.specs.Booking.{wish_for, with_wish};
+ghost use Rattle.merge_site.specs.Booking.{lists_of, wish_for, with_wish};
 ghost use Rattle.merge_site.specs.Site.{Adds, KeepsHistory, Payload};
 ghost use Rattle.merge_site.specs.Staging.{HasMore, HasPast, IsStageFault, MayStage};
 ghost use Rattle.merge_site.specs.Staging.{placement_of};
+ghost use Rattle.owner_book.specs.declared.wish.Wish.{Wish};
 
 use crate::fault::StageFault;
 use crate::job::Job;
@@ -16,6 +17,7 @@ use file_tree::{Entry, Object, Path, Sink, Tree, TreeFault};
 use image_fit::{bad_by, is_good};
 use merge_core::Phase;
 use merge_record::{MOST_GROUP_PATHS, OwnerKey, Placement, digest_of};
+use owner_book::Wish;
 use std::alloc::{AllocError, Global};
 
 /// How a record tells the object that a path is to hold.
@@ -38,6 +40,17 @@ fn make_place(jobs: &mut Vec<Job>, alloc: Global, group: u32, index: u32) -> Res
     ensures more { HasMore jobs.old.items jobs.new.items }
 {
     jobs[group as usize].make_stage(alloc, index)
+}
+
+/// Takes the last wish of a group away, whose stage isn't put for this fault.
+fn unstaged(wishes: &mut Vec<Vec<Wish>>, group: u32, fault: TreeFault) -> Result<(), StageFault>
+    requires { group < length wishes.old.items }
+    ensures fault { IsErrOf result (StageFault.Tree fault) }
+    ensures wishes { (ws : List (List Wish)) (w : Wish) → group < length ws →
+        lists_of wishes.old.items ≡ with_wish ws group w → lists_of wishes.new.items ≡ ws }
+{
+    drop_wish(wishes, group);
+    Err(StageFault::Tree(fault))
 }
 
 impl<T: Tree, S: Sink> Site<T, S> {
@@ -97,14 +110,8 @@ impl<T: Tree, S: Sink> Site<T, S> {
         );
         match answer {
             Ok(true) => Ok(()),
-            Ok(false) => {
-                drop_wish(&mut self.wishes, group);
-                Err(StageFault::Tree(TreeFault::Failed))
-            }
-            Err(_) => {
-                drop_wish(&mut self.wishes, group);
-                Err(StageFault::Tree(TreeFault::Memory))
-            }
+            Ok(false) => unstaged(&mut self.wishes, group, TreeFault::Failed),
+            Err(_) => unstaged(&mut self.wishes, group, TreeFault::Memory),
         }
     }
 }

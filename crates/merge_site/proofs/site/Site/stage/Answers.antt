@@ -83,7 +83,7 @@ invariant_of-self-in-Ok-false g c =
     let booked = c.self.invariant.1 in
     let lt = subst (λ (n : ℕ). c.args.group < n) (sym booked.rows) at.running.0 in
     let added = made_then c.add_wish.result _ (sym c.is_err-2.ensures.value ∙ c.if-is_err-2.false) c.add_wish.ensures.ok in
-    let dropped = c.drop_wish.ensures (lists_of c.self.inside.wishes.items) _ lt added in (
+    let dropped = c.unstaged.ensures.wishes (lists_of c.self.inside.wishes.items) _ lt added in (
       kept_by g.T.Tree.tells k c.enter_stage-answer.new.core c.self.inside.log.items c.enter_stage-answer.new.log.items xs c.self.inside.jobs.items jobs
           (g.T.Tree.story c.self.inside.opened.value) (g.T.Tree.story c.self.inside.tree) (g.T.Tree.story c.enter_stage-answer.new.tree) c.self.inside.mark (PutStage c.args.group p o) ok c.self.invariant.0
           (inl at.running.1) said.admitted said.performs said.machine said.log
