@@ -1,17 +1,18 @@
 ghost use Rattle.std.specs.Prelude.{◌↔◌, IfOk, IsTrue, [], length};
-ghost use Rattle.plan_law.specs.Lives.{IsPast, Precedes};
+ghost use Rattle.plan_law.specs.Lives.{IsPast};
 ghost use Rattle.plan_lives.specs.Chains.{AreJoined, AreParted};
 ghost use Rattle.plan_lives.specs.IsReach.{IsReach};
-ghost use Rattle.plan_lives.specs.Lives.{lives_of, moment_of};
-ghost use Rattle.plan_lives.specs.Stretches.{AreWithin, IsStretchWithin, IsWithin, stretch_value};
+ghost use Rattle.plan_lives.specs.Lives.{lives_of};
+ghost use Rattle.plan_lives.specs.Stretches.{AreWithin, IsStretchWithin, stretch_value};
 
 use crate::life::{Life, Moment};
 use crate::reach::Reach;
-use crate::stretch::{Stretch, precedes};
+use crate::stretch::Stretch;
 use std::alloc::{AllocError, Global};
 
-/// Moves the lives that are there before the stretch begins to those that wait, and gives the others.
-fn take_first<'a>(
+/// Moves the lives that are there before the stretch begins to those that wait, and gives the
+/// others.
+fn take_past<'a>(
     alloc: Global,
     reach: &Reach<'_>,
     fits: &[Life<'a>],
@@ -36,32 +37,6 @@ fn take_first<'a>(
     Ok(others)
 }
 
-/// Moves the lives that are there before the moment to those that wait, and gives the others.
-fn take_next<'a>(
-    alloc: Global,
-    reach: &Reach<'_>,
-    rest: &[Life<'a>],
-    moment: Moment,
-    waiting: &mut Vec<Life<'a>>,
-) -> Result<Vec<Life<'a>>, AllocError>
-    requires is { IsReach reach.now }
-    requires moment { IsWithin (length reach.now.groups.now) (moment_of moment) }
-    requires within { AreWithin (length reach.now.groups.now) (lives_of rest.now) }
-    ensures { IfOk result (λ others.
-        AreParted (λ m. Precedes reach.now.groups.now m (moment_of moment)) (lives_of rest.now) []
-        (lives_of others.items) (lives_of waiting.old.items) (lives_of waiting.new.items)) }
-{
-    let mut others = Vec::new(alloc);
-    for x in rest {
-        if precedes(reach, x.birth, moment) {
-            waiting.push(*x)?;
-        } else {
-            others.push(*x)?;
-        }
-    }
-    Ok(others)
-}
-
 /// Whether some of the lives lead all through the stretch, each there before the one before it goes.
 /// Each life waits at most once, and those that are left are gone through for each that waits.
 pub(crate) fn are_joined<'a>(
@@ -77,12 +52,16 @@ pub(crate) fn are_joined<'a>(
         AreJoined reach.now.groups.now (lives_of fits.now) (stretch_value stretch.now)) }
 {
     let mut waiting = Vec::new(alloc);
-    let mut rest = take_first(alloc, reach, fits, stretch, &mut waiting)?;
+    let mut rest = take_past(alloc, reach, fits, stretch, &mut waiting)?;
     while let Some(x) = waiting.pop() {
         if stretch.is_ahead(reach, x.death) {
             return Ok(true);
         }
-        rest = take_next(alloc, reach, &rest, x.death, &mut waiting)?;
+        let behind = Stretch::WhileThere {
+            birth: x.death,
+            death: Moment::Never,
+        };
+        rest = take_past(alloc, reach, &rest, &behind, &mut waiting)?;
     }
     Ok(false)
 }

@@ -57,7 +57,7 @@ pub use keeping::{barring_blocks, running_blocks, some_matches};
 pub use life::{Life, Moment};
 pub use lives::lives_of;
 pub use meetings::meeting;
-pub use packages::Packages;
+pub use packages::{Packages, by_own_name};
 pub use plan::{Group, Plan, Removal};
 pub use reach::Reach;
 pub use standing::stands_before;

@@ -1,4 +1,4 @@
-ghost use Rattle.std.specs.Prelude.{◌≡◌, IfOk, filter, map};
+ghost use Rattle.std.specs.Prelude.{◌≡◌, IfOk, map};
 ghost use Rattle.pkg_state.specs.Consistent.{facts_of};
 ghost use Rattle.pkg_state.specs.Index.{AreNamed};
 ghost use Rattle.plan_lives.specs.Lives.{lives_of};
@@ -31,7 +31,11 @@ fn left_among<'a>(alloc: Global, lives: &[Life<'a>]) -> Result<Vec<&'a Pkg>, All
     Ok(left)
 }
 
-fn by_own_name<'a>(alloc: Global, packages: &[&'a Pkg]) -> Result<ByText<'a, &'a Pkg>, AllocError>
+/// The packages under their own names.
+pub fn by_own_name<'a>(
+    alloc: Global,
+    packages: &[&'a Pkg],
+) -> Result<ByText<'a, &'a Pkg>, AllocError>
     ensures { IfOk result (λ named. AreNamed (map (λ p. p.now) packages.now) named.lists) }
 {
     let mut named = ByText::new(alloc);

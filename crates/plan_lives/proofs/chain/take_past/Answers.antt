@@ -5,8 +5,8 @@ use Rattle.plan_law.specs.Lives.{IsPast}
 use Rattle.plan_lives.specs.Lives.{life_of, lives_of}
 use Rattle.plan_lives.specs.Stretches.{stretch_value}
 use Rattle.plan_lives.proofs.Joining.{begun, left_behind, moved}
-use Rattle.plan_lives.proofs.chain.take_first.Goals as goal
-use Rattle.plan_lives.proofs.chain.take_first.Goals.{then-is_past+in_ok-push, else-is_past+in_ok-push-2}
+use Rattle.plan_lives.proofs.chain.take_past.Goals as goal
+use Rattle.plan_lives.proofs.chain.take_past.Goals.{then-is_past+in_ok-push, else-is_past+in_ok-push-2}
 
 pub is_past-requires-clause-moment : goal.is_past-requires-clause-moment
 is_past-requires-clause-moment c =
