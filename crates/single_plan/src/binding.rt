@@ -11,7 +11,7 @@ ghost use Rattle.single_plan.specs.Binds.{written_slot};
 use dep_atom::{Atom, Bind, SlotPart};
 use pkg_state::{ByText, Pkg};
 use plan_link::asking_leaves;
-use plan_lives::greater;
+use plan_lives::{by_own_name, greater};
 use pms_names::{Flags, SlotName};
 use std::alloc::{AllocError, Global};
 
@@ -23,21 +23,11 @@ pub(crate) struct Beside<'a> {
     ghost are_named: { AreNamed (map (λ p. p.now) packages.now) named.lists },
 }
 
-fn by_name<'a>(alloc: Global, packages: &[&'a Pkg]) -> Result<ByText<'a, &'a Pkg>, AllocError>
-    ensures { IfOk result (λ named. AreNamed (map (λ p. p.now) packages.now) named.lists) }
-{
-    let mut named = ByText::new(alloc);
-    for &package in packages {
-        named.add(alloc, package.facts.id.name.package.text(), package)?;
-    }
-    Ok(named)
-}
-
 impl<'a> Beside<'a> {
     pub(crate) fn new(alloc: Global, packages: &'a [&'a Pkg]) -> Result<Beside<'a>, AllocError>
         ensures { IfOk result (λ beside. beside.packages.now ≡ packages.now) }
     {
-        let named = by_name(alloc, packages)?;
+        let named = by_own_name(alloc, packages)?;
         Ok(Beside { packages, named })
     }
 }
