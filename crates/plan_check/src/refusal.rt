@@ -1,5 +1,8 @@
+ghost use Rattle.std.specs.Prelude.{◌≡◌, IfOk};
+ghost use Rattle.plan_check.specs.declared.refusal.PlanRefused.TheVariants.{Occupied};
+
 use dep_atom::{Atom, Bind, PackageId};
-use pkg_state::{Broken, Class, LineName};
+use pkg_state::{Broken, Class, LineName, Pkg};
 use std::alloc::{AllocError, AllocFailed};
 use thiserror::Error;
 
@@ -101,4 +104,17 @@ impl<T: Drop> From<AllocFailed<T>> for PlanRefused {
     fn from(_e: AllocFailed<T>) -> PlanRefused {
         PlanRefused::Memory
     }
+}
+
+/// The refusal of a package that another one is in the way of, in the group of this number.
+pub(crate) fn occupied(group: usize, pkg: &Pkg, other: &Pkg) -> Result<PlanRefused, AllocError>
+    ensures { IfOk result (λ e. e ≡ Occupied group pkg.now.facts.id other.now.facts.id) }
+{
+    let package = pkg.facts.id.try_clone()?;
+    let other = other.facts.id.try_clone()?;
+    Ok(PlanRefused::Occupied {
+        group,
+        package,
+        other,
+    })
 }

@@ -1,10 +1,10 @@
-ghost use Rattle.std.specs.Prelude.{◌<◌, length};
+ghost use Rattle.std.specs.Prelude.{◌<◌};
 ghost use Rattle.plan_lives.specs.Form.{IsPlanInForm};
 ghost use Rattle.plan_check.specs.Refusals.{Says};
 ghost use Rattle.plan_check.specs.Rules.{apart_rule, single_rule};
 ghost use Rattle.plan_text.specs.Texts.{most_groups};
 
-use crate::refusal::PlanRefused;
+use crate::refusal::{PlanRefused, occupied};
 use pkg_state::first_twins;
 use plan_lives::Group;
 use std::alloc::Global;
@@ -14,13 +14,7 @@ fn judge_group(alloc: Global, g: usize, group: &Group) -> Result<(), PlanRefused
     ensures { Says (apart_rule g group.now) result }
 {
     if let Some((one, other)) = first_twins(alloc, &group.additions)? {
-        let package = one.facts.id.try_clone()?;
-        let other = other.facts.id.try_clone()?;
-        return Err(PlanRefused::Occupied {
-            group: g + 1,
-            package,
-            other,
-        });
+        return Err(occupied(g + 1, one, other)?);
     }
     Ok(())
 }

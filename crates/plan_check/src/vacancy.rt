@@ -5,7 +5,7 @@ ghost use Rattle.plan_check.specs.Refusals.{Says};
 ghost use Rattle.plan_check.specs.Rules.{IsInTheWay, vacant_of, vacant_rule};
 ghost use Rattle.plan_check.specs.Verdicts.{each};
 
-use crate::refusal::PlanRefused;
+use crate::refusal::{PlanRefused, occupied};
 use pkg_state::Pkg;
 use plan_lives::{Index, Life, is_commit_of, stands_before};
 use std::alloc::Global;
@@ -26,14 +26,7 @@ fn judge_addition(alloc: Global, index: &Index<'_>, g: usize, pkg: &Pkg) -> Resu
     let line = pkg.line(alloc)?;
     for y in index.by_line.get(line.text()) {
         if is_in_the_way(y, g) {
-            let standing = y.pkg;
-            let package = pkg.facts.id.try_clone()?;
-            let other = standing.facts.id.try_clone()?;
-            return Err(PlanRefused::Occupied {
-                group: g + 1,
-                package,
-                other,
-            });
+            return Err(occupied(g + 1, pkg, y.pkg)?);
         }
     }
     Ok(())

@@ -10,7 +10,7 @@ ghost use Rattle.plan_check.specs.Refusals.{Says};
 ghost use Rattle.plan_check.specs.Rules.{AreOneVersion, number_of, versions_of, versions_rule};
 ghost use Rattle.plan_text.specs.Texts.{most_groups};
 
-use crate::refusal::PlanRefused;
+use crate::refusal::{PlanRefused, occupied};
 use pkg_state::Pkg;
 use plan_lives::{Index, Life, Moment, Reach, Stretch};
 use std::alloc::{AllocError, Global};
@@ -83,14 +83,7 @@ fn judge_life(alloc: Global, index: &Index<'_>, x: &Life<'_>) -> Result<(), Plan
     let pkg = x.pkg;
     for y in index.by_name.get(pkg.facts.id.name.package.text()) {
         if are_one_version(alloc, index, x, y)? {
-            let other = y.pkg;
-            let package = pkg.facts.id.try_clone()?;
-            let other = other.facts.id.try_clone()?;
-            return Err(PlanRefused::Occupied {
-                group: number_of(x.birth),
-                package,
-                other,
-            });
+            return Err(occupied(number_of(x.birth), pkg, y.pkg)?);
         }
     }
     Ok(())

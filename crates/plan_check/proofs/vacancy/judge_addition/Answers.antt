@@ -1,5 +1,5 @@
-use Rattle.std.proofs.Common.{◌≡◌, ◌+◌, ◌∙◌, Option, None, Some, ap, sym, arith}
-use Rattle.pkg_state.specs.Package.{Package, line_of}
+use Rattle.std.proofs.Common.{◌≡◌, ◌+◌, ◌∙◌, Option, None, Some, refl, subst, sym, arith}
+use Rattle.pkg_state.specs.Package.{line_of}
 use Rattle.plan_law.specs.Lives as law
 use Rattle.plan_law.specs.Plans.{group_at}
 use Rattle.plan_lives.specs.Index.{all_lives, line_key, plan_of, start_of}
@@ -7,10 +7,11 @@ use Rattle.plan_lives.specs.Lives.{life_of, lives_of}
 use Rattle.plan_lives.proofs.AllLives.{has_lives}
 use Rattle.plan_lives.proofs.Keyed.{in_items, item_at}
 use Rattle.plan_check.specs.Refusals.{Refusal, Refusal as refused}
-use Rattle.plan_check.specs.Rules.{Crowds}
+use Rattle.plan_check.specs.Rules.{Crowds, vacant_of}
 use Rattle.plan_check.specs.Verdicts.{each, refuse}
 use Rattle.plan_check.proofs.InTheWay.{crowds, in_the_way}
 use Rattle.plan_check.proofs.Judged.{at_end, heard_all}
+use Rattle.plan_check.proofs.Told.{Tells}
 use Rattle.plan_check.proofs.Trying.{mapped_next, mapped_refused}
 use Rattle.plan_check.proofs.vacancy.judge_addition.Goals as goal
 
@@ -27,10 +28,9 @@ returns-then-is_in_the_way c =
     let x = life_of c.y-item.result in
     let k = (in_items line_key (all_lives index) index.by_line.lists c.text.result.now items c.requires.is.by_line c.get-y-items.ensures x).0 (item_at items c.loop-y.y-index c.y-item.result (omega arith) c.y-item.is) in
     let crowd = crowds plan start g p x ((has_lives plan start x).0 k.0) (sym k.1 ∙ text) (c.is_in_the_way.ensures.0 c.if-is_in_the_way.true) in
-    let e : c.in_ok-package.package ≡ p.facts.id = c.in_ok-package.ensures ∙ ap (λ (q : Package). q.facts.id) c.pkg.view_is in
-    let f : c.in_ok-other.other ≡ x.package_is.facts.id = c.in_ok-other.ensures ∙ ap (λ (q : Package). q.facts.id) c.standing.view_is in
-    heard_all J line_key (all_lives index) index.by_line.lists c.text.result.now items c.requires.is.by_line c.get-y-items.ensures (λ y off k. off (text ∙ sym k.twin)) (Some (refused.Occupied (g + 1) c.in_ok-package.package c.in_ok-other.other))
-    (mapped_refused life_of items c.loop-y.y-index c.y-item.result J (each (lives_of items) J) (refused.Occupied (g + 1) c.in_ok-package.package c.in_ok-other.other) (omega arith) c.y-item.is c.loop-y.invariant (crowd, λ i. refused.Occupied (g + 1) (e i) (f i)))
+    subst (Tells (vacant_of plan start g p)) (sym c.in_ok-occupied.ensures)
+    (heard_all J line_key (all_lives index) index.by_line.lists c.text.result.now items c.requires.is.by_line c.get-y-items.ensures (λ y off k. off (text ∙ sym k.twin)) (Some (refused.Occupied (g + 1) p.facts.id x.package_is.facts.id))
+    (mapped_refused life_of items c.loop-y.y-index c.y-item.result J (each (lives_of items) J) (refused.Occupied (g + 1) p.facts.id x.package_is.facts.id) (omega arith) c.y-item.is c.loop-y.invariant (crowd, refl)))
 
 pub loop-y-preserved : goal.loop-y-preserved
 loop-y-preserved c =

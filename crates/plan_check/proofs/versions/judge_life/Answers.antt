@@ -1,4 +1,4 @@
-use Rattle.std.proofs.Common.{◌≡◌, ◌∙◌, Option, None, Some, ap, length, arith}
+use Rattle.std.proofs.Common.{◌≡◌, ◌∙◌, Option, None, Some, ap, length, refl, subst, sym, arith}
 use Rattle.dep_atom.specs.declared.package.PackageId.{PackageId}
 use Rattle.pkg_state.specs.Package.{Package}
 use Rattle.plan_law.specs.Lives as law
@@ -9,9 +9,11 @@ use Rattle.plan_lives.proofs.Steps.{within_more}
 use Rattle.plan_lives.proofs.Keyed.{in_items, item_at}
 use Rattle.plan_lives.proofs.Within.{lives_within}
 use Rattle.plan_check.specs.Refusals.{Refusal, Refusal as refused}
-use Rattle.plan_check.specs.Rules.{AreOneVersion, number_of}
+use Rattle.plan_check.specs.Rules.{AreOneVersion, number_of, versions_of}
 use Rattle.plan_check.specs.Verdicts.{each, refuse}
 use Rattle.plan_check.proofs.Judged.{at_end, heard_all}
+use Rattle.plan_check.specs.declared.refusal.PlanRefused.TheVariants.{Occupied}
+use Rattle.plan_check.proofs.Told.{Tells}
 use Rattle.plan_check.proofs.Trying.{mapped_next, mapped_refused}
 use Rattle.plan_check.proofs.versions.judge_life.Goals as goal
 
@@ -35,11 +37,11 @@ returns-then-branch c =
     let J : law.Life → Option Refusal → Type 0 = λ y. refuse (AreOneVersion plan x y) (refused.Occupied (number_of x.birth) x.package_is.facts.id y.package_is.facts.id) in
     let text : c.text.result.now ≡ name_key x = c.text.ensures.text ∙ ap (λ (q : Package). q.facts.id.name.«package») c.pkg.view_is in
     let y = life_of c.y-item.result in
-    let e : c.in_ok-package.package ≡ x.package_is.facts.id = c.in_ok-package.ensures ∙ ap (λ (q : Package). q.facts.id) c.pkg.view_is in
-    let f : c.in_ok-other.other ≡ y.package_is.facts.id = c.in_ok-other.ensures ∙ ap (λ (q : Package). q.facts.id) c.other.view_is in
-    let n = c.number_of.ensures in
-    heard_all J name_key (all_lives index) index.by_name.lists c.text.result.now items c.requires.is.by_name c.get-y-items.ensures (λ z off k. off (text ∙ ap (λ (id : PackageId). id.name.«package») k.same)) (Some (refused.Occupied c.number_of.result c.in_ok-package.package c.in_ok-other.other))
-    (mapped_refused life_of items c.loop-y.y-index c.y-item.result J (each (lives_of items) J) (refused.Occupied c.number_of.result c.in_ok-package.package c.in_ok-other.other) (omega arith) c.y-item.is c.loop-y.invariant (c.in_ok-are_one_version.ensures.0 c.if-branch.true, λ i. refused.Occupied (n i) (e i) (f i)))
+    let number : c.number_of.result ≡ number_of x.birth = c.number_of.ensures in
+    let is : c.in_ok-occupied.field-0 ≡ Occupied (number_of x.birth) x.package_is.facts.id y.package_is.facts.id = c.in_ok-occupied.ensures ∙ ap (λ n. Occupied n x.package_is.facts.id y.package_is.facts.id) number in
+    subst (Tells (versions_of plan (start_of index) x)) (sym is)
+    (heard_all J name_key (all_lives index) index.by_name.lists c.text.result.now items c.requires.is.by_name c.get-y-items.ensures (λ z off k. off (text ∙ ap (λ (id : PackageId). id.name.«package») k.same)) (Some (refused.Occupied (number_of x.birth) x.package_is.facts.id y.package_is.facts.id))
+    (mapped_refused life_of items c.loop-y.y-index c.y-item.result J (each (lives_of items) J) (refused.Occupied (number_of x.birth) x.package_is.facts.id y.package_is.facts.id) (omega arith) c.y-item.is c.loop-y.invariant (c.in_ok-are_one_version.ensures.0 c.if-branch.true, refl)))
 
 pub loop-y-preserved : goal.loop-y-preserved
 loop-y-preserved c =
