@@ -40,7 +40,7 @@ mod wish;
 pub use choosing::choose_plan;
 pub use chosen::Chosen;
 pub use fault::NotChosen;
-pub use planning::is_told;
+pub use planning::told_of;
 pub use reason::{NotTaken, Reason};
 pub use reasons::reasons_of;
 pub use wish::Wish;

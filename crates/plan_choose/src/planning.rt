@@ -1,4 +1,5 @@
-ghost use Rattle.std.specs.Prelude.{◌≡◌, ◌≢◌, ◌↔◌, ◌⊎◌, IfErr, IfOk, IsSome, IsTrue, List, Some};
+ghost use Rattle.std.specs.Prelude.{◌≡◌, ◌≢◌, ◌↔◌, ◌⊎◌, IfErr, IfOk, IsSome, IsTrue, List};
+ghost use Rattle.std.specs.Prelude.{MatchOption, Some};
 ghost use Rattle.pkg_state.specs.Fault as state;
 ghost use Rattle.pkg_state.specs.Package.{Package};
 ghost use Rattle.plan_check.specs.Refusals.{told};
@@ -63,8 +64,7 @@ fn is_told_broken(broken: &Broken) -> bool
     }
 }
 
-/// Whether the plan was refused for a rule, and not for want of memory.
-pub fn is_told(refused: &PlanRefused) -> bool
+fn is_told(refused: &PlanRefused) -> bool
     ensures { IsTrue result ↔ IsSome (told refused.now) }
 {
     match refused {
@@ -74,14 +74,25 @@ pub fn is_told(refused: &PlanRefused) -> bool
     }
 }
 
+/// The refusal, where the plan was refused for a rule, and not for want of memory.
+pub fn told_of(refused: PlanRefused) -> Option<PlanRefused>
+    ensures { MatchOption result (¬ IsSome (told refused))
+        (λ r. (r ≡ refused) × IsSome (told refused)) }
+{
+    if is_told(&refused) {
+        return Some(refused);
+    }
+    drop(refused);
+    None
+}
+
 fn of_refused(refused: PlanRefused) -> NotChosen
     ensures { (result ≡ Memory) ⊎ ((result ≡ Refused refused) × IsSome (told refused)) }
 {
-    if is_told(&refused) {
-        return NotChosen::Refused(refused);
+    match told_of(refused) {
+        Some(refused) => NotChosen::Refused(refused),
+        None => NotChosen::Memory,
     }
-    drop(refused);
-    NotChosen::Memory
 }
 
 /// Links the text to the packages that are offered, and checks the plan that it stands for.

@@ -15,7 +15,7 @@ use dep_atom::{Atom, Block, Op, PackageId, SlotPart};
 use pkg_state::Pkg;
 use plan_check as check;
 use plan_check::PlanRefused;
-use plan_choose::{NotTaken, is_told, reasons_of};
+use plan_choose::{NotTaken, reasons_of, told_of};
 use plan_link::{LinkFault, asks_of, link};
 use plan_lives as lives;
 use plan_text::Plan;
@@ -89,11 +89,10 @@ fn linked(
 fn of_refused(refused: PlanRefused) -> Unfiled
     ensures { (result ≡ Memory) ⊎ ((result ≡ Refused refused) × IsSome (told refused)) }
 {
-    if is_told(&refused) {
-        return Unfiled::Refused(refused);
+    match told_of(refused) {
+        Some(refused) => Unfiled::Refused(refused),
+        None => Unfiled::Memory,
     }
-    drop(refused);
-    Unfiled::Memory
 }
 
 /// The plan that the text stands for, checked over the packages that are installed.
