@@ -3,16 +3,21 @@ use Rattle.std.proofs.Common.{◌≡◌, ◌≢◌, ℕ, List, refl, subst}
 use Rattle.std.specs.Prelude.{Vec, ⊤}
 use Rattle.std.specs.Global.{Global}
 use Rattle.database_law.specs.Packages.{Installed}
-use Rattle.plan_text.specs.Plans.{GroupValue}
-use Rattle.plan_choose.specs.Wishes.{WishValue}
+use Rattle.plan_text.specs.Plans.{GroupValue, plan_value}
+use Rattle.plan_choose.specs.Wishes.{WishValue, wish_value}
 use Rattle.plan_choose.specs.declared.fault.NotChosen.{NotChosen}
 use Rattle.plan_choose.specs.declared.fault.NotChosen.TheVariants as choosing
 use Rattle.plan_find.specs.Choices.{Choices, IsUnchosen, hidden_of, installed_of, offered_of}
-use Rattle.plan_find.specs.Ends.{end_of_file, end_with}
+use Rattle.plan_find.specs.Ends.{end_of, end_of_file, end_with}
 use Rattle.plan_find.specs.Filing.{IsUnfiled}
 use Rattle.plan_find.specs.Lacking.{GivesBack, GroupsLack, WishLacks}
+use Rattle.plan_find.specs.Sources.{Ends, IsUnmade}
+use Rattle.plan_find.specs.declared.source.Source.{Source}
+use Rattle.plan_find.specs.declared.source.Source.TheVariants.{Filed, Wished}
 use Rattle.plan_find.specs.declared.unfiled.Unfiled.{Unfiled}
 use Rattle.plan_find.specs.declared.unfiled.Unfiled.TheVariants as filing
+use Rattle.plan_find.specs.declared.unmade.Unmade.{Unmade}
+use Rattle.plan_find.specs.declared.unmade.Unmade.TheVariants as making
 
 -- the fault isn't want of memory
 abbrev IsReason : NotChosen → Type 0
@@ -36,3 +41,11 @@ module _ (k : Choices) (ps : Vec Installed Global) (same : ps.items ≡ k.packag
   of_filing path groups filing.BadFlag is = ((refl, refl, is), tt)
   of_filing path groups (filing.Refused fault) is = (is, same)
   of_filing path groups filing.Memory is = (tt, tt)
+
+  -- what keeps a source from a plan is what its end tells
+  pub of_source : (source : Source) (f : Unmade) → IsUnmade k source f → Ends k source (end_of f ps)
+  of_source (Wished wish) (making.Wished fault) why = of_choice (wish_value wish) fault why
+  of_source (Wished wish) (making.Filed file fault) why = absurd why
+  of_source (Filed path text) (making.Wished fault) why = absurd why
+  of_source (Filed path text) (making.Filed file fault) why =
+      subst (λ (p : List ℕ). GroupsLack k p (plan_value text) (end_of_file fault file ps) × GivesBack k.packages (end_of_file fault file ps)) why.0 (of_filing file (plan_value text) fault why.1)

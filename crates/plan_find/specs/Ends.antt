@@ -13,6 +13,8 @@ use Rattle.plan_find.specs.declared.ends.NoPlan.{NoPlan}
 use Rattle.plan_find.specs.declared.ends.NoPlan.TheVariants.{BacktrackLimit, Limit, NoCandidate, NoSolution, NotPlanned, Offers, Opening, Refused, Text, Tree}
 use Rattle.plan_find.specs.declared.unfiled.Unfiled.{Unfiled}
 use Rattle.plan_find.specs.declared.unfiled.Unfiled.TheVariants as filing
+use Rattle.plan_find.specs.declared.unmade.Unmade.{Unmade}
+use Rattle.plan_find.specs.declared.unmade.Unmade.TheVariants as making
 
 -- the device failed, whichever layer tells it
 abbrev pub IsDeviceFailure : NoPlan → Type 0
@@ -47,3 +49,8 @@ end_of_file (filing.NoCandidate atom reasons) path packages = NoCandidate atom r
 end_of_file filing.BadFlag path packages = Text path 0
 end_of_file (filing.Refused fault) path packages = Refused fault packages
 end_of_file filing.Memory path packages = Tree trees.Memory
+
+-- why no plan is made of a source, over these packages
+abbrev pub end_of : Unmade → Vec Installed Global → NoPlan
+end_of (making.Wished fault) packages = end_with fault packages
+end_of (making.Filed path fault) packages = end_of_file fault path packages

@@ -1,5 +1,5 @@
 -- What a plan is made of, once the tree's files are read.
-use Rattle.std.specs.Prelude.{◌≡◌, ℕ, List, ⊤}
+use Rattle.std.specs.Prelude.{◌≡◌, ◌≢◌, ℕ, List, ⊤}
 use Rattle.file_tree.specs.Disk.{Map}
 use Rattle.pms_names.specs.Flags.{IsRising}
 use Rattle.database_law.specs.Fields.{text_of}
@@ -8,8 +8,10 @@ use Rattle.plan_text.specs.Texts.{IsPlan}
 use Rattle.plan_choose.specs.Plans.{IsGood}
 use Rattle.plan_choose.specs.Wishes.{wish_value}
 use Rattle.plan_choose.specs.declared.chosen.Chosen.{Chosen}
-use Rattle.plan_find.specs.Choices.{Choices, IsChosenOf, installed_of, offered_of, wish_of}
+use Rattle.plan_choose.specs.declared.fault.NotChosen.TheVariants as choosing
+use Rattle.plan_find.specs.Choices.{Choices, IsChosenOf, IsUnchosen, hidden_of, installed_of, offered_of, wish_of}
 use Rattle.plan_find.specs.Files.{FailsAt, HoldsPlan, IsTooLong}
+use Rattle.plan_find.specs.Filing.{IsUnfiled}
 use Rattle.plan_find.specs.Lacking.{GivesBack, GroupsLack, WishLacks}
 use Rattle.plan_find.specs.declared.asked.Aim.{Aim}
 use Rattle.plan_find.specs.declared.asked.Aim.TheVariants.{Atoms, File}
@@ -18,6 +20,8 @@ use Rattle.plan_find.specs.declared.ends.NoPlan.TheVariants.{Limit, Text, Tree}
 use Rattle.plan_find.specs.declared.found.Found.{Found}
 use Rattle.plan_find.specs.declared.source.Source.{Source}
 use Rattle.plan_find.specs.declared.source.Source.TheVariants.{Filed, Wished}
+use Rattle.plan_find.specs.declared.unmade.Unmade.{Unmade}
+use Rattle.plan_find.specs.declared.unmade.Unmade.TheVariants as making
 
 -- the source is what is aimed at: the wish, or the plan that the file has
 abbrev pub IsSource : Map → Aim → Source → Type 0
@@ -50,6 +54,15 @@ abbrev pub IsMadeOf : Choices → Source → Chosen → Type 0
 IsMadeOf k (Wished wish) chosen = IsChosenOf k (wish_value wish) chosen
 IsMadeOf k (Filed path text) chosen = (chosen.text ≡ text)
     × IsGood (installed_of k) (offered_of k) (plan_value text) chosen.plan
+
+-- no plan is made of the source, for this reason; want of memory says nothing
+abbrev pub IsUnmade : Choices → Source → Unmade → Type 0
+IsUnmade k (Wished wish) (making.Wished fault) =
+    fault ≢ choosing.Memory → IsUnchosen k (wish_value wish) fault
+IsUnmade k (Wished wish) (making.Filed file fault) = ⊥
+IsUnmade k (Filed path text) (making.Wished fault) = ⊥
+IsUnmade k (Filed path text) (making.Filed file fault) = (file ≡ path)
+    × IsUnfiled (installed_of k) (offered_of k) (hidden_of k) (plan_value text) fault
 
 -- none is, for this reason
 abbrev pub SourceLacks : Choices → Source → NoPlan → Type 0

@@ -13,16 +13,15 @@ ghost use Rattle.plan_find.specs.Choices.{IsChosenOf, IsUnchosen, bare_of, choic
 ghost use Rattle.plan_find.specs.Choices.{tried_of};
 ghost use Rattle.plan_find.specs.Filing.{IsUnfiled};
 ghost use Rattle.plan_find.specs.Shapes.{IsInShape};
-ghost use Rattle.plan_find.specs.Sources.{Ends, IsFormed, IsMade};
-ghost use Rattle.plan_find.specs.declared.source.Source.TheVariants.{Filed, Wished};
+ghost use Rattle.plan_find.specs.Sources.{Ends, IsFormed, IsMade, IsMadeOf, IsUnmade};
 
-use crate::ends::{NoPlan, end_of_file, end_with};
+use crate::ends::{NoPlan, end_of};
 use crate::filing::judged;
 use crate::found::Found;
 use crate::offered::{Parted, all_lit, not_taken, parts_of};
 use crate::source::Source;
 use crate::unfiled::Unfiled;
-use file_tree::Path;
+use crate::unmade::Unmade;
 use offer_flags::Candidate;
 use offer_read::{Hidden, Offers};
 use opening::Opening;
@@ -50,23 +49,6 @@ pub(crate) fn plan_over(
     ensures refused { IfErr result (Ends (choices_of offers.implicit opening.packages.items
         offers.candidates.items offers.hidden.items) source) }
 {
-    match source {
-        Source::Wished(wish) => wished_over(alloc, opening, offers, wish),
-        Source::Filed { path, text } => filed_over(alloc, opening, offers, path, text),
-    }
-}
-
-/// The plan of a wish.
-fn wished_over(alloc: Global, opening: Opening, offers: Offers, wish: Wish) -> Result<Found, NoPlan>
-    requires { AreConsistent (packages_of offers.implicit opening.packages.items) }
-    ensures found { IfOk result (IsMade (choices_of offers.implicit opening.packages.items
-        offers.candidates.items offers.hidden.items) (Wished wish)) }
-    ensures packages { IfOk result (λ f. f.packages ≡ opening.packages) }
-    ensures book { IfOk result (λ f. f.book ≡ opening.book) }
-    ensures shape { IfOk result (λ f. IsInShape f.chosen) }
-    ensures refused { IfErr result (Ends (choices_of offers.implicit opening.packages.items
-        offers.candidates.items offers.hidden.items) (Wished wish)) }
-{
     let Opening { packages, book } = opening;
     let Offers {
         implicit,
@@ -74,49 +56,14 @@ fn wished_over(alloc: Global, opening: Opening, offers: Offers, wish: Wish) -> R
         hidden,
     } = offers;
     rises(&implicit);
-    match chosen_over(alloc, &packages, &implicit, candidates, hidden, wish) {
+    match made_over(alloc, &packages, &implicit, candidates, hidden, source) {
         Ok(chosen) => Ok(Found {
             packages,
             book,
             implicit,
             chosen,
         }),
-        Err(fault) => Err(end_with(fault, packages)),
-    }
-}
-
-/// The plan that stands in the file at the path.
-fn filed_over(
-    alloc: Global,
-    opening: Opening,
-    offers: Offers,
-    path: Path,
-    text: Plan,
-) -> Result<Found, NoPlan>
-    requires { IsPlan (plan_value text) }
-    ensures found { IfOk result (IsMade (choices_of offers.implicit opening.packages.items
-        offers.candidates.items offers.hidden.items) (Filed path text)) }
-    ensures packages { IfOk result (λ f. f.packages ≡ opening.packages) }
-    ensures book { IfOk result (λ f. f.book ≡ opening.book) }
-    ensures shape { IfOk result (λ f. IsInShape f.chosen) }
-    ensures refused { IfErr result (Ends (choices_of offers.implicit opening.packages.items
-        offers.candidates.items offers.hidden.items) (Filed path text)) }
-{
-    let Opening { packages, book } = opening;
-    let Offers {
-        implicit,
-        candidates,
-        hidden,
-    } = offers;
-    rises(&implicit);
-    match judged_over(alloc, &packages, &implicit, candidates, hidden, text) {
-        Ok(chosen) => Ok(Found {
-            packages,
-            book,
-            implicit,
-            chosen,
-        }),
-        Err(fault) => Err(end_of_file(fault, path, packages)),
+        Err(fault) => Err(end_of(fault, packages)),
     }
 }
 
@@ -125,6 +72,39 @@ fn rises(flags: &Flags)
     ensures { IsRising flags.now }
 {
     flags.list();
+}
+
+/// What is made of the source, over these packages with the implicit flags on.
+fn made_over(
+    alloc: Global,
+    packages: &[Installed],
+    implicit: &Flags,
+    candidates: Vec<Candidate>,
+    hidden: Vec<Hidden>,
+    source: Source,
+) -> Result<Chosen, Unmade>
+    requires consistent { AreConsistent (packages_of implicit.now packages.now) }
+    requires form { IsFormed source }
+    ensures made { IfOk result (IsMadeOf (choices_of implicit.now packages.now candidates.items
+        hidden.items) source) }
+    ensures shape { IfOk result IsInShape }
+    ensures fault { IfErr result (IsUnmade (choices_of implicit.now packages.now candidates.items
+        hidden.items) source) }
+{
+    match source {
+        Source::Wished(wish) => {
+            match chosen_over(alloc, packages, implicit, candidates, hidden, wish) {
+                Ok(chosen) => Ok(chosen),
+                Err(fault) => Err(Unmade::Wished(fault)),
+            }
+        }
+        Source::Filed { path, text } => {
+            match judged_over(alloc, packages, implicit, candidates, hidden, text) {
+                Ok(chosen) => Ok(chosen),
+                Err(fault) => Err(Unmade::Filed { path, fault }),
+            }
+        }
+    }
 }
 
 /// What is chosen of the candidates, over these packages with the implicit flags on.

@@ -1,7 +1,8 @@
 ghost use Rattle.std.specs.Prelude.{◌≡◌};
-ghost use Rattle.plan_find.specs.Ends.{end_of_file, end_with, unplanned};
+ghost use Rattle.plan_find.specs.Ends.{end_of, end_of_file, end_with, unplanned};
 
 use crate::unfiled::Unfiled;
+use crate::unmade::Unmade;
 use choice_tree::Choice;
 use dep_atom::Atom;
 use file_tree::{Path, TreeFault};
@@ -97,8 +98,18 @@ impl From<TreeFault> for NoPlan {
     }
 }
 
-/// The end of a run that chooses nothing over these packages.
-pub(crate) fn end_with(fault: NotChosen, packages: Vec<Installed>) -> NoPlan
+/// The end of a run that makes no plan over these packages.
+pub(crate) fn end_of(fault: Unmade, packages: Vec<Installed>) -> NoPlan
+    ensures { result ≡ end_of fault packages }
+{
+    match fault {
+        Unmade::Wished(fault) => end_with(fault, packages),
+        Unmade::Filed { path, fault } => end_of_file(fault, path, packages),
+    }
+}
+
+/// The same where nothing is chosen.
+fn end_with(fault: NotChosen, packages: Vec<Installed>) -> NoPlan
     ensures { result ≡ end_with fault packages }
 {
     match fault {
@@ -113,7 +124,7 @@ pub(crate) fn end_with(fault: NotChosen, packages: Vec<Installed>) -> NoPlan
     }
 }
 
-/// The same for a fault of the plan, and for want of memory.
+/// The same for a fault of the chosen plan, and for want of memory.
 fn unplanned(fault: NotChosen, packages: Vec<Installed>) -> NoPlan
     ensures { result ≡ unplanned fault packages }
 {
@@ -126,8 +137,8 @@ fn unplanned(fault: NotChosen, packages: Vec<Installed>) -> NoPlan
     }
 }
 
-/// The end of a run whose file makes no plan over these packages.
-pub(crate) fn end_of_file(fault: Unfiled, path: Path, packages: Vec<Installed>) -> NoPlan
+/// The same for the plan that stands in a file.
+fn end_of_file(fault: Unfiled, path: Path, packages: Vec<Installed>) -> NoPlan
     ensures { result ≡ end_of_file fault path packages }
 {
     match fault {

@@ -39,6 +39,7 @@ mod laws;
 mod offered;
 mod source;
 mod unfiled;
+mod unmade;
 
 pub use asked::{Aim, Asked, asked_of};
 pub use ends::NoPlan;
