@@ -1,5 +1,5 @@
 -- What may be chosen on lines that aren't decided, and in which order.
-use Rattle.std.specs.Prelude.{ℕ, suc, Bool, true, List, [], ◌∷◌, ◌++◌, Option, None, Some, get_or, length, if◌then◌else◌}
+use Rattle.std.specs.Prelude.{ℕ, suc, Bool, true, List, [], ◌∷◌, ◌++◌, Option, None, Some, get_or, length, nat_lt, if◌then◌else◌}
 use Rattle.std.specs.List.{flat_map}
 use Rattle.std.specs.Ordering.{is_gt, ordering_then}
 use Rattle.std.specs.declared.cmp.Ordering.{Ordering}
@@ -39,6 +39,18 @@ if_free (Some v) xs = []
 abbrev pub free_line : Bool → List Place → ℕ → List Candidate
 free_line keeps ss l =
     if_free (get_or ss l no_place).decided (of_line keeps l (get_or ss l no_place).offer)
+
+-- what is offered there, only while nothing is decided
+abbrev pub offer_if_free : Option Value → Offer → Option Offer
+offer_if_free None o = Some o
+offer_if_free (Some v) o = None
+
+-- what is offered on a line, if there is such a line and nothing is decided of it
+abbrev pub free_offer : List Place → ℕ → Option Offer
+free_offer ss l =
+    if nat_lt l (length ss)
+    then offer_if_free (get_or ss l no_place).decided (get_or ss l no_place).offer
+    else None
 
 -- of all lines, in their order
 abbrev pub all_free : List Place → List Candidate

@@ -2,7 +2,7 @@ use crate::value::Value;
 use pkg_state::Pkg;
 
 /// A package that a line may have, and the value that means it.
-#[derive(Drop)]
+#[derive(Clone, Copy)]
 pub(crate) struct Candidate<'a> {
     pub(crate) line: usize,
     pub(crate) value: Value,

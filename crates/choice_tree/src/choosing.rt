@@ -10,16 +10,17 @@ ghost use Rattle.choice_tree.specs.Open.{obligation_of};
 ghost use Rattle.choice_tree.specs.Options.{beside, decisions, in_order, needs, others, ousting};
 ghost use Rattle.choice_tree.specs.Options.{leaving, served, serving};
 ghost use Rattle.choice_tree.specs.Places.{no_place, package_in};
-ghost use Rattle.choice_tree.specs.Seen.{place_of, places_of};
-ghost use Rattle.choice_tree.specs.Views.{decisions_of};
+ghost use Rattle.choice_tree.specs.Seen.{places_of};
+ghost use Rattle.choice_tree.specs.Views.{decisions_of, offer_of};
 
 use crate::around::Around;
 use crate::filtering::{harmless, matching, ousting};
-use crate::gathering::{free_of, push_free, push_line};
+use crate::gathering::{free_of, free_offer, push_free, push_line};
 use crate::obligation::Obligation;
 use crate::place::Place;
 use crate::ranking::push_in_order;
 use crate::repeats::once;
+use crate::universe::Offer;
 use crate::value::{Decision, Value};
 use dep_atom::Atom;
 use dep_tree::is_block;
@@ -37,24 +38,20 @@ fn push_others(
     ensures { OnOk result (decisions_of out.new.items ≡
         decisions_of out.old.items ++ others update (places_of places.now) line) }
 {
-    if line >= places.len() {
+    let Some(offer) = free_offer(places, line) else {
         return Ok(());
-    }
-    let place = &places[line];
-    if place.decided.is_some() {
-        return Ok(());
-    }
+    };
     let mut candidates = Vec::new(alloc);
-    push_line(false, line, place.offer, &mut candidates)?;
+    push_line(false, line, offer, &mut candidates)?;
     push_in_order(alloc, update, &candidates, out)?;
-    push_leaving(line, place, out)
+    push_leaving(line, offer, out)
 }
 
-fn push_leaving(line: usize, place: &Place<'_>, out: &mut Vec<Decision>) -> Result<(), AllocError>
+fn push_leaving(line: usize, offer: &Offer, out: &mut Vec<Decision>) -> Result<(), AllocError>
     ensures { OnOk result (decisions_of out.new.items ≡ decisions_of out.old.items ++
-        leaving line (place_of place.now).offer.installed) }
+        leaving line (offer_of offer.now).installed) }
 {
-    if place.offer.installed.is_some() {
+    if offer.installed.is_some() {
         let value = Value::Absent;
         out.push(Decision { line, value })?;
     }
@@ -210,15 +207,11 @@ pub fn beside(
         beside update (places_of places.now) line other) }
 {
     let mut out = Vec::new(alloc);
-    if other >= places.len() {
+    let Some(offer) = free_offer(places, other) else {
         return Ok(out);
-    }
-    let place = &places[other];
-    if place.decided.is_some() {
-        return Ok(out);
-    }
+    };
     let mut candidates = Vec::new(alloc);
-    push_line(true, other, place.offer, &mut candidates)?;
+    push_line(true, other, offer, &mut candidates)?;
     let found = harmless(alloc, places, line, &candidates)?;
     push_in_order(alloc, update, &found, &mut out)?;
     let value = Value::Absent;

@@ -30,10 +30,10 @@ pub(crate) fn matching<'a>(
         (candidates_of candidates.now)) }
 {
     let mut out = Vec::new(alloc);
-    for candidate in candidates {
-        let (line, value, owner) = (candidate.line, candidate.value, candidate.owner);
+    for &candidate in candidates {
+        let owner = candidate.owner;
         if atom.matches(&owner.facts, asker) {
-            out.push(Candidate { line, value, owner })?;
+            out.push(candidate)?;
         }
     }
     Ok(out)
@@ -59,10 +59,9 @@ pub(crate) fn ousting<'a>(
         filter (λ x. conflicts true x.is gone.now) (candidates_of candidates.now)) }
 {
     let mut out = Vec::new(alloc);
-    for candidate in candidates {
-        let (line, value, owner) = (candidate.line, candidate.value, candidate.owner);
-        if ousts(alloc, owner, gone, text)? {
-            out.push(Candidate { line, value, owner })?;
+    for &candidate in candidates {
+        if ousts(alloc, candidate.owner, gone, text)? {
+            out.push(candidate)?;
         }
     }
     Ok(out)
@@ -96,14 +95,9 @@ pub(crate) fn harmless<'a>(
         (candidates_of candidates.now)) }
 {
     let mut out = Vec::new(alloc);
-    for candidate in candidates {
-        let (line_of, value, owner) = (candidate.line, candidate.value, candidate.owner);
-        if !is_opposed(alloc, places, line, owner)? {
-            out.push(Candidate {
-                line: line_of,
-                value,
-                owner,
-            })?;
+    for &candidate in candidates {
+        if !is_opposed(alloc, places, line, candidate.owner)? {
+            out.push(candidate)?;
         }
     }
     Ok(out)

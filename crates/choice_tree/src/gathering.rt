@@ -1,6 +1,7 @@
 ghost use Rattle.std.specs.Prelude.{◌≡◌, ◌++◌, IfOk, OnOk, true};
 ghost use Rattle.std.specs.List.{flat_map};
-ghost use Rattle.choice_tree.specs.Candidates.{free_line, kept, of_line, varied};
+ghost use Rattle.std.specs.Option.{option_map};
+ghost use Rattle.choice_tree.specs.Candidates.{free_line, free_offer, kept, of_line, varied};
 ghost use Rattle.choice_tree.specs.Seen.{places_of};
 ghost use Rattle.choice_tree.specs.Shown.{candidates_of};
 ghost use Rattle.choice_tree.specs.Views.{offer_of};
@@ -58,6 +59,17 @@ pub(crate) fn push_line<'a>(
     push_varied(line, offer, out)
 }
 
+/// What is offered on a line, if there is such a line and nothing is decided of it.
+pub(crate) fn free_offer<'a>(places: &[Place<'a>], line: usize) -> Option<&'a Offer>
+    ensures { option_map (λ o. offer_of o.now) result ≡ free_offer (places_of places.now) line }
+{
+    let place = places.get(line)?;
+    match place.decided {
+        None => Some(place.offer),
+        Some(_) => None,
+    }
+}
+
 /// The candidates of those of the lines that aren't decided.
 pub(crate) fn free_of<'a>(
     alloc: Global,
@@ -84,12 +96,8 @@ pub(crate) fn push_free<'a>(
     ensures { OnOk result (candidates_of out.new.items ≡
         candidates_of out.old.items ++ free_line keeps (places_of places.now) line) }
 {
-    if line >= places.len() {
-        return Ok(());
-    }
-    let place = &places[line];
-    match place.decided {
-        None => push_line(keeps, line, place.offer, out),
-        Some(_) => Ok(()),
+    match free_offer(places, line) {
+        Some(offer) => push_line(keeps, line, offer, out),
+        None => Ok(()),
     }
 }

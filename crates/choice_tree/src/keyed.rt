@@ -8,6 +8,7 @@ ghost use Rattle.choice_tree.specs.Places.{is_one};
 ghost use Rattle.choice_tree.specs.declared.key.Key.TheVariants.{Leaf};
 ghost use Rattle.choice_tree.specs.Views.{offer_of, universe_of};
 
+use crate::classes::CLASSES;
 use crate::key::Key;
 use crate::universe::{Offer, Universe};
 use dep_atom::Atom;
@@ -131,15 +132,8 @@ fn add_classes(
     ensures { OnOk result
         (HasCome line (λ text. has_key Leaf text owner.now) lists.old lists.new) }
 {
-    let classes = [
-        Class::Rdepend,
-        Class::Pdepend,
-        Class::Depend,
-        Class::Bdepend,
-        Class::Idepend,
-    ];
-    for class in &classes {
-        add_class(alloc, lists, owner, *class, line)?;
+    for class in CLASSES {
+        add_class(alloc, lists, owner, class, line)?;
     }
     Ok(())
 }

@@ -80,9 +80,8 @@ fn ranked<'a>(
         ranked update (candidates_of candidates.now)) }
 {
     let mut out = Vec::new(alloc);
-    for candidate in candidates {
-        let (line, value, owner) = (candidate.line, candidate.value, candidate.owner);
-        put(update, &mut out, Candidate { line, value, owner })?;
+    for &candidate in candidates {
+        put(update, &mut out, candidate)?;
     }
     Ok(out)
 }

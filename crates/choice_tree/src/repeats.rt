@@ -1,25 +1,15 @@
 ghost use Rattle.std.specs.Prelude.{◌≡◌, IfOk, []};
-ghost use Rattle.choice_tree.specs.Options.{is_among, once_onto, same_value};
+ghost use Rattle.choice_tree.specs.Options.{is_among, once_onto};
 ghost use Rattle.choice_tree.specs.Views.{decisions_of, value_of};
 
-use crate::value::{Decision, Value};
+use crate::value::Decision;
 use std::alloc::{AllocError, Global};
-
-fn same_value(one: Value, other: Value) -> bool
-    ensures { result ≡ same_value (value_of one) (value_of other) }
-{
-    match (one, other) {
-        (Value::Keep, Value::Keep) | (Value::Absent, Value::Absent) => true,
-        (Value::Variant(first), Value::Variant(second)) => first == second,
-        _ => false,
-    }
-}
 
 fn is_among(decisions: &[Decision], one: Decision) -> bool
     ensures { result ≡ is_among (one.line, value_of one.value) (decisions_of decisions.now) }
 {
     for decision in decisions {
-        if decision.line == one.line && same_value(decision.value, one.value) {
+        if decision.line == one.line && decision.value == one.value {
             return true;
         }
     }

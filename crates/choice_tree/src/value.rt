@@ -1,5 +1,5 @@
 /// What may stand on a line.
-#[derive(Clone, Copy, Debug)]
+#[derive(Clone, Copy, Debug, PartialEq, Eq)]
 pub enum Value {
     /// What is installed there.
     Keep,
