@@ -15,7 +15,8 @@ ghost use Rattle.choice_walk.specs.Settled.{AreSettled};
 use crate::settling::first_of;
 use crate::walk::Walk;
 use choice_tree::{
-    Around, Choice, Obligation, Place, Universe, Value, any_decides, any_opposes, is_calm, opposes,
+    Around, CLASSES, Choice, Obligation, Place, Universe, Value, any_decides, any_opposes, is_calm,
+    opposes,
 };
 use dep_atom::Atom;
 use pkg_state::Class;
@@ -121,16 +122,9 @@ fn first_unmet(around: &Around<'_, '_>, line: usize) -> Option<Class>
     ensures { result ≡
         find (λ class. is_open_of (places_of around.now.places.now) (tree line class)) classes }
 {
-    let classes = [
-        Class::Rdepend,
-        Class::Pdepend,
-        Class::Depend,
-        Class::Bdepend,
-        Class::Idepend,
-    ];
-    for class in &classes {
-        if is_unmet(around, line, *class) {
-            return Some(*class);
+    for class in CLASSES {
+        if is_unmet(around, line, class) {
+            return Some(class);
         }
     }
     None

@@ -1,4 +1,4 @@
-ghost use Rattle.std.specs.Prelude.{◌≡◌, IsTrue, OnErr, OnOk};
+ghost use Rattle.std.specs.Prelude.{◌≡◌, OnErr, OnOk};
 ghost use Rattle.std.specs.Option.{option_map};
 ghost use Rattle.choice_tree.specs.Keys.{AreKeyed, offers_in};
 ghost use Rattle.choice_tree.specs.Places.{with_decided};
@@ -11,26 +11,6 @@ use crate::settling::unsettle;
 use choice_tree::{Keyed, Place, Value};
 use std::alloc::{AllocError, Global};
 use std::collections::BTreeSet;
-
-fn is_value(one: Value, other: Value) -> bool
-    ensures { IsTrue result → value_of one ≡ value_of other }
-{
-    match (one, other) {
-        (Value::Keep, Value::Keep) | (Value::Absent, Value::Absent) => true,
-        (Value::Variant(first), Value::Variant(second)) => first == second,
-        _ => false,
-    }
-}
-
-fn is_decided(one: Option<Value>, other: Option<Value>) -> bool
-    ensures { IsTrue result → option_map value_of one ≡ option_map value_of other }
-{
-    match (one, other) {
-        (None, None) => true,
-        (Some(first), Some(second)) => is_value(first, second),
-        _ => false,
-    }
-}
 
 /// Puts another decision on a line, if there is such a line. Those that this may concern come to
 /// the lines that may have something open.
@@ -53,7 +33,7 @@ pub(crate) fn turn(
         with_decided (places_of places.old.items) line (option_map value_of decided)) }
     ensures kept { OnErr result (places.new.items ≡ places.old.items) }
 {
-    if line >= places.len() || is_decided(places[line].decided, decided) {
+    if line >= places.len() || places[line].decided == decided {
         return Ok(());
     }
     let offer = places[line].offer;
