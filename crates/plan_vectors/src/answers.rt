@@ -1,7 +1,7 @@
 //! Numbers, packages and what is missing, as texts.
 
 use dep_atom::{Atom, PackageId};
-use pkg_state::{Broken, Class};
+use pkg_state::Broken;
 use std::alloc::{AllocError, Global};
 
 /// Adds a space, and the number.
@@ -34,16 +34,6 @@ pub(crate) fn push_leaf(
             out.push_str(text.as_str())
         }
         None => out.push_str(" -"),
-    }
-}
-
-pub(crate) fn class_name(class: Class) -> &'static str {
-    match class {
-        Class::Rdepend => "RDEPEND",
-        Class::Pdepend => "PDEPEND",
-        Class::Depend => "DEPEND",
-        Class::Bdepend => "BDEPEND",
-        Class::Idepend => "IDEPEND",
     }
 }
 

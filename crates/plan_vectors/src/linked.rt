@@ -3,21 +3,14 @@
 //! A group is the places that it waits for in brackets, then what goes as `,-NAME-VERSION:SLOT` and
 //! what comes as `,+NAME-VERSION:SLOT/SUBSLOT`, with the flags that are on and what it depends on.
 
-use crate::answers::{class_name, push_id, push_number};
+use crate::answers::{push_id, push_number};
 use crate::refused::push_one_in;
+use choice_tree::CLASSES;
 use pkg_state::{Class, Pkg};
 use plan_link::LinkFault;
 use plan_lives::{Group, Plan, Removal};
 use pms_names::Flags;
 use std::alloc::{AllocError, Global};
-
-const CLASSES: [Class; 5] = [
-    Class::Rdepend,
-    Class::Pdepend,
-    Class::Depend,
-    Class::Bdepend,
-    Class::Idepend,
-];
 
 /// Adds what the package depends on in this class, as `;RDEPEND c/p`.
 fn push_need(alloc: Global, out: &mut String, pkg: &Pkg, class: Class) -> Result<(), AllocError> {
@@ -26,7 +19,7 @@ fn push_need(alloc: Global, out: &mut String, pkg: &Pkg, class: Class) -> Result
         return Ok(());
     }
     out.push_str(";")?;
-    out.push_str(class_name(class))?;
+    out.push_str(class.word())?;
     out.push_str(" ")?;
     out.push_str(needs.as_str())
 }

@@ -1,8 +1,6 @@
 //! The rules that plans break, as texts: the rule, the number of a group, and packages.
 
-use crate::answers::{
-    class_name, push_broken, push_id, push_lack, push_leaf, push_number, push_one, push_two,
-};
+use crate::answers::{push_broken, push_id, push_lack, push_leaf, push_number, push_one, push_two};
 use dep_atom::{Atom, Bind, PackageId};
 use pkg_state::{Class, LineName};
 use plan_check::PlanRefused;
@@ -56,7 +54,7 @@ fn push_need(
     leaf: &Option<Atom>,
 ) -> Result<(), AllocError> {
     out.push_str(" ")?;
-    out.push_str(class_name(class))?;
+    out.push_str(class.word())?;
     push_leaf(alloc, out, leaf)
 }
 

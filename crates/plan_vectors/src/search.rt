@@ -4,7 +4,7 @@
 //! variant of the first line, `0=+` what is installed there, and `0=-` nothing. The tree is written
 //! in preorder, each choice with a colon and what is open of it, or `good`, and a semicolon.
 
-use crate::answers::{class_name, push_number};
+use crate::answers::push_number;
 use crate::universes::universe;
 use asked_lines::cut;
 use choice_tree::{Choice, Decision, Obligation, Universe, Value};
@@ -53,7 +53,7 @@ fn push_obligation(
             push_line(alloc, out, "conflict", line)?;
             push_number(alloc, out, other)
         }
-        Obligation::Tree(line, class) => push_line(alloc, out, class_name(class), line),
+        Obligation::Tree(line, class) => push_line(alloc, out, class.word(), line),
         Obligation::Absence(line) => push_line(alloc, out, "absence", line),
     }
 }
