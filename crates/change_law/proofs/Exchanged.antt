@@ -34,7 +34,7 @@ use Rattle.database_law.specs.Packages.{Installed, id_of, paths}
 use Rattle.database_law.specs.Step.{Change, GroupKeepsDatabase, Puts, Removes, SomeAfter, put}
 use Rattle.database_law.proofs.Places.{counted_below, counted_of, text_there}
 use Rattle.claim_law.specs.Granted.{GrantedClaimsAreGood, IsTaken}
-use Rattle.claim_law.specs.Owners.{OwnersAre, Tells, Wishes}
+use Rattle.claim_law.specs.Owners.{Tells, Wishes}
 use Rattle.claim_law.specs.Settled.{SettledOwnersAre}
 use Rattle.claim_law.proofs.Granted.{free_wish}
 use Rattle.claim_law.proofs.Settled.{owners_by}

@@ -1,5 +1,5 @@
 -- What can be recorded, and who keeps its key.
-use Rattle.std.specs.Prelude.{◌≡◌, ℕ, List, [], ◌∷◌, Option}
+use Rattle.std.specs.Prelude.{◌≡◌, ℕ, List, [], Option}
 use Rattle.file_tree.specs.Disk.{Map}
 use Rattle.merge_record.specs.declared.record.OwnerKey.{OwnerKey}
 use Rattle.pkg_state.specs.Package.{Package}

@@ -1,5 +1,5 @@
 -- What is made of packages that come with their images.
-use Rattle.std.specs.Prelude.{◌≡◌, ◌==◌, ℕ, Bool, List, [], map, if◌then◌else◌}
+use Rattle.std.specs.Prelude.{◌≡◌, Bool, List, map}
 use Rattle.std.specs.List.{AllByRecursion}
 use Rattle.dep_atom.specs.Ids.{IsId}
 use Rattle.image_fit.specs.Misfits.{AreGood}

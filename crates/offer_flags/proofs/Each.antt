@@ -1,5 +1,5 @@
 -- Relations of two lists, item by item, and sets that grow text by text.
-use Rattle.std.proofs.Common.{◌≡◌, ◌∙◌, ◌+◌, ◌++◌, ◌<◌, ◌||◌, ◌⊎◌, ℕ, Bool, true, false, List, [], ◌∷◌, ap, get_or, inl, inr, length, map, refl, sym, take}
+use Rattle.std.proofs.Common.{◌≡◌, ◌∙◌, ◌+◌, ◌++◌, ◌<◌, ◌||◌, ◌⊎◌, ℕ, Bool, true, List, [], ◌∷◌, ap, get_or, inl, inr, length, map, sym, take}
 use Rattle.std.specs.Prelude.{◌↔◌, bytes_eq}
 use Rattle.std.specs.List.{AllZip}
 use Rattle.std.proofs.lemmas.Bool.{or_cases, or_left, or_right}

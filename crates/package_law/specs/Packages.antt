@@ -1,5 +1,5 @@
 -- A package that is merged, as its files tell it.
-use Rattle.std.specs.Prelude.{◌≡◌, List, Some}
+use Rattle.std.specs.Prelude.{◌≡◌, Some}
 use Rattle.basics.specs.Members.{Has}
 use Rattle.dep_atom.specs.Ids.{IsId}
 use Rattle.file_tree.specs.Disk.{held_by}

@@ -1,10 +1,6 @@
 -- What is recorded of a package when it is merged.
 use Rattle.std.specs.Prelude.{ℕ, List}
 use Rattle.md5.specs.Md5.{md5}
-use Rattle.dep_atom.specs.declared.package.Facts.{Facts}
-use Rattle.dep_group.specs.Trees.{no_trees}
-use Rattle.pkg_state.specs.Package.{Package}
-use Rattle.pkg_state.specs.declared.class.Eapi.TheVariants.{Eight}
 use Rattle.file_tree.specs.declared.objects.Entry.{Entry}
 use Rattle.file_tree.specs.declared.objects.Kind.{Kind}
 use Rattle.file_tree.specs.declared.objects.Kind.TheVariants as kinds

@@ -1,5 +1,5 @@
 -- What is found has the shape of its text, and its groups wait for earlier ones alone.
-use Rattle.std.proofs.Common.{◌≡◌, ◌-◌, ◌+◌, ◌<◌, ◌&&◌, ℕ, zero, true, List, [], ◌∷◌, ap, arith, inl, inr, length, refl, subst, suc, sym}
+use Rattle.std.proofs.Common.{◌≡◌, ◌-◌, ◌+◌, ◌<◌, ◌&&◌, ℕ, zero, true, List, [], ◌∷◌, ap, arith, inl, inr, length, refl, subst, suc}
 use Rattle.std.specs.Prelude.{nat_lt}
 use Rattle.std.specs.List.{AllZip}
 use Rattle.std.proofs.lemmas.Bool.{and_parts, ltb-true}

@@ -1,5 +1,5 @@
 -- What the merge of a plan promises, where it never began, and where its tree was read before.
-use Rattle.std.proofs.Common.{◌≡◌, ◌∙◌, ◌≤◌, ◌+◌, ◌∷◌, ℕ, List, [], Option, None, Result, Err, IsTrue, ap, append-nil, arith, inl, refl, subst, sym, take}
+use Rattle.std.proofs.Common.{◌≡◌, ◌∙◌, ◌≤◌, ◌+◌, ◌∷◌, ℕ, List, [], Option, None, Err, IsTrue, ap, append-nil, arith, inl, refl, subst, sym, take}
 use Rattle.std.specs.Prelude.{MatchOption, length}
 use Rattle.build_pool.specs.Pool.{Kept, faults_of, id_times}
 use Rattle.build_pool.specs.declared.builders.Builder.{Ghosts as Builder}
@@ -24,7 +24,6 @@ use Rattle.plan_run.specs.Merges.{MergesPlan}
 use Rattle.plan_run.specs.Runs.{SaysBuild, WentFor, merge_end, upto}
 use Rattle.plan_run.specs.declared.merge.Merged.{Merged}
 use Rattle.plan_run.specs.declared.merge.Task.{Task}
-use Rattle.plan_run.specs.declared.stop.PlanStop.{PlanStop}
 use Rattle.plan_run.specs.declared.stop.PlanStop.TheVariants as stops
 use Rattle.plan_run.proofs.Unmade.{went_unmade}
 use Rattle.plan_run.proofs.Whole.{rose_earlier, unmerged_build, unmerged_failed, unmerged_fine, unmerged_ok, unmerged_plain, unmerged_quiet, unmerged_told}
