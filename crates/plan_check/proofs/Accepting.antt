@@ -29,11 +29,11 @@ use Rattle.plan_lives.proofs.Clears.{Stands, all_stand, rest_stands, stands_here
 use Rattle.plan_check.specs.Asks.{AskedValue, asking}
 use Rattle.plan_check.specs.Binding.{AreBound, IsBound}
 use Rattle.plan_check.specs.PackageRules.{built_rule, finished_rule, if_left, package_rule, plan_rule, required_rule, standing_rule, unbarred_rule}
-use Rattle.plan_check.specs.Refusals.{Refusal, Refusal as refused}
-use Rattle.plan_check.specs.Rules.{AreOneVersion, Crowds, IsPresent, apart_rule, number_of, present_at, vacant_at, vacant_of, versions_of}
-use Rattle.plan_check.specs.Verdicts.{both, demand, each_from, refuse}
+use Rattle.plan_rules.specs.Refusals.{Refusal, Refusal as refused}
+use Rattle.plan_rules.specs.Rules.{AreOneVersion, Crowds, IsPresent, apart_rule, number_of, present_at, vacant_at, vacant_of, versions_of}
+use Rattle.plan_rules.specs.Verdicts.{both, demand, each_from, refuse}
 use Rattle.plan_check.proofs.Binds.{binding_none, bound, life_asked, some_asked}
-use Rattle.plan_check.proofs.Trying.{each_none, each_passed}
+use Rattle.plan_rules.proofs.Trying.{each_none, each_passed}
 
 module _ {E : Type 0} (plan : List Group) (J : ℕ → Group → Option E → Type 0) where
   -- the rule lets pass at each place of the plan

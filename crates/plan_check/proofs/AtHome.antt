@@ -6,10 +6,10 @@ use Rattle.pkg_state.specs.Package.{Package}
 use Rattle.pkg_state.specs.declared.class.Class.TheVariants.{Rdepend}
 use Rattle.plan_law.specs.Lives.{Life}
 use Rattle.plan_check.specs.Home.{among, met_rule}
-use Rattle.plan_check.specs.Refusals.{Says}
-use Rattle.plan_check.specs.declared.refusal.PlanRefused.{PlanRefused}
+use Rattle.plan_rules.specs.Refusals.{Says}
+use Rattle.plan_rules.specs.declared.refusal.PlanRefused.{PlanRefused}
 use Rattle.plan_check.proofs.Accepting.{same_met}
-use Rattle.plan_check.proofs.Trying.{Hears, says_more}
+use Rattle.plan_rules.proofs.Trying.{Hears, says_more}
 
 -- what is said of one list of the packages that are there is said of them all
 pub says_among : {T : Type 0} (IsThere : Package → Type 0) (x : Life) (ps : List Package) (r : Result T PlanRefused)

@@ -15,9 +15,9 @@ use Rattle.plan_lives.specs.declared.life.Life.{Life as CodeLife}
 use Rattle.plan_check.specs.Asks.{AskedValue, asking, asks_behind, next_asked}
 use Rattle.plan_check.specs.Binding.{IsBound, binds_rule}
 use Rattle.plan_check.specs.PackageRules.{binding_rule}
-use Rattle.plan_check.specs.Refusals.{Refusal, Refusal as refused}
-use Rattle.plan_check.specs.Verdicts.{demand, each}
-use Rattle.plan_check.proofs.Trying.{Hears, IsClear, both_clear, both_passed}
+use Rattle.plan_rules.specs.Refusals.{Refusal, Refusal as refused}
+use Rattle.plan_rules.specs.Verdicts.{demand, each}
+use Rattle.plan_rules.proofs.Trying.{Hears, IsClear, both_clear, both_passed}
 
 module _ (R : AtomValue → Bind → Type 0) (id : PackageId) where
   all_right : (leaves : List AtomValue) (binds : List Bind) → binds_rule R id leaves binds None → AllZip R leaves binds

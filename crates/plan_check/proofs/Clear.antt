@@ -18,13 +18,13 @@ use Rattle.plan_lives.specs.Left.{left_of}
 use Rattle.plan_check.specs.Asks.{AskedValue, asking}
 use Rattle.plan_check.specs.Binding.{AreBound, binds_rule}
 use Rattle.plan_check.specs.PackageRules.{binding_rule, built_of, built_rule, coming_rule, finished_rule, if_brought, if_left, lasting_rule, package_rule, plan_rule, required_rule, standing_rule, unbarred_of, unbarred_rule, unblocked_rule}
-use Rattle.plan_check.specs.Refusals.{Refusal, Refusal as refused, Says, told}
-use Rattle.plan_check.specs.Rules.{AreOneVersion, Crowds, apart_rule, line_rule, number_of, opening_rule, present_at, present_of, present_rule, single_rule, vacant_at, vacant_of, vacant_rule, versions_of, versions_rule}
-use Rattle.plan_check.specs.Verdicts.{both, each, nothing, refuse}
-use Rattle.plan_check.specs.declared.refusal.PlanRefused.{PlanRefused}
+use Rattle.plan_rules.specs.Refusals.{Refusal, Refusal as refused, Says, told}
+use Rattle.plan_rules.specs.Rules.{AreOneVersion, Crowds, apart_rule, line_rule, number_of, opening_rule, present_at, present_of, present_rule, single_rule, vacant_at, vacant_of, vacant_rule, versions_of, versions_rule}
+use Rattle.plan_rules.specs.Verdicts.{both, each, nothing, refuse}
+use Rattle.plan_rules.specs.declared.refusal.PlanRefused.{PlanRefused}
 use Rattle.plan_check.proofs.Accepting.{accepted, all_bound, none_refuses}
 use Rattle.plan_check.proofs.Binds.{binds_clear}
-use Rattle.plan_check.proofs.Trying.{IsClear, both_clear, each_clear, from_clear}
+use Rattle.plan_rules.proofs.Trying.{IsClear, both_clear, each_clear, from_clear}
 
 nothing_clear : {E : Type 0} → IsClear (nothing {E = E})
 nothing_clear e h k = k

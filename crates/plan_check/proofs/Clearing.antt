@@ -9,9 +9,9 @@ use Rattle.plan_law.specs.Plans.{Group}
 use Rattle.plan_law.specs.Lives.{Life}
 use Rattle.plan_lives.specs.Keeping.{is_elsewhere}
 use Rattle.plan_check.specs.Kept.{AreClear, IsFirstKept, IsKeptOut}
-use Rattle.plan_check.specs.Verdicts.{refuse}
+use Rattle.plan_rules.specs.Verdicts.{refuse}
 use Rattle.plan_check.specs.declared.blocked.Keeping.{Keeping}
-use Rattle.plan_check.proofs.Trying.{each_none}
+use Rattle.plan_rules.proofs.Trying.{each_none}
 
 module _ (plan : List Group) (xs : List Life) (k : Keeping) where
   matched : (atoms : List AtomValue) → AreClear plan xs k atoms → (y : Life) → Has xs y → list_any (λ a. value_matches a y.package_is.facts k.asker.now) atoms ≡ true → ¬ IsKeptOut plan k y

@@ -15,8 +15,8 @@ use Rattle.plan_law.specs.Plans.{Group}
 use Rattle.plan_law.specs.Lives.{Life, Meets, Stretch, stretch_of, until}
 use Rattle.plan_law.specs.Sound.{bars, class_blocks_strongly, is_strong_block}
 use Rattle.plan_lives.specs.Keeping.{IsMet, barring_blocks, is_kept_out, running_blocks, strong_blocks_in}
-use Rattle.plan_check.specs.Refusals.{Refusal as refused}
-use Rattle.plan_check.specs.Verdicts.{each, refuse}
+use Rattle.plan_rules.specs.Refusals.{Refusal as refused}
+use Rattle.plan_rules.specs.Verdicts.{each, refuse}
 
 any_step : {A : Type 0} (f : A → Bool) (b : Bool) (x : A) (xs : List A) → list_any f (cond b (x ∷ xs) xs) ≡ ((b && f x) || list_any f xs)
 any_step f true x xs = refl

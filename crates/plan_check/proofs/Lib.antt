@@ -1,13 +1,7 @@
-pub mod Trying
-pub mod Ordered
-pub mod Gone
 pub mod Binds
 pub mod Taking
 pub mod Accepting
 pub mod Clear
 pub mod KeptOut
-pub mod InTheWay
-pub mod Told
 pub mod AtHome
-pub mod Judged
 pub mod Clearing

@@ -11,8 +11,8 @@ use Rattle.plan_law.specs.Lives.{Life, Moment, commit, never, opening}
 use Rattle.plan_lives.specs.Lives.{lives}
 use Rattle.plan_lives.specs.Binding.{IsRightBind}
 use Rattle.plan_check.specs.Asks.{AskedValue, asking}
-use Rattle.plan_check.specs.Refusals.{Refusal, Refusal as refused}
-use Rattle.plan_check.specs.Verdicts.{both, demand, fail, nothing}
+use Rattle.plan_rules.specs.Refusals.{Refusal, Refusal as refused}
+use Rattle.plan_rules.specs.Verdicts.{both, demand, fail, nothing}
 
 -- each leaf has its bind, which is right, and no bind is left over; else the first place is told
 -- where that isn't so

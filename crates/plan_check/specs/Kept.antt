@@ -8,7 +8,7 @@ use Rattle.plan_law.specs.Plans.{Group}
 use Rattle.plan_law.specs.Lives.{Life}
 use Rattle.plan_lives.specs.Keeping.{IsMet}
 use Rattle.plan_lives.specs.Stretches.{stretch_value}
-use Rattle.plan_check.specs.Verdicts.{each, refuse}
+use Rattle.plan_rules.specs.Verdicts.{each, refuse}
 use Rattle.plan_check.specs.declared.blocked.Keeping.{Keeping}
 
 -- one of the blocks keeps the package out of the stretch

@@ -1,9 +1,4 @@
-pub mod Verdicts
-pub mod Refusals
-pub mod Pairs
-pub mod Rules
 pub mod Home
-pub mod Changes
 pub mod Asks
 pub mod Binding
 pub mod PackageRules

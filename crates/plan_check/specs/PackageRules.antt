@@ -21,9 +21,9 @@ use Rattle.plan_lives.specs.Left.{left_of}
 use Rattle.plan_check.specs.Asks.{AskedValue, asking}
 use Rattle.plan_check.specs.Binding.{binds_rule}
 use Rattle.plan_check.specs.Home.{among, met_rule}
-use Rattle.plan_check.specs.Refusals.{Refusal, Refusal as refused}
-use Rattle.plan_check.specs.Rules.{line_rule, opening_rule, present_rule, single_rule, vacant_rule, versions_rule}
-use Rattle.plan_check.specs.Verdicts.{both, demand_as, each, nothing, refuse}
+use Rattle.plan_rules.specs.Refusals.{Refusal, Refusal as refused}
+use Rattle.plan_rules.specs.Rules.{line_rule, opening_rule, present_rule, single_rule, vacant_rule, versions_rule}
+use Rattle.plan_rules.specs.Verdicts.{both, demand_as, each, nothing, refuse}
 
 -- a rule for what a group brings
 abbrev pub if_brought : Moment → (ℕ → Option Refusal → Type 0) → Option Refusal → Type 0

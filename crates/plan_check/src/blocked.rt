@@ -8,13 +8,12 @@ ghost use Rattle.plan_lives.specs.Lives.{life_of};
 ghost use Rattle.plan_lives.specs.Stretches.{IsStretchWithin, stretch_value};
 ghost use Rattle.plan_check.specs.Kept.{AreClear, IsFirstKept, IsKeptOut, IsNameClear};
 ghost use Rattle.plan_check.specs.PackageRules.{unbarred_of, unbarred_rule, unblocked_rule};
-ghost use Rattle.plan_check.specs.Refusals.{Says};
+ghost use Rattle.plan_rules.specs.Refusals.{Says};
 
-use crate::refusal::PlanRefused;
-use crate::versions::{meets, stretch_of};
 use dep_atom::Atom;
 use pkg_state::{LineName, Pkg};
 use plan_lives::{Index, Life, Moment, Stretch, barring_blocks, running_blocks, some_matches};
+use plan_rules::{PlanRefused, meets, stretch_of};
 use pms_names::Flags;
 use std::alloc::{AllocError, Global};
 

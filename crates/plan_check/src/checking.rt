@@ -9,24 +9,21 @@ ghost use Rattle.plan_lives.specs.Left.{left_of};
 ghost use Rattle.plan_check.specs.Asks.{all_asked, asking, what_asked};
 ghost use Rattle.plan_check.specs.Binding.{AreBound};
 ghost use Rattle.plan_check.specs.PackageRules.{package_rule, plan_rule};
-ghost use Rattle.plan_check.specs.Refusals.{Says, told};
-ghost use Rattle.plan_check.specs.Verdicts.{each};
+ghost use Rattle.plan_rules.specs.Refusals.{Says, told};
+ghost use Rattle.plan_rules.specs.Verdicts.{each};
 
 use crate::asked::{Asked, next_asked, taken_behind};
 use crate::blocked::{judge_unbarred, judge_unblocked};
 use crate::coming::judge_what_comes;
 use crate::finished::judge_finished;
 use crate::lasting::{judge_built, judge_lasting};
-use crate::opening::judge_opening;
-use crate::order::judge_lines;
-use crate::presence::judge_present;
-use crate::refusal::PlanRefused;
-use crate::single::judge_single;
-use crate::vacancy::judge_vacant;
-use crate::versions::judge_versions;
 use pkg_state::Pkg;
 use plan_law::accepted_plans_are_sound;
 use plan_lives::{Index, Life, Packages, Plan, Reach, index_of, lines_of, lives_of};
+use plan_rules::{
+    PlanRefused, judge_lines, judge_opening, judge_present, judge_single, judge_vacant,
+    judge_versions,
+};
 use std::alloc::Global;
 
 fn judge_package(

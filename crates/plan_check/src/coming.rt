@@ -8,16 +8,16 @@ ghost use Rattle.plan_lives.specs.Lives.{life_of};
 ghost use Rattle.plan_check.specs.Asks.{asked_value, what_asked};
 ghost use Rattle.plan_check.specs.Binding.{binds_rule};
 ghost use Rattle.plan_check.specs.PackageRules.{binding_rule, coming_rule};
-ghost use Rattle.plan_check.specs.Refusals.Refusal.{Binding};
-ghost use Rattle.plan_check.specs.Refusals.{Says};
-ghost use Rattle.plan_check.specs.Verdicts.{demand, fail};
+ghost use Rattle.plan_rules.specs.Refusals.Refusal.{Binding};
+ghost use Rattle.plan_rules.specs.Refusals.{Says};
+ghost use Rattle.plan_rules.specs.Verdicts.{demand, fail};
 
 use crate::asked::Asked;
-use crate::refusal::PlanRefused;
 use crate::required::judge_required;
 use dep_atom::{Atom, Bind};
 use pkg_state::{Pkg, copy_leaf};
 use plan_lives::{Index, Life, Moment, is_right};
+use plan_rules::PlanRefused;
 use std::alloc::{AllocError, Global};
 
 fn copy_bind(bind: Option<&Bind>) -> Result<Option<Bind>, AllocError>

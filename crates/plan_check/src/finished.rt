@@ -7,13 +7,13 @@ ghost use Rattle.plan_law.specs.Plans.{Group};
 ghost use Rattle.plan_lives.specs.Lives.{life_of, moment_of};
 ghost use Rattle.plan_lives.specs.Left.{left_of};
 ghost use Rattle.plan_check.specs.PackageRules.{finished_rule, if_left};
-ghost use Rattle.plan_check.specs.Refusals.Refusal.{Final};
-ghost use Rattle.plan_check.specs.Refusals.{Says};
-ghost use Rattle.plan_check.specs.Verdicts.{refuse};
+ghost use Rattle.plan_rules.specs.Refusals.Refusal.{Final};
+ghost use Rattle.plan_rules.specs.Refusals.{Says};
+ghost use Rattle.plan_rules.specs.Verdicts.{refuse};
 
-use crate::refusal::PlanRefused;
 use pkg_state::{Class, Pkg, copy_leaf};
 use plan_lives::{Life, Moment, Packages};
+use plan_rules::PlanRefused;
 
 fn judge_left(left: &Packages<'_>, pkg: &Pkg) -> Result<(), PlanRefused>
     ensures { Says (refuse

@@ -8,13 +8,13 @@ ghost use Rattle.plan_lives.specs.Lives.{life_of};
 ghost use Rattle.plan_lives.specs.Left.{left_of};
 ghost use Rattle.plan_lives.specs.Stretches.{IsStretchWithin, stretch_value};
 ghost use Rattle.plan_check.specs.PackageRules.{IsMissing, built_of, built_rule, lasting_rule};
-ghost use Rattle.plan_check.specs.Refusals.{Says};
+ghost use Rattle.plan_rules.specs.Refusals.{Says};
 
-use crate::refusal::PlanRefused;
 use crate::unmet::judge_satisfied;
 use dep_atom::Atom;
 use pkg_state::{Class, Pkg, copy_leaf};
 use plan_lives::{Index, Life, Moment, Packages, Stretch, are_firm, leaf_of_all, meeting};
+use plan_rules::PlanRefused;
 use std::alloc::{AllocError, Global};
 
 /// Whether what the package wants in the class is there all through the stretch.

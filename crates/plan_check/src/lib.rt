@@ -1,17 +1,14 @@
 //! The check of a plan over the packages that are installed: it is accepted, or the first rule that
 //! it breaks is told.
 //!
-//! These rules are tried over the whole plan: of two groups that change one line, one waits for the
-//! other; what is removed stands on its line just before; what stands on the line of an addition
-//! goes in the same group; a group brings at most one package to a line; no version is there on two
-//! lines at one time; the packages are consistent to begin with. Then package by package: the flags
-//! of an addition go together; its slot operators are bound to the greatest packages beside it;
-//! what it needs while it runs is there all through its life; what it blocks isn't there with it;
+//! The rules over the whole plan are tried first (`plan_rules`), and then these, package by package:
+//! the flags of an addition go together; its slot operators are bound to the greatest packages beside
+//! it; what it needs while it runs is there all through its life; what it blocks isn't there with it;
 //! what bars it isn't there when it may come; what it wants for its build is there whenever it may
 //! come; and what it wants later is there at the end.
 //!
-//! **A contract sees** a plan as `plan_lives` has it, and what an addition asks of the binds
-//! ([`Asked`]) as its leaves and binds.
+//! **A contract sees** a plan as `plan_lives` has it, a refusal as `plan_rules` has it, and what an
+//! addition asks of the binds ([`Asked`]) as its leaves and binds.
 //!
 //! **Proved**: [`check`] answers Ok exactly on accepted plans (`IsAccepted` of `plan_law`) whose binds
 //! are right (`AreBound` of `specs/Binding.antt`), but for want of memory, and these are sound over
@@ -24,9 +21,8 @@
 //!
 //! **Only tested**: that with ample memory an accepted plan is accepted.
 //!
-//! The rules on lines and the look-ups by name take time in n log n: a rule looks at the lives of one
-//! line, of one name or of a block's name, and goes through all packages, or each two changes of a
-//! line, only where it is about to refuse.
+//! The look-ups take time in n log n: a rule looks at the lives of one line, of one name or of a
+//! block's name, and goes through all packages only where it is about to refuse.
 //!
 //! ```
 //! let plan = Plan::new(groups).ok_or(Fault::Form)?;
@@ -36,21 +32,12 @@
 
 mod asked;
 mod blocked;
-mod change;
 mod checking;
 mod coming;
 mod finished;
 mod lasting;
-mod opening;
-mod order;
-mod presence;
-mod refusal;
 mod required;
-mod single;
 mod unmet;
-mod vacancy;
-mod versions;
 
 pub use asked::Asked;
 pub use checking::check;
-pub use refusal::PlanRefused;

@@ -2,13 +2,13 @@ ghost use Rattle.std.specs.Prelude.{◌≡◌, false};
 ghost use Rattle.pkg_state.specs.Consistent.{fits_required};
 ghost use Rattle.plan_lives.specs.Lives.{life_of};
 ghost use Rattle.plan_check.specs.PackageRules.{required_rule};
-ghost use Rattle.plan_check.specs.Refusals.Refusal.{RequiredUse};
-ghost use Rattle.plan_check.specs.Refusals.{Says};
-ghost use Rattle.plan_check.specs.Verdicts.{refuse};
+ghost use Rattle.plan_rules.specs.Refusals.Refusal.{RequiredUse};
+ghost use Rattle.plan_rules.specs.Refusals.{Says};
+ghost use Rattle.plan_rules.specs.Verdicts.{refuse};
 
-use crate::refusal::PlanRefused;
 use pkg_state::Pkg;
 use plan_lives::{Life, Moment};
+use plan_rules::PlanRefused;
 
 fn judge_addition(pkg: &Pkg) -> Result<(), PlanRefused>
     ensures { Says (refuse (fits_required pkg.now ≡ false) (RequiredUse pkg.now.facts.id)) result }

@@ -8,13 +8,12 @@ ghost use Rattle.plan_lives.specs.Left.{left_of};
 ghost use Rattle.plan_lives.specs.Stretches.{IsWithin};
 ghost use Rattle.plan_check.specs.Home.{among, met_rule};
 ghost use Rattle.plan_check.specs.PackageRules.{if_left, satisfied_rule};
-ghost use Rattle.plan_check.specs.Refusals.{Says};
+ghost use Rattle.plan_rules.specs.Refusals.{Says};
 ghost use Rattle.plan_text.specs.Texts.{most_groups};
 
-use crate::refusal::PlanRefused;
-use crate::versions::number_of;
 use pkg_state::{Class, copy_leaf};
 use plan_lives::{Index, Life, Moment, Packages, there_at};
+use plan_rules::{PlanRefused, number_of};
 use std::alloc::Global;
 
 /// Whether what a package needs while it runs is among these.

@@ -7,8 +7,8 @@ use Rattle.plan_law.specs.Plans.{Group}
 use Rattle.plan_text.specs.Plans.{GroupValue, plan_value}
 use Rattle.plan_check.specs.Asks.{AskedValue}
 use Rattle.plan_check.specs.PackageRules.{plan_rule}
-use Rattle.plan_check.specs.Refusals.{Refusal, told}
-use Rattle.plan_check.specs.declared.refusal.PlanRefused.{PlanRefused}
+use Rattle.plan_rules.specs.Refusals.{Refusal, told}
+use Rattle.plan_rules.specs.declared.refusal.PlanRefused.{PlanRefused}
 use Rattle.plan_link.specs.Faults.{link_rule}
 use Rattle.resolver.specs.Answers.{HasNone, IsTooMany}
 use Rattle.plan_choose.specs.Plans.{IsGood, IsPlanOver, StandsFor}

@@ -1,8 +1,8 @@
 use crate::reason::NotTaken;
 use choice_tree::Choice;
 use dep_atom::Atom;
-use plan_check::PlanRefused;
 use plan_link::LinkFault;
+use plan_rules::PlanRefused;
 use std::alloc::AllocError;
 use thiserror::Error;
 

@@ -2,7 +2,7 @@ ghost use Rattle.std.specs.Prelude.{◌≡◌, ◌≢◌, ◌↔◌, ◌⊎◌, 
 ghost use Rattle.std.specs.Prelude.{MatchOption, Some};
 ghost use Rattle.pkg_state.specs.Fault as state;
 ghost use Rattle.pkg_state.specs.Package.{Package};
-ghost use Rattle.plan_check.specs.Refusals.{told};
+ghost use Rattle.plan_rules.specs.Refusals.{told};
 ghost use Rattle.plan_link.specs.Faults.{link_rule};
 ghost use Rattle.plan_link.specs.Linked.{IsLinked};
 ghost use Rattle.plan_link.specs.declared.fault.LinkFault.TheVariants as links;
@@ -15,9 +15,9 @@ ghost use Rattle.plan_choose.specs.declared.fault.NotChosen.TheVariants.{Memory,
 use crate::fault::NotChosen;
 use pkg_state::{Broken, Pkg};
 use plan_check as check;
-use plan_check::PlanRefused;
 use plan_link::{LinkFault, asks_of, link};
 use plan_lives as lives;
+use plan_rules::PlanRefused;
 use plan_text as text;
 use std::alloc::Global;
 

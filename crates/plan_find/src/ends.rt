@@ -8,8 +8,8 @@ use dep_atom::Atom;
 use file_tree::{Path, TreeFault};
 use offer_read::OffersFault;
 use opening::OpeningFault;
-use plan_check::PlanRefused;
 use plan_choose::{NotChosen, NotTaken};
+use plan_rules::PlanRefused;
 use record_read::Installed;
 use thiserror::Error;
 

@@ -1,7 +1,7 @@
 ghost use Rattle.std.specs.Prelude.{◌≡◌, ◌⊎◌, IfErr, IfOk, IsSome, List};
 ghost use Rattle.dep_atom.specs.Values.{atom_value};
 ghost use Rattle.pkg_state.specs.Package.{Package};
-ghost use Rattle.plan_check.specs.Refusals.{told};
+ghost use Rattle.plan_rules.specs.Refusals.{told};
 ghost use Rattle.plan_link.specs.Linked.{IsLinked};
 ghost use Rattle.plan_text.specs.Plans.{plan_value};
 ghost use Rattle.plan_text.specs.Texts.{IsPlan};
@@ -14,10 +14,10 @@ use crate::unfiled::Unfiled;
 use dep_atom::{Atom, Block, Op, PackageId, SlotPart};
 use pkg_state::Pkg;
 use plan_check as check;
-use plan_check::PlanRefused;
 use plan_choose::{NotTaken, reasons_of, told_of};
 use plan_link::{LinkFault, asks_of, link};
 use plan_lives as lives;
+use plan_rules::PlanRefused;
 use plan_text::Plan;
 use std::alloc::{AllocError, Global};
 

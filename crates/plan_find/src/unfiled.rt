@@ -1,6 +1,6 @@
 use dep_atom::Atom;
-use plan_check::PlanRefused;
 use plan_choose::NotTaken;
+use plan_rules::PlanRefused;
 use std::alloc::AllocError;
 
 /// Why the groups of a file make no plan.

@@ -7,8 +7,8 @@ use Rattle.basics.specs.Members.{Has}
 use Rattle.pms_names.specs.Flags.{has}
 use Rattle.pkg_state.specs.Package.{Package}
 use Rattle.plan_text.specs.Plans.{AdditionValue, GroupValue}
-use Rattle.plan_check.specs.Verdicts.{each}
-use Rattle.plan_check.proofs.Trying.{IsClear, each_clear, each_passed, from_clear}
+use Rattle.plan_rules.specs.Verdicts.{each}
+use Rattle.plan_rules.proofs.Trying.{IsClear, each_clear, each_passed, from_clear}
 use Rattle.plan_link.specs.Faults.{Says, addition_rule, flag_rule, found_rule, group_rule, link_rule}
 use Rattle.plan_link.specs.Offers.{IsFirst}
 use Rattle.plan_link.specs.declared.fault.LinkFault.{LinkFault}

@@ -3,7 +3,7 @@ use Rattle.std.specs.Prelude.{◌≡◌, ◌≢◌, ℕ, ◌+◌, false, List, O
 use Rattle.pms_names.specs.Flags.{has}
 use Rattle.pkg_state.specs.Package.{Package}
 use Rattle.plan_text.specs.Plans.{AdditionValue, GroupValue}
-use Rattle.plan_check.specs.Verdicts.{each, each_from, refuse}
+use Rattle.plan_rules.specs.Verdicts.{each, each_from, refuse}
 use Rattle.plan_link.specs.Offers.{IsFirst}
 use Rattle.plan_link.specs.declared.fault.LinkFault.{LinkFault}
 use Rattle.plan_link.specs.declared.fault.LinkFault.TheVariants as faults

@@ -10,7 +10,7 @@ use Rattle.plan_text.specs.declared.fault.PlanTextFault.TheVariants as texts
 use Rattle.plan_check.specs.Asks.{AskedValue}
 use Rattle.plan_check.specs.Binding.{AreBound}
 use Rattle.plan_check.specs.PackageRules.{plan_rule}
-use Rattle.plan_check.specs.Refusals.{told}
+use Rattle.plan_rules.specs.Refusals.{told}
 use Rattle.plan_link.specs.Asking.{AreAsked}
 use Rattle.plan_link.specs.Faults.{link_rule}
 use Rattle.plan_link.specs.Linked.{IsLinked}

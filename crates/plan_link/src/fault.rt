@@ -1,5 +1,5 @@
 use dep_atom::PackageId;
-use plan_check::PlanRefused;
+use plan_rules::PlanRefused;
 use plan_text::PlanTextFault;
 use pms_names::Flag;
 use std::alloc::{AllocError, AllocFailed};

@@ -2,7 +2,7 @@ ghost use Rattle.std.specs.Prelude.{◌≡◌, ◌-◌, ◌<◌, IfOk, map};
 ghost use Rattle.std.specs.List.{AllZip};
 ghost use Rattle.plan_text.specs.Plans.{addition_value, group_value};
 ghost use Rattle.plan_text.specs.Texts.{most_groups};
-ghost use Rattle.plan_check.specs.Verdicts.{each};
+ghost use Rattle.plan_rules.specs.Verdicts.{each};
 ghost use Rattle.plan_link.specs.Faults.{Says, addition_rule, flag_rule, group_rule};
 ghost use Rattle.plan_link.specs.Linked.{IsLinkedGroup, removal_of};
 ghost use Rattle.plan_link.specs.Offers.{Brings};

@@ -8,9 +8,10 @@ use crate::reading::packages;
 use crate::refused::refused_text;
 use asked_lines::{cut, unescaped};
 use pkg_state::Pkg;
-use plan_check::{Asked, PlanRefused, check};
+use plan_check::{Asked, check};
 use plan_link::{asks_of, link};
 use plan_lives::Plan;
+use plan_rules::PlanRefused;
 use repair_check::check_repair;
 use std::alloc::Global;
 

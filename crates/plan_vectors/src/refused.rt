@@ -3,7 +3,7 @@
 use crate::answers::{push_broken, push_id, push_lack, push_leaf, push_number, push_one, push_two};
 use dep_atom::{Atom, Bind, PackageId};
 use pkg_state::{Class, LineName};
-use plan_check::PlanRefused;
+use plan_rules::PlanRefused;
 use std::alloc::{AllocError, Global};
 
 fn push_line(

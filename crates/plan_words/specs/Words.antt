@@ -8,7 +8,7 @@ use Rattle.dep_atom.specs.declared.slot.Bind.{Bind}
 use Rattle.pkg_state.specs.Fault.{Fault}
 use Rattle.pkg_state.specs.Fault as state
 use Rattle.pkg_state.specs.Package.{class_word}
-use Rattle.plan_check.specs.Refusals.{Refusal, Absent, Barred, Binding, Blocked, Build, Final, Line, Occupied, Opening, RequiredUse, Unsafe, Unsatisfied}
+use Rattle.plan_rules.specs.Refusals.{Refusal, Absent, Barred, Binding, Blocked, Build, Final, Line, Occupied, Opening, RequiredUse, Unsafe, Unsatisfied}
 use Rattle.plan_text.specs.Words.{slots_word}
 
 -- a leaf, or `-` where none is named

@@ -6,7 +6,7 @@
 //! leaf as it is spelled, a bind as `slot/subslot`, and `-` where no leaf or no bind is named. The
 //! groups that may come in between stand last, behind the word `groups`.
 //!
-//! **A contract sees** a refusal as `plan_check` has it, and its words as a list
+//! **A contract sees** a refusal as `plan_rules` has it, and its words as a list
 //! (`refusal_words` of `specs/Words.antt`).
 //!
 //! **Proved**: [`push_refusal`] puts just these words behind a text, each behind a space.

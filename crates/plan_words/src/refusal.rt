@@ -6,7 +6,7 @@ ghost use Rattle.dep_atom.specs.Ids.{id_text};
 ghost use Rattle.dep_atom.specs.Values.{atom_value};
 ghost use Rattle.pkg_state.specs.Fault as state;
 ghost use Rattle.pkg_state.specs.Package.{class_word};
-ghost use Rattle.plan_check.specs.Refusals.{told};
+ghost use Rattle.plan_rules.specs.Refusals.{told};
 ghost use Rattle.plan_text.specs.Printed.{spaced};
 ghost use Rattle.plan_words.specs.Words.{broken_id, found_word, leaf_word};
 ghost use Rattle.plan_words.specs.Words.{refusal_words};
@@ -16,7 +16,7 @@ use crate::words::{
 };
 use dep_atom::{Atom, Bind, PackageId};
 use pkg_state::{Broken, Class, LineName};
-use plan_check::PlanRefused;
+use plan_rules::PlanRefused;
 use std::alloc::{AllocError, Global};
 
 fn push_line(

@@ -12,12 +12,12 @@ use Rattle.plan_law.specs.Plans.{Group}
 use Rattle.plan_check.specs.Asks.{AskedValue}
 use Rattle.plan_check.specs.Binding.{AreBound}
 use Rattle.plan_check.specs.PackageRules.{plan_rule}
-use Rattle.plan_check.specs.Refusals.{Refusal, Says, told}
-use Rattle.plan_check.specs.declared.refusal.PlanRefused.{PlanRefused}
+use Rattle.plan_rules.specs.Refusals.{Refusal, Says, told}
+use Rattle.plan_rules.specs.declared.refusal.PlanRefused.{PlanRefused}
 use Rattle.plan_check.proofs.Accepting.{accepted, all_bound, none_refuses}
 use Rattle.plan_check.proofs.Clear.{fine as plan_fine}
-use Rattle.plan_check.proofs.Told.{Tells, tells_first}
-use Rattle.plan_check.proofs.Trying.{says_second}
+use Rattle.plan_rules.proofs.Told.{Tells, tells_first}
+use Rattle.plan_rules.proofs.Trying.{says_second}
 use Rattle.repair_check.specs.Repair.{IsRepair, bare, behind, consistent_rule, refusal_of, repair_rule}
 
 -- what is first wrong is told as the rule that fits

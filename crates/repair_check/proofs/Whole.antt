@@ -6,7 +6,7 @@ use Rattle.pkg_state.specs.Package.{Package}
 use Rattle.plan_law.specs.Plans.{Group, GoesOn, after, changed, group_at}
 use Rattle.plan_law.specs.Sound.{IsWhole}
 use Rattle.plan_check.specs.Asks.{AskedValue}
-use Rattle.plan_check.specs.declared.refusal.PlanRefused.{PlanRefused}
+use Rattle.plan_rules.specs.declared.refusal.PlanRefused.{PlanRefused}
 use Rattle.repair_check.specs.Repair.{IsRepair, behind}
 use Rattle.repair_check.proofs.Staying.{all_stay}
 

@@ -11,8 +11,8 @@ use Rattle.plan_law.specs.Plans.{Group, changed, group_at}
 use Rattle.plan_check.specs.Asks.{AskedValue}
 use Rattle.plan_check.specs.Binding.{AreBound}
 use Rattle.plan_check.specs.PackageRules.{plan_rule}
-use Rattle.plan_check.specs.Refusals.{Refusal, Refusal as refused}
-use Rattle.plan_check.specs.Verdicts.{both}
+use Rattle.plan_rules.specs.Refusals.{Refusal, Refusal as refused}
+use Rattle.plan_rules.specs.Verdicts.{both}
 
 -- the package as if it needed nothing: it blocks nothing either, and asks nothing of its flags
 abbrev pub bare : Package → Package

@@ -5,14 +5,15 @@ ghost use Rattle.pkg_state.specs.Fault as state;
 ghost use Rattle.plan_law.specs.Plans.{after};
 ghost use Rattle.plan_law.specs.Sound.{IsWhole};
 ghost use Rattle.plan_check.specs.Asks.{all_asked};
-ghost use Rattle.plan_check.specs.Refusals.{Says, told};
+ghost use Rattle.plan_rules.specs.Refusals.{Says, told};
 ghost use Rattle.repair_check.specs.Repair.{IsRepair, consistent_rule, refusal_of, repair_rule};
 
 use crate::bare::all_bare;
 use crate::behind::packages_behind;
 use pkg_state::{Broken, Class, Pkg, consistent};
-use plan_check::{Asked, PlanRefused, check};
+use plan_check::{Asked, check};
 use plan_lives::Plan;
+use plan_rules::PlanRefused;
 use std::alloc::Global;
 
 /// What is wrong with the packages, as the rule that fits tells it.

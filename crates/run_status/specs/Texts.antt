@@ -13,7 +13,7 @@ use Rattle.pkg_state.specs.declared.broken.Broken.{Broken}
 use Rattle.pkg_state.specs.declared.broken.Broken.TheVariants as broken
 use Rattle.pkg_state.specs.Package.{Package}
 use Rattle.plan_law.specs.Plans.{Group, Removal}
-use Rattle.plan_check.specs.Refusals.{Refusal, told}
+use Rattle.plan_rules.specs.Refusals.{Refusal, told}
 use Rattle.plan_text.specs.Printed.{spaced}
 use Rattle.plan_words.specs.Words.{refusal_words}
 use Rattle.plan_choose.specs.declared.reason.NotTaken.{NotTaken}

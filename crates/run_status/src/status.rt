@@ -6,8 +6,8 @@ use emerge_words::WordFault;
 use file_tree::{Path, Quantity};
 use owner_book::ImageBad;
 use pkg_state::Broken;
-use plan_check::PlanRefused;
 use plan_choose::NotTaken;
+use plan_rules::PlanRefused;
 use recovery::RecoverFault;
 
 /// A part of the product that is not there yet for what the run met.

@@ -6,9 +6,9 @@ use Rattle.plan_lives.specs.Index.{plan_of}
 use Rattle.plan_lives.specs.Lives.{life_of, lives_of}
 use Rattle.plan_lives.proofs.Keyed.{item_at}
 use Rattle.plan_check.specs.Kept.{IsKeptOut}
-use Rattle.plan_check.specs.Verdicts.{each, refuse}
-use Rattle.plan_check.proofs.Judged.{at_end}
-use Rattle.plan_check.proofs.Trying.{mapped_next, mapped_refused}
+use Rattle.plan_rules.specs.Verdicts.{each, refuse}
+use Rattle.plan_rules.proofs.Judged.{at_end}
+use Rattle.plan_rules.proofs.Trying.{mapped_next, mapped_refused}
 use Rattle.plan_check.proofs.blocked.first_of_all.Goals as goal
 
 pub keeps_out-requires-clause-y : goal.keeps_out-requires-clause-y

@@ -2,8 +2,8 @@ use Rattle.std.proofs.Common.{drop}
 use Rattle.plan_lives.specs.Index.{plan_of}
 use Rattle.plan_lives.specs.Lives.{lives_of}
 use Rattle.plan_check.specs.Kept.{IsKeptOut}
-use Rattle.plan_check.specs.Verdicts.{each, refuse}
-use Rattle.plan_check.proofs.Trying.{Hears}
+use Rattle.plan_rules.specs.Verdicts.{each, refuse}
+use Rattle.plan_rules.proofs.Trying.{Hears}
 use Rattle.plan_check.proofs.blocked.first_of_all.Given as goal
 
 abbrev pub invariant-loop-y : goal.invariant-loop-y

@@ -2,7 +2,7 @@ use Rattle.std.proofs.Common.{◌≡◌, ◌+◌, ◌∙◌, None, Some, ap, sym
 use Rattle.pkg_state.specs.Package.{Package}
 use Rattle.plan_lives.specs.Index.{all_lives, plan_of, start_of}
 use Rattle.plan_check.specs.PackageRules.{unbarred_of}
-use Rattle.plan_check.specs.Refusals.{Refusal, Refusal as refused}
+use Rattle.plan_rules.specs.Refusals.{Refusal, Refusal as refused}
 use Rattle.plan_check.proofs.KeptOut.{barred_told}
 use Rattle.plan_check.proofs.blocked.judge_coming.Goals as goal
 

@@ -6,7 +6,7 @@ use Rattle.plan_lives.specs.Lives.{life_of}
 use Rattle.plan_lives.specs.Stretches.{IsStretchWithin}
 use Rattle.plan_lives.proofs.Within.{lives_within}
 use Rattle.plan_check.specs.PackageRules.{unblocked_rule}
-use Rattle.plan_check.specs.Refusals.{Refusal, Refusal as refused}
+use Rattle.plan_rules.specs.Refusals.{Refusal, Refusal as refused}
 use Rattle.plan_check.proofs.KeptOut.{blocked_told}
 use Rattle.plan_check.proofs.blocked.judge_unblocked.Goals as goal
 

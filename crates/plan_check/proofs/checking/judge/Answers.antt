@@ -4,7 +4,7 @@ use Rattle.plan_law.specs.Plans.{Group}
 use Rattle.plan_lives.specs.Index.{plan_of}
 use Rattle.plan_check.specs.Asks.{all_asked}
 use Rattle.plan_check.specs.PackageRules.{plan_rule}
-use Rattle.plan_check.specs.Refusals.{Says}
+use Rattle.plan_rules.specs.Refusals.{Says}
 use Rattle.plan_check.proofs.checking.judge.Goals as goal
 
 pub returns : goal.returns

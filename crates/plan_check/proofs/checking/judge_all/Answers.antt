@@ -2,10 +2,10 @@ use Rattle.std.proofs.lemmas.Result.{err_from_is_err_and}
 use Rattle.plan_lives.specs.Index.{all_lives, plan_of, start_of}
 use Rattle.plan_check.specs.Asks.{all_asked, asking}
 use Rattle.plan_check.specs.PackageRules.{package_rule}
-use Rattle.plan_check.specs.Rules.{line_rule, opening_rule, present_rule, single_rule, vacant_rule, versions_rule}
-use Rattle.plan_check.specs.Verdicts.{both, each}
-use Rattle.plan_check.proofs.Told.{tells_first, tells_later}
-use Rattle.plan_check.proofs.Trying.{says_second}
+use Rattle.plan_rules.specs.Rules.{line_rule, opening_rule, present_rule, single_rule, vacant_rule, versions_rule}
+use Rattle.plan_rules.specs.Verdicts.{both, each}
+use Rattle.plan_rules.proofs.Told.{tells_first, tells_later}
+use Rattle.plan_rules.proofs.Trying.{says_second}
 use Rattle.plan_check.proofs.checking.judge_all.Goals as goal
 
 pub returns-in_err-judge_lines : goal.returns-in_err-judge_lines

@@ -4,9 +4,9 @@ use Rattle.plan_lives.specs.Index.{plan_of, start_of}
 use Rattle.plan_lives.specs.Lives.{life_of}
 use Rattle.plan_check.specs.Asks.{what_asked}
 use Rattle.plan_check.specs.PackageRules.{built_rule, coming_rule, finished_rule, lasting_rule, unbarred_rule, unblocked_rule}
-use Rattle.plan_check.specs.Verdicts.{both}
-use Rattle.plan_check.proofs.Told.{tells_first, tells_later}
-use Rattle.plan_check.proofs.Trying.{says_second}
+use Rattle.plan_rules.specs.Verdicts.{both}
+use Rattle.plan_rules.proofs.Told.{tells_first, tells_later}
+use Rattle.plan_rules.proofs.Trying.{says_second}
 use Rattle.plan_check.proofs.checking.judge_package.Goals as goal
 
 pub returns-in_err-judge_what_comes : goal.returns-in_err-judge_what_comes

@@ -8,9 +8,9 @@ use Rattle.plan_lives.specs.Lives.{life_of, lives_of}
 use Rattle.plan_lives.proofs.Keyed.{item_at}
 use Rattle.plan_check.specs.Asks.{AskedValue, all_asked, asking, what_asked}
 use Rattle.plan_check.specs.PackageRules.{package_rule}
-use Rattle.plan_check.specs.Verdicts.{each}
+use Rattle.plan_rules.specs.Verdicts.{each}
 use Rattle.plan_check.proofs.Binds.{asked_next, asked_refused}
-use Rattle.plan_check.proofs.Trying.{Hears, told_more}
+use Rattle.plan_rules.proofs.Trying.{Hears, told_more}
 use Rattle.plan_check.proofs.checking.judge_packages.Goals as goal
 
 pub judge_package-requires-clause-x : goal.judge_package-requires-clause-x

@@ -3,8 +3,8 @@ use Rattle.plan_lives.specs.Index.{plan_of, start_of}
 use Rattle.plan_lives.specs.Lives.{lives_of}
 use Rattle.plan_check.specs.Asks.{all_asked, asking}
 use Rattle.plan_check.specs.PackageRules.{package_rule}
-use Rattle.plan_check.specs.Verdicts.{each}
-use Rattle.plan_check.proofs.Trying.{Hears}
+use Rattle.plan_rules.specs.Verdicts.{each}
+use Rattle.plan_rules.proofs.Trying.{Hears}
 use Rattle.plan_check.proofs.checking.judge_packages.Given as goal
 
 abbrev pub invariant-loop-x : goal.invariant-loop-x

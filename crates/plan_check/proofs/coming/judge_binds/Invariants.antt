@@ -3,7 +3,7 @@ use Rattle.dep_atom.specs.Values.{atom_value}
 use Rattle.plan_lives.specs.Binding.{IsRightBind}
 use Rattle.plan_lives.specs.Index.{plan_of, start_of}
 use Rattle.plan_check.specs.Binding.{binds_rule}
-use Rattle.plan_check.proofs.Trying.{Hears}
+use Rattle.plan_rules.proofs.Trying.{Hears}
 use Rattle.plan_check.proofs.coming.judge_binds.Given as goal
 
 abbrev pub invariant-loop-atom : goal.invariant-loop-atom

@@ -4,8 +4,8 @@ use Rattle.plan_lives.specs.Index.{plan_of, start_of}
 use Rattle.plan_lives.specs.Lives.{life_of}
 use Rattle.plan_check.specs.Asks.{what_asked}
 use Rattle.plan_check.specs.PackageRules.{binding_rule, required_rule}
-use Rattle.plan_check.proofs.Told.{tells_first}
-use Rattle.plan_check.proofs.Trying.{says_second}
+use Rattle.plan_rules.proofs.Told.{tells_first}
+use Rattle.plan_rules.proofs.Trying.{says_second}
 use Rattle.plan_check.proofs.coming.judge_what_comes.Goals as goal
 
 pub returns-in_err-judge_required : goal.returns-in_err-judge_required

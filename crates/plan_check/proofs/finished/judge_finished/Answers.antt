@@ -5,8 +5,8 @@ use Rattle.pkg_state.specs.Package.{Package}
 use Rattle.pkg_state.specs.declared.class.Class.TheVariants.{Pdepend}
 use Rattle.plan_lives.specs.Lives.{moment_of}
 use Rattle.plan_check.specs.PackageRules.{if_left}
-use Rattle.plan_check.specs.Refusals.{Refusal as refused, Says}
-use Rattle.plan_check.specs.Verdicts.{refuse}
+use Rattle.plan_rules.specs.Refusals.{Refusal as refused, Says}
+use Rattle.plan_rules.specs.Verdicts.{refuse}
 use Rattle.plan_check.proofs.finished.judge_finished.Goals as goal
 
 pub returns-in-Commit : goal.returns-in-Commit

@@ -4,7 +4,7 @@ use Rattle.plan_lives.specs.Index.{plan_of, start_of}
 use Rattle.plan_lives.specs.Lives.{life_of}
 use Rattle.plan_lives.proofs.Within.{lives_within}
 use Rattle.plan_check.specs.PackageRules.{lasting_rule, satisfied_rule}
-use Rattle.plan_check.proofs.Trying.{told_more}
+use Rattle.plan_rules.proofs.Trying.{told_more}
 use Rattle.plan_check.proofs.lasting.judge_lasting.Goals as goal
 
 pub is_firm_through-requires-clause-within : goal.is_firm_through-requires-clause-within

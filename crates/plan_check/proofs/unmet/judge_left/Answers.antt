@@ -10,7 +10,7 @@ use Rattle.plan_lives.proofs.Steps.{within_more}
 use Rattle.plan_lives.proofs.Within.{lives_within}
 use Rattle.plan_check.specs.Home.{among, met_rule}
 use Rattle.plan_check.specs.PackageRules.{if_left}
-use Rattle.plan_check.specs.Refusals.{Says}
+use Rattle.plan_rules.specs.Refusals.{Says}
 use Rattle.plan_check.proofs.Accepting.{left_are}
 use Rattle.plan_check.proofs.AtHome.{says_among}
 use Rattle.plan_check.proofs.unmet.judge_left.Goals as goal

@@ -1,7 +1,7 @@
 use Rattle.std.proofs.Common.{drop}
 use Rattle.plan_text.specs.Plans.{addition_value}
-use Rattle.plan_check.specs.Verdicts.{each}
-use Rattle.plan_check.proofs.Trying.{Hears}
+use Rattle.plan_rules.specs.Verdicts.{each}
+use Rattle.plan_rules.proofs.Trying.{Hears}
 use Rattle.plan_link.specs.Faults.{flag_rule}
 use Rattle.plan_link.proofs.group.judge_flags.Given as goal
 

@@ -3,8 +3,8 @@ use Rattle.std.specs.List.{AllZip}
 use Rattle.std.proofs.lemmas.Result.{err_from_is_err_and}
 use Rattle.pkg_state.specs.Package.{Package}
 use Rattle.plan_text.specs.Plans.{addition_value}
-use Rattle.plan_check.specs.Verdicts.{each}
-use Rattle.plan_check.proofs.Trying.{each_next, each_refused}
+use Rattle.plan_rules.specs.Verdicts.{each}
+use Rattle.plan_rules.proofs.Trying.{each_next, each_refused}
 use Rattle.plan_link.specs.Faults.{addition_rule}
 use Rattle.plan_link.specs.Offers.{Brings}
 use Rattle.plan_link.proofs.Pairs.{seen_at, seen_within, zip_next}

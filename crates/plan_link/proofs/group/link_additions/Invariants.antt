@@ -1,8 +1,8 @@
 use Rattle.std.proofs.Common.{drop, map, take}
 use Rattle.std.specs.List.{AllZip}
 use Rattle.plan_text.specs.Plans.{addition_value}
-use Rattle.plan_check.specs.Verdicts.{each}
-use Rattle.plan_check.proofs.Trying.{Hears}
+use Rattle.plan_rules.specs.Verdicts.{each}
+use Rattle.plan_rules.proofs.Trying.{Hears}
 use Rattle.plan_link.specs.Faults.{addition_rule}
 use Rattle.plan_link.specs.Offers.{Brings}
 use Rattle.plan_link.proofs.group.link_additions.Given as goal

@@ -3,7 +3,7 @@ use Rattle.plan_law.specs.Plans.{Group}
 use Rattle.plan_text.specs.Plans.{GroupValue, plan_value}
 use Rattle.plan_check.specs.Asks.{AskedValue, all_asked}
 use Rattle.plan_check.specs.PackageRules.{plan_rule}
-use Rattle.plan_check.specs.Refusals.{told}
+use Rattle.plan_rules.specs.Refusals.{told}
 use Rattle.plan_check.specs.declared.asked.Asked.{Asked}
 use Rattle.plan_link.specs.Asking.{AreAsked}
 use Rattle.plan_link.specs.Judged.{StandsFor}

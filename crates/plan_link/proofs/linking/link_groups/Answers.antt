@@ -3,8 +3,8 @@ use Rattle.std.specs.List.{AllZip}
 use Rattle.std.proofs.lemmas.Result.{err_from_is_err_and}
 use Rattle.plan_law.specs.Plans.{Group}
 use Rattle.plan_text.specs.Plans.{group_value}
-use Rattle.plan_check.specs.Verdicts.{each_from}
-use Rattle.plan_check.proofs.Trying.{from_next, from_refused}
+use Rattle.plan_rules.specs.Verdicts.{each_from}
+use Rattle.plan_rules.proofs.Trying.{from_next, from_refused}
 use Rattle.plan_link.specs.Faults.{group_rule}
 use Rattle.plan_link.specs.Linked.{IsLinkedGroup}
 use Rattle.plan_link.proofs.Pairs.{seen_at, seen_within, zip_next}

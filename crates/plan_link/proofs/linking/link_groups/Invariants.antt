@@ -1,8 +1,8 @@
 use Rattle.std.proofs.Common.{drop, map, take}
 use Rattle.std.specs.List.{AllZip}
 use Rattle.plan_text.specs.Plans.{group_value}
-use Rattle.plan_check.specs.Verdicts.{each_from}
-use Rattle.plan_check.proofs.Trying.{Hears}
+use Rattle.plan_rules.specs.Verdicts.{each_from}
+use Rattle.plan_rules.proofs.Trying.{Hears}
 use Rattle.plan_link.specs.Faults.{group_rule}
 use Rattle.plan_link.specs.Linked.{IsLinkedGroup}
 use Rattle.plan_link.proofs.linking.link_groups.Given as goal

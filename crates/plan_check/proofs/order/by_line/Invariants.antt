@@ -1,6 +1,0 @@
-use Rattle.std.proofs.Common.{map, take}
-use Rattle.plan_check.specs.Changes.{AreByLine, change_of}
-use Rattle.plan_check.proofs.order.by_line.Given as goal
-
-abbrev pub invariant-loop-change : goal.invariant-loop-change
-invariant-loop-change l = AreByLine (map change_of (take l.change-index l.changes)) l.found.lists

@@ -1,0 +1,5 @@
+pub mod Verdicts
+pub mod Refusals
+pub mod Pairs
+pub mod Rules
+pub mod Changes
