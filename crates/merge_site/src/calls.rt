@@ -1,5 +1,5 @@
-ghost use Rattle.std.specs.Prelude.{◌≡◌, ◌<◌, ◌^◌, ℕ, Bool, List, Some, None, is_ok, length};
-ghost use Rattle.std.specs.Prelude.{slice_get};
+ghost use Rattle.std.specs.Prelude.{◌≡◌, ◌<◌, ◌^◌, ℕ, Bool, false, List, Some, None, is_ok};
+ghost use Rattle.std.specs.Prelude.{length, slice_get};
 ghost use Rattle.std.specs.Prelude.{IsErr, IsErrOf, IsSome, IsTrue};
 ghost use Rattle.file_tree.specs.Disk.{CountsFault};
 ghost use Rattle.journal.specs.Group.{token};
@@ -134,6 +134,7 @@ pub fn sync_group<T: Tree>(tree: &mut T, group: u32, needs: bool) -> Result<(), 
         Performs m (SyncPlaced group) (is_ok result) (T.story tree.old) (T.story tree.new) }
     ensures closed { IsTrue T.tells → (m : Machine) → needs_sync m group ≡ needs →
         Performs m (SyncClosed group) (is_ok result) (T.story tree.old) (T.story tree.new) }
+    ensures idle { needs ≡ false → tree.new ≡ tree.old }
     ensures faults { CountsFault (IsErr result) (T.faults tree.old) (T.faults tree.new) }
 {
     if needs {

@@ -1,6 +1,7 @@
 ghost use Rattle.std.specs.Prelude.{◌≡◌, false, is_ok, None, Some, IsErr, IsTrue};
 ghost use Rattle.file_tree.specs.Disk.{CountsFault};
-ghost use Rattle.merge_core.specs.Event.{Acknowledge, SyncClosed};
+ghost use Rattle.merge_core.specs.Event.{Acknowledge, SyncClosed, needs_sync};
+ghost use Rattle.merge_core.specs.Keeping.{machine_of};
 ghost use Rattle.merge_core.specs.Steps.{IsTaken};
 ghost use Rattle.owner_book.specs.Book.{ChangesClaim, HasSettled, Parts, claim_in};
 ghost use Rattle.merge_site.specs.Site.{Adds, Writes};
@@ -27,6 +28,8 @@ impl<T: Tree, S: Sink> Site<T, S> {
     pub fn sync_closed(&mut self, group: u32) -> Result<(), Failed>
         requires taken { IsTaken self.old.keeping group Step.SyncClosed }
         ensures event { Adds self.old self.new (SyncClosed group) (is_ok result) }
+        ensures idle { needs_sync (machine_of self.old.keeping) group ≡ false →
+            self.new.tree ≡ self.old.tree }
         ensures sink { self.new.sink ≡ self.old.sink }
         ensures faults { CountsFault (IsErr result) (T.faults self.old.tree)
             (T.faults self.new.tree) }

@@ -7,7 +7,8 @@ ghost use Rattle.journal.specs.Judging.{IsStaged};
 ghost use Rattle.journal.specs.Names.{stage_path};
 ghost use Rattle.merge_record.specs.Spelling.{IsSpellable, spelling};
 ghost use Rattle.merge_core.specs.Core.{standing_in};
-ghost use Rattle.merge_core.specs.Event.{Admits, Claim, PutRecord, PutStage, answered, put_content};
+ghost use Rattle.merge_core.specs.Event.{Admits, Claim, PutRecord, PutStage, answered};
+ghost use Rattle.merge_core.specs.Event.{needs_sync, put_content};
 ghost use Rattle.merge_core.specs.Keeping.{machine_of};
 ghost use Rattle.merge_core.specs.Payloads.{IsApart, IsAt};
 ghost use Rattle.merge_core.specs.Site.{Performs};
@@ -108,6 +109,7 @@ pub(crate) fn sync_step<T: Tree>(
     ensures log { log.new.items ≡ log.old.items ++ (event_of group step, is_ok result) ∷ [] }
     ensures performs { IsTrue T.tells → Performs (machine_of core.old) (event_of group step)
         (is_ok result) (T.story tree.old) (T.story tree.new) }
+    ensures idle { needs_sync (machine_of core.old) group ≡ false → tree.new ≡ tree.old }
     ensures faults { CountsFault (IsErr result) (T.faults tree.old) (T.faults tree.new) }
 {
     let needs = core.needs_sync(group);

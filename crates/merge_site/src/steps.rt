@@ -1,7 +1,8 @@
-ghost use Rattle.std.specs.Prelude.{◌≡◌, true, is_ok, IsErr};
+ghost use Rattle.std.specs.Prelude.{◌≡◌, false, true, is_ok, IsErr};
 ghost use Rattle.file_tree.specs.Disk.{CountsFault};
 ghost use Rattle.merge_core.specs.Event.{Abandon, Begin, CloseGate, SyncGate};
-ghost use Rattle.merge_core.specs.Event.{SyncPlaced, SyncSealed};
+ghost use Rattle.merge_core.specs.Event.{SyncPlaced, SyncSealed, needs_sync};
+ghost use Rattle.merge_core.specs.Keeping.{machine_of};
 ghost use Rattle.merge_core.specs.Steps.{IsTaken};
 ghost use Rattle.merge_site.specs.Site.{Adds};
 
@@ -49,6 +50,8 @@ impl<T: Tree, S: Sink> Site<T, S> {
     pub fn sync_sealed(&mut self, group: u32) -> Result<(), Failed>
         requires taken { IsTaken self.old.keeping group Step.SyncSealed }
         ensures event { Adds self.old self.new (SyncSealed group) (is_ok result) }
+        ensures idle { needs_sync (machine_of self.old.keeping) group ≡ false →
+            self.new.tree ≡ self.old.tree }
         ensures sink { self.new.sink ≡ self.old.sink }
         ensures faults { CountsFault (IsErr result) (T.faults self.old.tree)
             (T.faults self.new.tree) }
@@ -67,6 +70,8 @@ impl<T: Tree, S: Sink> Site<T, S> {
     pub fn sync_gate(&mut self, group: u32) -> Result<(), Failed>
         requires taken { IsTaken self.old.keeping group Step.SyncGate }
         ensures event { Adds self.old self.new (SyncGate group) (is_ok result) }
+        ensures idle { needs_sync (machine_of self.old.keeping) group ≡ false →
+            self.new.tree ≡ self.old.tree }
         ensures sink { self.new.sink ≡ self.old.sink }
         ensures faults { CountsFault (IsErr result) (T.faults self.old.tree)
             (T.faults self.new.tree) }
@@ -85,6 +90,8 @@ impl<T: Tree, S: Sink> Site<T, S> {
     pub fn sync_placed(&mut self, group: u32) -> Result<(), Failed>
         requires taken { IsTaken self.old.keeping group Step.SyncPlaced }
         ensures event { Adds self.old self.new (SyncPlaced group) (is_ok result) }
+        ensures idle { needs_sync (machine_of self.old.keeping) group ≡ false →
+            self.new.tree ≡ self.old.tree }
         ensures sink { self.new.sink ≡ self.old.sink }
         ensures faults { CountsFault (IsErr result) (T.faults self.old.tree)
             (T.faults self.new.tree) }
