@@ -33,7 +33,7 @@ use Rattle.claim_law.specs.Owners.{OwnersAre, Tells, Wishes}
 use Rattle.claim_law.proofs.Lists.{IsBehind, get_there, one_first, place_of, place_within, take_there, wished_if_has}
 
 -- no path is below itself
-not_below : (q : List ℕ) → is_below q q ≡ false
+pub not_below : (q : List ℕ) → is_below q q ≡ false
 not_below q = and_right _ (slice_index q (length q) == 47) (ap (λ (b : ℕ). b == 47) (get_or-eq_default q 0 {n = length q} (omega arith)))
 
 -- packages of one folder have one file of CONTENTS
@@ -78,7 +78,7 @@ covered_cases c q e = elim (cases_Bool (is_in c.does.content.removals q)) [
 ]
 
 -- of wishes that are free together, each is free behind those before it
-free_behind : (b : Book) (dying : OwnerKey → Bool) (ws : List Wish) → AreFree b dying ws → (before : List Wish) (w : Wish) → IsBehind ws before w → FreeIn b dying before w
+pub free_behind : (b : Book) (dying : OwnerKey → Bool) (ws : List Wish) → AreFree b dying ws → (before : List Wish) (w : Wish) → IsBehind ws before w → FreeIn b dying before w
 free_behind b dying ws free before w is =
     let within : length before < length ws = subst (λ (l : List Wish). length before < length l) (sym is.whole) (place_within before is.after w) in
     let there : slice_get ws (length before) ≡ Some w = ap (λ (l : List Wish). slice_get l (length before)) is.whole ∙ get_there before is.after w in

@@ -1,4 +1,5 @@
 pub mod Lists
 pub mod Granted
 pub mod Settled
+pub mod Tidy
 pub mod Turns

@@ -1,4 +1,5 @@
 pub mod Granted
 pub mod Owners
 pub mod Settled
+pub mod Tidy
 pub mod Turns

@@ -1,5 +1,6 @@
 ghost use Rattle.claim_law.specs.Granted.{GrantedClaimsAreGood};
 ghost use Rattle.claim_law.specs.Settled.{SettledOwnersAre};
+ghost use Rattle.claim_law.specs.Tidy.{BooksStayTidy};
 ghost use Rattle.claim_law.specs.Turns.{GrantedLinesAreApart};
 
 /// A law: a claim that the book takes is a good one, over the packages that its owners are, and
@@ -21,3 +22,10 @@ pub fn settled_owners_are()
     version_text::one_name_and_version();
     version_text::one_spelling();
 }
+
+/// A law: while claims are taken, settled and released, no path is in two of them, an owner of a
+/// claimed path goes with the group that claims it, and no path that is owned or to be placed is
+/// above or below another one.
+pub fn books_stay_tidy()
+    ensures { BooksStayTidy }
+{}

@@ -9,7 +9,7 @@
 //! book has them as the owners of what they recorded and of their own folders. Whether an atom
 //! matches one of them is answered exactly.
 //!
-//! **Only tested**: nothing yet.
+//! **Only tested**, within whole runs: that with ample memory what a run begins with is read.
 //!
 //! ```
 //! let opening = read_opening(alloc, &mut tree, &implicit)?;

@@ -12,7 +12,7 @@
 //! for what it places. For an installed package that some group removes what it owns is held, and
 //! for one that came what it placed.
 //!
-//! **Only tested**: nothing so far.
+//! **Only tested**, within whole runs: that with ample memory all this is made.
 //!
 //! It takes time in n log n of all packages and paths.
 //!
