@@ -1,6 +1,6 @@
 -- What a run writes, from its groups' lines to its last line.
 use Rattle.std.proofs.Common.{◌≡◌, ℕ, Bool, List, [], ◌∷◌, ◌++◌, inl, inr, refl, ap, sym, ◌∙◌, subst, append_assoc, append-nil, length, take}
-use Rattle.file_tree.specs.Disk.{Map}
+use Rattle.file_tree.specs.Disk.{Map, Rose}
 use Rattle.group_run.specs.Lines.{AreLines, Wrote}
 use Rattle.plan_law.specs.Plans.{Group}
 use Rattle.plan_make.specs.Plans.{line_for}
@@ -38,22 +38,23 @@ all_of_it [] = refl
 all_of_it (b ∷ bs) = ap (λ (l : List ℕ). b ∷ l) (all_of_it bs)
 
 -- before a group there is no line
-no_line : (line : ℕ → List ℕ) → AreLines line [] [] []
-no_line line = record { rest = []; order = refl; cut = []; begun = (0, refl); whole = refl }
+no_line : (failed : Type 0) (line : ℕ → List ℕ) → AreLines failed line [] [] []
+no_line failed line = record { rest = []; order = refl; cut = []; begun = (0, refl); uncut = inl refl; whole = refl }
 
 -- the lines of the jobs are those of the plan
-pub wrote_lines : (jobs : List Job) (plan : List Group) (history acknowledged old new : List ℕ) → ((n : ℕ) → line_for jobs n ≡ line_of plan n) → Wrote (AreLines (line_for jobs) history acknowledged) old new → Wrote (AreLines (line_of plan) history acknowledged) old new
-wrote_lines jobs plan history acknowledged old new same (text, are, e) =
+pub wrote_lines : (failed : Type 0) (jobs : List Job) (plan : List Group) (history acknowledged old new : List ℕ) → ((n : ℕ) → line_for jobs n ≡ line_of plan n) → Wrote (AreLines failed (line_for jobs) history acknowledged) old new
+    → Wrote (AreLines failed (line_of plan) history acknowledged) old new
+wrote_lines failed jobs plan history acknowledged old new same (text, are, e) =
     let line : ◌≡◌ {A = ℕ → List ℕ} (line_for jobs) (line_of plan) = λ i n. same n i in
-    (text, subst (λ (f : ℕ → List ℕ). AreLines f history acknowledged text) line are, e)
+    (text, subst (λ (f : ℕ → List ℕ). AreLines failed f history acknowledged text) line are, e)
 
-module _ (words : List (List ℕ)) (tells : Bool) (opening : Map) where
+module _ (failed : Type 0) (words : List (List ℕ)) (tells : Bool) (opening : Map) where
   abbrev Said : List ℕ → List ℕ → Status → List ℕ → Type 0
-  Said = IsSaid words tells opening
+  Said = IsSaid failed words tells opening
 
   -- a run that merges has written lines of its plan's groups
   pub wrote_merging : (plan : List Group) (history acknowledged : List ℕ) (came : Status) (old new : List ℕ) → IsNamed words tells opening plan
-      → Wrote (AreLines (line_of plan) history acknowledged) old new → Wrote (Said history acknowledged came) old new
+      → Wrote (AreLines failed (line_of plan) history acknowledged) old new → Wrote (Said history acknowledged came) old new
   wrote_merging plan history acknowledged came old new named (text, are, e) =
       (text, merging (named.asked, named.is, named.done) (record { plan = plan; named = named; lines = are }), e)
 
@@ -61,11 +62,11 @@ module _ (words : List (List ℕ)) (tells : Bool) (opening : Map) where
   pub wrote_resting : (plan : List Group) (history acknowledged : List ℕ) (came : Status) (old new : List ℕ) → IsNamed words tells opening plan → history ≡ [] → acknowledged ≡ [] → new ≡ old → Wrote (Said history acknowledged came) old new
   wrote_resting plan history acknowledged came old new named none none' same =
       wrote_merging plan history acknowledged came old new named
-      ([], subst (λ (h : List ℕ). AreLines (line_of plan) h acknowledged []) (sym none) (subst (λ (a : List ℕ). AreLines (line_of plan) [] a []) (sym none') (no_line (line_of plan))), same ∙ sym (append-nil old))
+      ([], subst (λ (h : List ℕ). AreLines failed (line_of plan) h acknowledged []) (sym none) (subst (λ (a : List ℕ). AreLines failed (line_of plan) [] a []) (sym none') (no_line failed (line_of plan))), same ∙ sym (append-nil old))
 
   -- one that shows a plan its text, so far as that could be written
   pub wrote_showing : (shown history acknowledged : List ℕ) (came : Status) (old new : List ℕ) → IsShownAs words tells opening shown → history ≡ []
-      → Wrote (IsCut shown came) old new → Wrote (Said history acknowledged came) old new
+      → Wrote (IsCut failed shown came) old new → Wrote (Said history acknowledged came) old new
   wrote_showing shown history acknowledged came old new is none (text, cut, e) = (text, showing none (shown, is, cut), e)
 
   -- one that found no plan nothing
@@ -77,13 +78,30 @@ module _ (words : List (List ℕ)) (tells : Bool) (opening : Map) where
   -- where there is no memory for its last line, a run has said what it said
   said_memory : (history acknowledged : List ℕ) (came : Status) (text : List ℕ) → Said history acknowledged came text → Said history acknowledged status.Memory text
   said_memory history acknowledged came text (merging asks lines) = merging asks lines
-  said_memory history acknowledged came text (showing none (shown, is, (cut, whole))) = showing none (shown, is, (cut, λ of. absurd of))
+  said_memory history acknowledged came text (showing none (shown, is, (cut, whole, uncut))) = showing none (shown, is, (cut, (λ of. absurd of), uncut))
   said_memory history acknowledged came text (silent none undone is) = silent none (λ of. of) is
 
-  -- what was said and then the last line
+-- what was said and then the last line
+module _ (words : List (List ℕ)) (tells : Bool) (opening : Map) (before between now : ℕ) where
   pub wrote_all : (IsAnswer : Status → Type 0) (history acknowledged : List ℕ) (came s : Status) (old mid new : List ℕ) → IsAnswer came → IsAnswer status.Memory
-      → Wrote (Said history acknowledged came) old mid → Wrote (IsEnd came s) mid new → Wrote (IsOutput words tells opening IsAnswer history acknowledged s) old new
-  wrote_all IsAnswer history acknowledged came s old mid new answer memory (lines, said, first) (last, inl ends, second) =
-      (lines ++ last, record { lines = lines; came = came; said = said; answer = answer; last = last; ends = ends; whole = refl }, second ∙ (ap (λ (x : List ℕ). x ++ last) first ∙ append_assoc old lines last))
-  wrote_all IsAnswer history acknowledged came s old mid new answer memory (lines, said, first) (last, inr ends, second) =
-      (lines ++ last, record { lines = lines; came = status.Memory; said = said_memory history acknowledged came lines said; answer = memory; last = last; ends = ends; whole = refl }, second ∙ (ap (λ (x : List ℕ). x ++ last) first ∙ append_assoc old lines last))
+      → Wrote (IsSaid (Rose before between) words tells opening history acknowledged came) old mid → Wrote (IsEnd (Rose between now) came s) mid new
+      → Wrote (IsOutput before now words tells opening IsAnswer history acknowledged s) old new
+  wrote_all IsAnswer history acknowledged came s old mid new answer memory (lines, said, first) (last, inl ends, second) = (
+    lines ++ last,
+    record { lines = lines; came = came; between = between; said = said; answer = answer; last = last; ends = ends; whole = refl },
+    second ∙ (ap (λ (x : List ℕ). x ++ last) first ∙ append_assoc old lines last),
+  )
+  wrote_all IsAnswer history acknowledged came s old mid new answer memory (lines, said, first) (last, inr ends, second) = (
+    lines ++ last,
+    record {
+      lines = lines;
+      came = status.Memory;
+      between = between;
+      said = said_memory (Rose before between) words tells opening history acknowledged came lines said;
+      answer = memory;
+      last = last;
+      ends = ends;
+      whole = refl;
+    },
+    second ∙ (ap (λ (x : List ℕ). x ++ last) first ∙ append_assoc old lines last),
+  )

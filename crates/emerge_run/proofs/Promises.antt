@@ -17,6 +17,7 @@ use Rattle.merge_core.specs.Keeping.{Keeping}
 use Rattle.group_run.specs.Applied.{number}
 use Rattle.group_run.specs.Lines.{Wrote}
 use Rattle.group_run.specs.Went.{HaveRun}
+use Rattle.group_run.proofs.Rising.{rose_earlier, rose_later}
 use Rattle.image_build.specs.Images.{IsBuilt, IsPastLimit}
 use Rattle.opening.specs.Faults as openings
 use Rattle.plan_find.specs.Choices.{IsFound}
@@ -28,7 +29,6 @@ use Rattle.plan_run.specs.Merges.{MergesPlan}
 use Rattle.plan_run.specs.Runs.{upto}
 use Rattle.plan_run.specs.declared.merge.Merged.{Merged}
 use Rattle.plan_run.specs.declared.merge.Task.{Task}
-use Rattle.plan_run.proofs.Whole.{rose_earlier, rose_later}
 use Rattle.plan_sound.specs.Ends.{HasGroups, Images}
 use Rattle.recovery.specs.Promise as promises
 use Rattle.recovery.specs.Promise.{IsFaultOf}
@@ -108,7 +108,7 @@ module _ {T S B : Type 0} (trees : Tree T) (sinks : Sink S) (builders : Builder 
           output = counts_for _ (s ≡ status.OutputFault) (sinks.faults out) (sinks.faults r.sink) (output_ended ids n r.end s is) a.output;
         };
         tree = λ t. merged_to Image ps plan jobs task.book old last (is_task.owners t) history r.end s is (run.tree t);
-        written = λ t. wrote_lines jobs plan history r.acknowledged.items (sinks.written out) (sinks.written r.sink) is_task.lines (run.written t);
+        written = λ t. wrote_lines _ jobs plan history r.acknowledged.items (sinks.written out) (sinks.written r.sink) is_task.lines (run.written t);
         back = record {
           opening = refl;
           plan = refl;
@@ -289,7 +289,7 @@ module _ {T S B : Type 0} (trees : Tree T) (sinks : Sink S) (builders : Builder 
           output = a.output;
         };
         tree = λ t. (comes t).1;
-        written = λ t. wrote_merging words trees.tells before plan run.history.items run.acknowledged.items s (sinks.written out) (sinks.written run.out) named (merges.written t);
+        written = λ t. wrote_merging _ words trees.tells before plan run.history.items run.acknowledged.items s (sinks.written out) (sinks.written run.out) named (merges.written t);
         back = record {
           begun = λ t. inr (beside t);
           opening = λ t. gives_all (AreInstalledAfter before) (HasTooMuchAfter before) s run.opening.items (beside t);
@@ -312,7 +312,7 @@ module _ {T S B : Type 0} (trees : Tree T) (sinks : Sink S) (builders : Builder 
 
     runs_idle : (IsTrue trees.tells → Comes words Image old (trees.story mid) history.items s) → ((n : ℕ) → s ≡ status.Ok n → n ≡ 0) → ((f : WordFault) → s ≡ status.Usage f → IsUsage words f)
         → (¬ AskForMerge words → IsOfWords s ⊎ (s ≡ status.Memory)) → ((id : PackageId) → ¬ (s ≡ status.BuildFailed id)) → CountsFault (s ≡ status.DeviceFault) (trees.faults tree) (trees.faults mid)
-        → CountsFault (s ≡ status.OutputFault) (sinks.faults out) (sinks.faults said) → (IsTrue sinks.tells → Wrote (IsSaid words trees.tells before history.items acknowledged.items s) (sinks.written out) (sinks.written said))
+        → CountsFault (s ≡ status.OutputFault) (sinks.faults out) (sinks.faults said) → (IsTrue sinks.tells → Wrote (IsSaid (Rose (sinks.faults out) (sinks.faults said)) words trees.tells before history.items acknowledged.items s) (sinks.written out) (sinks.written said))
         → (IsTrue trees.tells → GivesBack (AreInstalledAfter before) (HasTooMuchAfter before) s opening.items) → (IsUnread s → opening.items ≡ []) → (IsTrue trees.tells → IfSome plan (IsPlanOf words before)) → (HasPlan s → ¬ (plan ≡ None))
         → RunsCommand trees sinks builders false words tree out pool idle
     runs_idle comes zero usage no_merge not_built device output written gives unread is_plan planned = record {
@@ -348,7 +348,7 @@ module _ {T S B : Type 0} (trees : Tree T) (sinks : Sink S) (builders : Builder 
     -- .. since its plan has no group, or is only shown
     runs_resting : (w : Work) → ChoosesWork trees words tree mid (as_seen opening (Ok w)) → MatchOption plan ⊥ (λ p. p ≡ plan_in w) → (s ≡ status.Ok 0) ⊎ (s ≡ status.OutputFault)
         → (IsTrue trees.tells → Comes words Image old (trees.story mid) history.items s) → CountsFault (s ≡ status.OutputFault) (sinks.faults out) (sinks.faults said)
-        → (IsTrue sinks.tells → Wrote (IsSaid words trees.tells before history.items acknowledged.items s) (sinks.written out) (sinks.written said)) → RunsCommand trees sinks builders false words tree out pool idle
+        → (IsTrue sinks.tells → Wrote (IsSaid (Rose (sinks.faults out) (sinks.faults said)) words trees.tells before history.items acknowledged.items s) (sinks.written out) (sinks.written said)) → RunsCommand trees sinks builders false words tree out pool idle
     runs_resting w chooses is_plan ends comes output written =
         runs_idle comes (λ n e. elim ends [ inl ok ↦ (let q : 0 ≡ n = cc (ok, e) in sym q) | inr fault ↦ absurd (cc (fault, e)) ]) (λ f e. absurd (elim ends [ inl ok ↦ cc (ok, e) | inr fault ↦ cc (fault, e) ]))
         (λ other. absurd (other (asks_of words trees.tells before w chooses.answer.work))) (λ id e. elim ends [ inl ok ↦ cc (ok, e) | inr fault ↦ cc (fault, e) ])
@@ -360,13 +360,13 @@ module _ {T S B : Type 0} (trees : Tree T) (sinks : Sink S) (builders : Builder 
   -- a command that shows its plan
   pub runs_showing : (mid : T) (said : S) (opening : Vec Installed Global) (text : String Global) (plan : List Group) (s : Status) (run : Ended T S (Kept B)) (none : run.history.items ≡ []) (untold : run.acknowledged.items ≡ [])
       → run ≡ idle mid said opening (Some plan) run.history run.acknowledged s none untold → ChoosesWork trees words tree mid (as_seen opening (Ok (work.Show text plan))) → (s ≡ status.Ok 0) ⊎ (s ≡ status.OutputFault)
-      → CountsFault (s ≡ status.OutputFault) (sinks.faults out) (sinks.faults said) → (IsTrue sinks.tells → Wrote (IsCut (string_bytes text) s) (sinks.written out) (sinks.written said)) → RunsCommand trees sinks builders false words tree out pool run
+      → CountsFault (s ≡ status.OutputFault) (sinks.faults out) (sinks.faults said) → (IsTrue sinks.tells → Wrote (IsCut (Rose (sinks.faults out) (sinks.faults said)) (string_bytes text) s) (sinks.written out) (sinks.written said)) → RunsCommand trees sinks builders false words tree out pool run
   runs_showing mid said opening text plan s run none untold is chooses ends output written =
       let history = run.history in
       let told = run.acknowledged in
       subst (RunsCommand trees sinks builders false words tree out pool) (sym is) (runs_resting mid said opening (Some plan) history told s none untold (work.Show text plan) chooses refl ends
       (λ t. outcome_shown words Image old (trees.story mid) history.items none opening.items (string_bytes text) plan s (chooses.tree t) (chooses.answer.found t) ends) output
-      (λ t. wrote_showing words trees.tells before (string_bytes text) history.items told.items s (sinks.written out) (sinks.written said) chooses.answer.work none (written t)))
+      (λ t. wrote_showing _ words trees.tells before (string_bytes text) history.items told.items s (sinks.written out) (sinks.written said) chooses.answer.work none (written t)))
 
   -- one whose plan has no group
   pub runs_empty : (mid : T) (opening : Vec Installed Global) (plan : List Group) (run : Ended T S (Kept B)) (none : run.history.items ≡ []) (untold : run.acknowledged.items ≡ [])
@@ -376,7 +376,7 @@ module _ {T S B : Type 0} (trees : Tree T) (sinks : Sink S) (builders : Builder 
       let told = run.acknowledged in
       subst (RunsCommand trees sinks builders false words tree out pool) (sym is) (runs_resting mid out opening (Some plan) history told (status.Ok 0) none untold (work.Rest plan) chooses refl (inl refl)
       (λ t. (let todo = chooses.answer.found t in outcome_rest words Image old (trees.story mid) history.items none opening.items plan (chooses.tree t) todo.0 todo.1)) (record { later = omega arith; rose = λ e. absurd (cc e) })
-      (λ t. wrote_resting words trees.tells before plan history.items told.items (status.Ok 0) (sinks.written out) (sinks.written out) chooses.answer.work none untold refl))
+      (λ t. wrote_resting _ words trees.tells before plan history.items told.items (status.Ok 0) (sinks.written out) (sinks.written out) chooses.answer.work none untold refl))
 
   -- a command that finds no plan
   pub runs_unfound : (mid : T) (opening : Vec Installed Global) (s : Status) (run : Ended T S (Kept B)) (none : run.history.items ≡ []) (untold : run.acknowledged.items ≡ [])
@@ -390,7 +390,7 @@ module _ {T S B : Type 0} (trees : Tree T) (sinks : Sink S) (builders : Builder 
       subst (RunsCommand trees sinks builders false words tree out pool) (sym is) (runs_idle mid out opening None history told s none untold
       (λ t. outcome_unfound words Image old (trees.story mid) history.items none s (chooses.tree t) early) (λ n e. absurd (not (status.Ok n) e)) (λ f e. a.usage f (ap Err e)) a.no_merge (λ id e. not (status.BuildFailed id) e)
       (counts_for _ (s ≡ status.DeviceFault) (trees.faults tree) (trees.faults mid) (λ e. ap Err e) a.device)
-      (record { later = omega arith; rose = λ e. absurd (not status.OutputFault e) }) (λ t. wrote_nothing words trees.tells before history.items told.items s (sinks.written out) (sinks.written out) early none refl)
+      (record { later = omega arith; rose = λ e. absurd (not status.OutputFault e) }) (λ t. wrote_nothing _ words trees.tells before history.items told.items s (sinks.written out) (sinks.written out) early none refl)
       chooses.back.opening chooses.back.unread (λ t. tt) (λ of. absurd (early_no_plan s early of)))
 
   -- the last line of a command
@@ -408,7 +408,7 @@ module _ {T S B : Type 0} (trees : Tree T) (sinks : Sink S) (builders : Builder 
       ];
     }
 
-    pub runs_finished : (run.status ≡ status.DeviceFault → s ≡ status.DeviceFault) → sinks.faults run.out ≤ sinks.faults said → (IsTrue sinks.tells → Wrote (IsEnd run.status s) (sinks.written run.out) (sinks.written said))
+    pub runs_finished : (run.status ≡ status.DeviceFault → s ≡ status.DeviceFault) → sinks.faults run.out ≤ sinks.faults said → (IsTrue sinks.tells → Wrote (IsEnd (Rose (sinks.faults run.out) (sinks.faults said)) run.status s) (sinks.written run.out) (sinks.written said))
         → RunsCommand trees sinks builders false words tree out pool run → RunsCommand trees sinks builders true words tree out pool (record run { status = s; out = said })
     runs_finished stays le line runs =
         let a = runs.answer in
@@ -443,7 +443,7 @@ module _ {T S B : Type 0} (trees : Tree T) (sinks : Sink S) (builders : Builder 
                 unchanged = keeps (λ x. IsOfWords x → new ≡ old) o.unchanged (λ of. absurd of) (λ of. absurd of);
                 journal = keeps (KeepsJournal old new) o.journal tt tt;
               };
-          written = λ t. wrote_all words trees.tells before (λ x. IsTrue trees.tells → Asks words before Image history x) history told run.status s (sinks.written out) (sinks.written run.out) (sinks.written said)
+          written = λ t. wrote_all words trees.tells before (sinks.faults out) (sinks.faults run.out) (sinks.faults said) (λ x. IsTrue trees.tells → Asks words before Image history x) history told run.status s (sinks.written out) (sinks.written run.out) (sinks.written said)
               a.asked (λ u. tt) (runs.written t) (line t);
           back = record {
             begun = b.begun;

@@ -39,8 +39,8 @@ abbrev pub IsShown : Map → Asked → Type 0
 IsShown m asked = (found : Found) × IsFound m asked found × (asked.pretend ≡ true)
 
 -- The answer of the merge of a plan's groups over a tree, behind those of the history: Ok means
--- that all are merged. Each refusal comes exactly where it is the first of the next group: of its
--- builds, its objects, its record, and then its claim.
+-- that all are merged. Each refusal is one of the next group, for a build, an object, the record or
+-- the claim.
 abbrev pub AsksMerge : Images → List Installed → List Group → List Job → Map → List ℕ → Status →
     Type 0
 AsksMerge Image ps plan jobs m history (status.Ok groups) =

@@ -74,12 +74,14 @@ module _ {T S B : Type 0} (trees : Tree T) (sinks : Sink S) (builders : Builder 
 
   -- What it answers, what a crash leaves and the tree holds, what is written, and what comes back.
   -- Written are the lines of the acknowledged groups and some beginning of those of the other
-  -- groups, or the plan that is shown; and then the last line, which only a fault cuts.
+  -- groups, or the plan that is shown; and then the last line. Only where the output failed is
+  -- anything cut.
   pub record RunsCommand : Type 0 where
     pub answer : AnswersCommand
     pub tree : IsTrue trees.tells → Outcome words Image (trees.story start)
         (trees.story run.tree) run.history.items run.status
-    pub written : IsTrue sinks.tells → Wrote (IsWritten last words trees.tells before
+    pub written : IsTrue sinks.tells → Wrote (IsWritten last
+        (sinks.faults out) (sinks.faults run.out) words trees.tells before
         (λ s. IsTrue trees.tells → Asks words before Image run.history.items s)
         run.history.items run.acknowledged.items run.status)
         (sinks.written out) (sinks.written run.out)

@@ -3,7 +3,7 @@ use Rattle.std.specs.Prelude.{◌≡◌, ℕ, List, [], IsTrue, MatchOption, Non
 use Rattle.build_pool.specs.Pool.{Kept, PoolRose, SameIds}
 use Rattle.build_pool.specs.declared.builders.Builder.{Ghosts as Builder}
 use Rattle.dep_atom.specs.declared.package.PackageId.{PackageId}
-use Rattle.file_tree.specs.Disk.{CountsFault}
+use Rattle.file_tree.specs.Disk.{CountsFault, Rose}
 use Rattle.file_tree.specs.declared.traits.Sink.{Ghosts as Sink}
 use Rattle.file_tree.specs.declared.traits.Tree.{Ghosts as Tree}
 use Rattle.database_law.specs.Packages.{Installed}
@@ -62,6 +62,6 @@ module _ {T S B : Type 0} (trees : Tree T) (sinks : Sink S) (builders : Builder 
     pub tree : IsTrue trees.tells → MergedTo Image installed groups task.jobs.items
         (trees.story start) (trees.story run.tree) run.history.items run.status
     pub written : IsTrue sinks.tells →
-        Wrote (AreLines (line_of groups) run.history.items run.acknowledged.items)
-        (sinks.written out) (sinks.written run.out)
+        Wrote (AreLines (Rose (sinks.faults out) (sinks.faults run.out)) (line_of groups)
+        run.history.items run.acknowledged.items) (sinks.written out) (sinks.written run.out)
     pub back : GivesBackMerge

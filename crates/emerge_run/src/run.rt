@@ -149,7 +149,8 @@ fn finished<T, S: Sink, P>(alloc: Global, run: Ended<T, S, P>) -> Ended<T, S, P>
     ensures status { (result.status ≡ run.status) ⊎ ((result.status ≡ Status.Memory) ⊎
         ((result.status ≡ Status.OutputFault) × Rose (S.faults run.out) (S.faults result.out))) }
     ensures device { run.status ≡ Status.DeviceFault → result.status ≡ Status.DeviceFault }
-    ensures written { IsTrue S.tells → Wrote (IsEnd run.status result.status)
+    ensures written { IsTrue S.tells → Wrote
+        (IsEnd (Rose (S.faults run.out) (S.faults result.out)) run.status result.status)
         (S.written run.out) (S.written result.out) }
     ensures count { S.faults run.out ≤ S.faults result.out }
 {

@@ -9,8 +9,9 @@ use run_status::Status;
 /// Writes the text of a plan, which is only shown.
 pub fn show_plan<S: Sink>(out: &mut S, text: &str) -> Status
     ensures status { (result ≡ Status.Ok 0) ⊎ (result ≡ Status.OutputFault) }
-    ensures written { IsTrue S.tells → Wrote (IsCut text.now result) (S.written out.old)
-        (S.written out.new) }
+    ensures written { IsTrue S.tells → Wrote
+        (IsCut (Rose (S.faults out.old) (S.faults out.new)) text.now result)
+        (S.written out.old) (S.written out.new) }
     ensures output { result ≡ Status.OutputFault → Rose (S.faults out.old) (S.faults out.new) }
     ensures out_count { S.faults out.old ≤ S.faults out.new }
 {

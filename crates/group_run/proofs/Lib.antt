@@ -6,6 +6,7 @@ pub mod Granted
 pub mod Left
 pub mod Onward
 pub mod Rest
+pub mod Rising
 pub mod Settling
 pub mod Staged
 pub mod Stood

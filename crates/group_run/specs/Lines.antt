@@ -17,12 +17,14 @@ AreTold history acknowledged = (acknowledged ≡ history)
     ⊎ ((last : ℕ) × (history ≡ acknowledged ++ last ∷ []))
 
 -- the lines of the acknowledged groups, in order, and then some beginning of the lines of the
--- groups of the history that are not acknowledged
-pub record AreLines (line : ℕ → List ℕ) (history acknowledged text : List ℕ) : Type 0 where
+-- groups of the history that are not acknowledged; nothing of these unless the output failed
+pub record AreLines (failed : Type 0) (line : ℕ → List ℕ) (history acknowledged text : List ℕ) :
+    Type 0 where
   pub rest : List ℕ
   pub order : history ≡ acknowledged ++ rest
   pub cut : List ℕ
   pub begun : IsBeginning (flat_map line rest) cut
+  pub uncut : (cut ≡ []) ⊎ failed
   pub whole : text ≡ flat_map line acknowledged ++ cut
 
 abbrev pub line_or_none : Option SiteGroup → List ℕ

@@ -1,6 +1,6 @@
 ghost use Rattle.std.specs.Prelude.{◌≡◌, ◌<◌, [], length, IfErr, IsErrOf, IsTrue, OnOk};
 ghost use Rattle.basics.specs.Members.{AreDistinct, Has};
-ghost use Rattle.file_tree.specs.Disk.{CountsFault};
+ghost use Rattle.file_tree.specs.Disk.{CountsFault, Rose};
 ghost use Rattle.merge_site.specs.Site.{IsOpened, IsSameSite};
 ghost use Rattle.group_run.specs.Causes.{IsOfGroup};
 ghost use Rattle.group_run.specs.Lines.{AreLines, AreTold, IsBeginning, Wrote, line_in};
@@ -33,7 +33,8 @@ fn merge_all<T: Tree, S: Sink>(
     ensures over { IsOver T.tells (T.story site.new.opened).now.holds turns.items
         history.new.items acknowledged.new.items result site.new }
     ensures written { IsTrue S.tells → Wrote
-        (AreLines (line_in site.old.groups) history.new.items acknowledged.new.items)
+        (AreLines (Rose (S.faults site.old.sink) (S.faults site.new.sink))
+        (line_in site.old.groups) history.new.items acknowledged.new.items)
         (S.written site.old.sink) (S.written site.new.sink) }
     ensures device { CountsFault (IsErrOf result (Stop.Tree TreeFault.Failed))
         (T.faults site.old.tree) (T.faults site.new.tree) }
@@ -72,7 +73,8 @@ pub(crate) fn drive<T: Tree, S: Sink>(
     ensures merged { OnOk result (history.new.items ≡ numbers turns.items) }
     ensures told { OnOk result (acknowledged.new.items ≡ numbers turns.items) }
     ensures written { IsTrue S.tells → Wrote
-        (AreLines (line_in site.old.groups) history.new.items acknowledged.new.items)
+        (AreLines (Rose (S.faults site.old.sink) (S.faults site.new.sink))
+        (line_in site.old.groups) history.new.items acknowledged.new.items)
         (S.written site.old.sink) (S.written site.new.sink) }
     ensures cause { IfErr result (StopsBehind T.tells (T.story site.old.tree).now.holds
         site.old.opened_book site.old.groups turns.items (length history.new.items)) }

@@ -1,6 +1,6 @@
 ghost use Rattle.std.specs.Prelude.{◌<◌, ◌++◌, ◌∷◌, [], ℕ, List, suc, length};
-ghost use Rattle.std.specs.Prelude.{IfErr, IsErrOf, IsTrue, OnOk};
-ghost use Rattle.file_tree.specs.Disk.{CountsFault};
+ghost use Rattle.std.specs.Prelude.{IfErr, IsErrOf, IsTrue, OnOk, ⊤};
+ghost use Rattle.file_tree.specs.Disk.{CountsFault, Rose};
 ghost use Rattle.group_run.specs.Lines.{AreLines, Wrote, line_in};
 ghost use Rattle.group_run.specs.Runs.{EndsAt, IsNew, IsUnderWay};
 ghost use Rattle.group_run.specs.Through.{HasRoom};
@@ -37,9 +37,10 @@ pub fn merge_next<T: Tree, S: Sink>(
     ensures left { (n : ℕ) → HasRoom (suc n) history.old → HasRoom n history.new }
     ensures more { (n : ℕ) → HasRoom (suc n) acknowledged.old → HasRoom n acknowledged.new }
     ensures written { IsTrue S.tells → (start : List ℕ) →
-        Wrote (AreLines (line_in site.old.groups) history.old.items acknowledged.old.items)
+        Wrote (AreLines ⊤ (line_in site.old.groups) history.old.items acknowledged.old.items)
         start (S.written site.old.sink) →
-        Wrote (AreLines (line_in site.old.groups) history.new.items acknowledged.new.items)
+        Wrote (AreLines (Rose (S.faults site.old.sink) (S.faults site.new.sink))
+        (line_in site.old.groups) history.new.items acknowledged.new.items)
         start (S.written site.new.sink) }
     ensures device { CountsFault (IsErrOf result (Stop.Tree TreeFault.Failed))
         (T.faults site.old.tree) (T.faults site.new.tree) }

@@ -1,7 +1,7 @@
 ghost use Rattle.std.specs.Prelude.{◌≡◌, ◌<◌, ◌^◌, [], length, Err, None};
 ghost use Rattle.std.specs.Prelude.{IfErr, IfOk, IsErrOf, IsTrue, MatchOption, OnOk};
 ghost use Rattle.basics.specs.Members.{AreDistinct, Has};
-ghost use Rattle.file_tree.specs.Disk.{CountsFault};
+ghost use Rattle.file_tree.specs.Disk.{CountsFault, Rose};
 ghost use Rattle.merge_core.specs.Trail.{IsAtRest};
 ghost use Rattle.group_run.specs.Causes.{IsOfGroup};
 ghost use Rattle.group_run.specs.Lines.{AreLines, AreTold, IsBeginning, Wrote, line_in};
@@ -120,7 +120,8 @@ pub fn merge_groups<T: Tree, S: Sink>(alloc: Global, tree: T, sink: S, batch: Ba
     ensures merged { OnOk result.end (result.history.items ≡ numbers batch.turns.items) }
     ensures told { OnOk result.end (result.acknowledged.items ≡ numbers batch.turns.items) }
     ensures written { IsTrue S.tells → Wrote
-        (AreLines (line_in batch.groups.items) result.history.items result.acknowledged.items)
+        (AreLines (Rose (S.faults sink) (S.faults result.sink)) (line_in batch.groups.items)
+        result.history.items result.acknowledged.items)
         (S.written sink) (S.written result.sink) }
     ensures cause { IfErr result.end (HaveCause T.tells (T.story tree).now.holds batch.book
         batch.groups.items batch.turns.items (length result.history.items) result.machine) }

@@ -1,6 +1,6 @@
 ghost use Rattle.std.specs.Prelude.{◌≡◌, ◌⊎◌, ◌++◌, ◌∷◌, ◌<◌, [], ℕ, List, suc, true, length, map};
-ghost use Rattle.std.specs.Prelude.{IfErr, IsErrOf, IsTrue, OnErr, OnOk};
-ghost use Rattle.file_tree.specs.Disk.{CountsFault};
+ghost use Rattle.std.specs.Prelude.{IfErr, IsErrOf, IsTrue, OnErr, OnOk, ⊤};
+ghost use Rattle.file_tree.specs.Disk.{CountsFault, Rose};
 ghost use Rattle.owner_book.specs.Book.{HasSettled};
 ghost use Rattle.merge_core.specs.Payloads.{IsAt};
 ghost use Rattle.merge_core.specs.Phase.{was_opened};
@@ -107,9 +107,10 @@ pub(crate) fn merge_and_tell<T: Tree, S: Sink>(
     ensures shut { (¬ IsErrOf result (Stop.Tree TreeFault.Failed)) →
         is_shut (standing_at site.new group).phase ≡ true }
     ensures written { IsTrue S.tells → (start : List ℕ) →
-        Wrote (AreLines (line_in site.old.groups) history.old.items acknowledged.old.items)
+        Wrote (AreLines ⊤ (line_in site.old.groups) history.old.items acknowledged.old.items)
         start (S.written site.old.sink) →
-        Wrote (AreLines (line_in site.old.groups) history.new.items acknowledged.new.items)
+        Wrote (AreLines (Rose (S.faults site.old.sink) (S.faults site.new.sink))
+        (line_in site.old.groups) history.new.items acknowledged.new.items)
         start (S.written site.new.sink) }
     ensures cause { IfErr result (StopsChanges T.tells
         (stood_at (T.story site.old.opened).now.holds site.old) site.old.book site.old.groups

@@ -106,8 +106,8 @@ module _ {T S B : Type 0} (trees : Tree T) (sinks : Sink S) (builders : Builder 
           cause = subst (λ (b : Bool). IfErr (merge_end tt end) (StopsBehind b m book listed turns (length history))) t stopped;
         });
         written = λ st.
-            let wrote = subst (λ (line : ℕ → List ℕ). Wrote (AreLines line history told) (sinks.written begun.sink) (sinks.written last.sink)) lines (e.written st) in
-            subst (λ x. Wrote (AreLines (line_for jobs) history told) (sinks.written x) (sinks.written last.sink)) sink_as wrote;
+            let wrote = subst (λ (line : ℕ → List ℕ). Wrote (AreLines (Rose (sinks.faults begun.sink) (sinks.faults last.sink)) line history told) (sinks.written begun.sink) (sinks.written last.sink)) lines (e.written st) in
+            subst (λ x. Wrote (AreLines (Rose (sinks.faults x) (sinks.faults last.sink)) (line_for jobs) history told) (sinks.written x) (sinks.written last.sink)) sink_as wrote;
         back = record {
           machine = machine_for last all (numbers turns) history (length plan + 1) ran.are.numbered ran.over.order rows ran.over.rest;
           unasked = λ none. absurd (cc none);

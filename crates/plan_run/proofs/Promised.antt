@@ -16,6 +16,7 @@ use Rattle.database_law.specs.Packages.{Installed}
 use Rattle.group_run.specs.Lines.{IsBeginning}
 use Rattle.group_run.specs.declared.stop.Stop.TheVariants as merges
 use Rattle.group_run.specs.Went.{HaveRun}
+use Rattle.group_run.proofs.Rising.{rose_earlier}
 use Rattle.group_run.proofs.Told.{lines_none}
 use Rattle.image_build.specs.Images.{IsBuilt, IsPastLimit}
 use Rattle.build_pool.specs.Pool.{PoolRose}
@@ -26,7 +27,7 @@ use Rattle.plan_run.specs.declared.merge.Merged.{Merged}
 use Rattle.plan_run.specs.declared.merge.Task.{Task}
 use Rattle.plan_run.specs.declared.stop.PlanStop.TheVariants as stops
 use Rattle.plan_run.proofs.Unmade.{went_unmade}
-use Rattle.plan_run.proofs.Whole.{rose_earlier, unmerged_build, unmerged_failed, unmerged_fine, unmerged_ok, unmerged_plain, unmerged_quiet, unmerged_told}
+use Rattle.plan_run.proofs.Whole.{unmerged_build, unmerged_failed, unmerged_fine, unmerged_ok, unmerged_plain, unmerged_quiet, unmerged_told}
 
 nothing_first : (whole : List ℕ) → [] ≡ take 0 whole
 nothing_first [] = refl
@@ -85,7 +86,7 @@ module _ {T S B : Type 0} (trees : Tree T) (sinks : Sink S) (builders : Builder 
           went_unmade f (λ (x : journal.Group). ⊥) (trees.story tree) (trees.story run.tree) history (merge_end tt run.end) (rest t) (same t) none (ap (merge_end tt) end_is),
           unmerged_plain f run.end end_is,
         );
-        written = λ t. ([], lines_none (line_for task.jobs.items) history told untold, ap sinks.written sink_is ∙ sym (append-nil _));
+        written = λ t. ([], lines_none _ (line_for task.jobs.items) history told untold, ap sinks.written sink_is ∙ sym (append-nil _));
         back = record {
           machine = subst (λ (k : Option Keeping). MatchOption k (history ≡ []) (HaveRun (upto (length plan)) (length plan + 1) history)) (sym no_machine) none;
           unasked = λ e. pool_is;

@@ -18,6 +18,7 @@ use Rattle.group_run.specs.Causes.{IsOfGroup}
 use Rattle.group_run.specs.Lines.{IsBeginning, line_in, line_or_none}
 use Rattle.group_run.specs.Went.{HaveRun}
 use Rattle.group_run.specs.declared.stop.Stop.{Stop}
+use Rattle.group_run.proofs.Rising.{rose_earlier, rose_later}
 use Rattle.group_run.specs.declared.stop.Stop.TheVariants as merges
 use Rattle.group_run.proofs.Left.{has_longer}
 use Rattle.group_run.proofs.Stopped.{tree_quiet}
@@ -147,14 +148,6 @@ device_or_not (Err (stops.Merge (merges.Claim s))) = inr (λ e. cc e)
 device_or_not (Err (stops.Merge merges.Limit)) = inr (λ e. cc e)
 device_or_not (Err (stops.Build id)) = inr (λ e. cc e)
 device_or_not (Err (stops.Image id)) = inr (λ e. cc e)
-
-pub rose_later : (a b c : ℕ) → Rose a b → b ≤ c → Rose a c
-rose_later a b c (inl lt) le = inl (omega (arith, lt, le))
-rose_later a b c (inr full) le = inr (omega (arith, full, le))
-
-pub rose_earlier : (a b c : ℕ) → a ≤ b → Rose b c → Rose a c
-rose_earlier a b c le (inl lt) = inl (omega (arith, lt, le))
-rose_earlier a b c le (inr full) = inr full
 
 -- the run of a plan ends so for a stop of its merge
 abbrev pub fails_so : Result (Unit {0}) PlanStop → Stop → Type 0

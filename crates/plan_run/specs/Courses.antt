@@ -3,7 +3,7 @@ use Rattle.std.specs.Prelude.{◌≡◌, ◌≤◌, ℕ, suc, Bool, List, [], �
 use Rattle.build_pool.specs.Pool.{Kept, PoolRose, SameIds, faults_of}
 use Rattle.build_pool.specs.declared.builders.Builder.{Ghosts as Builder}
 use Rattle.build_pool.specs.declared.orders.Order.{Order}
-use Rattle.file_tree.specs.Disk.{CountsFault, Map}
+use Rattle.file_tree.specs.Disk.{CountsFault, Map, Rose}
 use Rattle.file_tree.specs.declared.fault.TreeFault.TheVariants as causes
 use Rattle.file_tree.specs.declared.objects.Entry.{Entry}
 use Rattle.file_tree.specs.declared.traits.Sink.{Ghosts as Sink}
@@ -76,7 +76,8 @@ module _ {T S B : Type 0} (trees : Tree T) (sinks : Sink S) (builders : Builder 
         last.history.items last.acknowledged.items (merge_end tt end) new
     pub merged : OnOk end (last.history.items ≡ upto (length plan))
     pub written : IsTrue sinks.tells → Wrote
-        (AreLines (line_in old.groups) last.history.items last.acknowledged.items)
+        (AreLines (Rose (sinks.faults old.sink) (sinks.faults new.sink)) (line_in old.groups)
+        last.history.items last.acknowledged.items)
         (sinks.written old.sink) (sinks.written new.sink)
     pub build : IfErr end (SaysBuild (IsPastLimit builders.tells builders.told asked.resting)
         (PoolRose builders.faults asked left) (orders_at jobs (length last.history.items)))

@@ -2,7 +2,7 @@
 use Rattle.std.specs.Prelude.{◌≡◌, ◌≤◌, ◌+◌, [], IfErr, IsErrOf, IsTrue, List, MatchOption, None, OnOk, length}
 use Rattle.build_pool.specs.Pool.{Kept, PoolRose, SameIds, faults_of}
 use Rattle.build_pool.specs.declared.builders.Builder.{Ghosts as Builder}
-use Rattle.file_tree.specs.Disk.{CountsFault}
+use Rattle.file_tree.specs.Disk.{CountsFault, Rose}
 use Rattle.file_tree.specs.declared.fault.TreeFault.TheVariants as causes
 use Rattle.file_tree.specs.declared.traits.Sink.{Ghosts as Sink}
 use Rattle.file_tree.specs.declared.traits.Tree.{Ghosts as Tree}
@@ -60,6 +60,7 @@ module _ {T S B : Type 0} (trees : Tree T) (sinks : Sink S) (builders : Builder 
         task.book installed plan task.jobs.items (trees.story start) (trees.story run.tree)
         run.history.items (merge_end tt run.end)
     pub written : IsTrue sinks.tells → Wrote
-        (AreLines (line_for task.jobs.items) run.history.items run.acknowledged.items)
+        (AreLines (Rose (sinks.faults sink) (sinks.faults run.sink)) (line_for task.jobs.items)
+        run.history.items run.acknowledged.items)
         (sinks.written sink) (sinks.written run.sink)
     pub back : GivesBackPlan

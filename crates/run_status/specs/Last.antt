@@ -10,12 +10,12 @@ abbrev pub unwritten : Status → Status
 unwritten status.DeviceFault = status.DeviceFault
 unwritten _ = status.OutputFault
 
--- a run that came to one status ends with it, and its last line is there; or it ends as one whose
--- last line can't be written, and some beginning of that line is there
-abbrev pub IsLast : Status → Status → List ℕ → Type 0
-IsLast came s text = ((s ≡ came) × (text ≡ last_line came))
-    ⊎ ((s ≡ unwritten came) × IsBeginning (last_line came) text)
+-- a run that came to one status ends with it, and its last line is there; or, where the output
+-- failed, it ends as one whose last line can't be written, and some beginning of that line is there
+abbrev pub IsLast : (failed : Type 0) → Status → Status → List ℕ → Type 0
+IsLast failed came s text = ((s ≡ came) × (text ≡ last_line came))
+    ⊎ (failed × (s ≡ unwritten came) × IsBeginning (last_line came) text)
 
 -- the same, where want of memory may come in place of the status
-abbrev pub IsEnd : Status → Status → List ℕ → Type 0
-IsEnd came s text = IsLast came s text ⊎ IsLast status.Memory s text
+abbrev pub IsEnd : (failed : Type 0) → Status → Status → List ℕ → Type 0
+IsEnd failed came s text = IsLast failed came s text ⊎ IsLast failed status.Memory s text

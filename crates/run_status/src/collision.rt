@@ -4,7 +4,7 @@ use file_tree::Path;
 /// Why a path of an image can't be placed.
 #[derive(Debug, Drop)]
 pub enum Collision {
-    /// This package is installed and owns the path.
+    /// This package, which was installed or came with a group before, owns the path.
     Owned { path: Path, owner: PackageId },
     /// This group of the plan has claimed the path.
     Claimed { path: Path, group: u32 },

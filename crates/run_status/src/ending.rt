@@ -14,8 +14,9 @@ pub fn finish<S: Sink>(alloc: Global, out: &mut S, status: Status) -> Status
     ensures status { (result ≡ status) ⊎ ((result ≡ Status.Memory) ⊎
         ((result ≡ Status.OutputFault) × Rose (S.faults out.old) (S.faults out.new))) }
     ensures device { status ≡ Status.DeviceFault → result ≡ Status.DeviceFault }
-    ensures written { IsTrue S.tells → Wrote (IsEnd status result) (S.written out.old)
-        (S.written out.new) }
+    ensures written { IsTrue S.tells → Wrote
+        (IsEnd (Rose (S.faults out.old) (S.faults out.new)) status result)
+        (S.written out.old) (S.written out.new) }
     ensures count { S.faults out.old ≤ S.faults out.new }
 {
     if let Some(line) = fixed_line(&status) {
@@ -31,8 +32,9 @@ pub fn finish<S: Sink>(alloc: Global, out: &mut S, status: Status) -> Status
 fn out_of_memory<S: Sink>(out: &mut S, status: Status) -> Status
     ensures status { (result ≡ Status.Memory) ⊎
         ((result ≡ Status.OutputFault) × Rose (S.faults out.old) (S.faults out.new)) }
-    ensures written { IsTrue S.tells → Wrote (IsLast Status.Memory result) (S.written out.old)
-        (S.written out.new) }
+    ensures written { IsTrue S.tells → Wrote
+        (IsLast (Rose (S.faults out.old) (S.faults out.new)) Status.Memory result)
+        (S.written out.old) (S.written out.new) }
     ensures count { S.faults out.old ≤ S.faults out.new }
 {
     drop(status);
@@ -45,8 +47,9 @@ fn write_last<S: Sink>(out: &mut S, line: &str, status: Status) -> Status
     ensures status { (result ≡ status) ⊎ ((result ≡ Status.OutputFault) ×
         Rose (S.faults out.old) (S.faults out.new)) }
     ensures device { status ≡ Status.DeviceFault → result ≡ Status.DeviceFault }
-    ensures written { IsTrue S.tells → Wrote (IsLast status result) (S.written out.old)
-        (S.written out.new) }
+    ensures written { IsTrue S.tells → Wrote
+        (IsLast (Rose (S.faults out.old) (S.faults out.new)) status result)
+        (S.written out.old) (S.written out.new) }
     ensures count { S.faults out.old ≤ S.faults out.new }
 {
     match out.write(line.as_bytes()) {

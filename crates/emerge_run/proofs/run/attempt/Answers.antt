@@ -1,5 +1,6 @@
 use Rattle.std.proofs.Common.{◌∙◌, ℕ, List, Ok, ap, map, subst}
 use Rattle.std.specs.Prelude.{string_bytes}
+use Rattle.file_tree.specs.Disk.{Rose}
 use Rattle.group_run.specs.Lines.{Wrote}
 use Rattle.emerge_run.specs.Output.{IsCut}
 use Rattle.emerge_run.proofs.Promises.{chooses_as, runs_empty, runs_merging, runs_showing, runs_unfound}
@@ -37,7 +38,7 @@ returns-in-Ok-Show g c =
     let u = c.unmerged.ensures in
     runs_showing g.T.Tree S g.B.Builder words c.args.tree c.args.out c.args.pool mid show.new.out seen.opening arm.text arm.plan show.result c.unmerged.result u.history u.acknowledged u.ended
     (chooses_as g.T.Tree words c.args.tree mid seen _ (arm.is ∙ ap Ok arm.field-0-is) c.choose-opening.ensures) show.ensures.status (record { later = show.ensures.out_count; rose = show.ensures.output })
-    (λ t. subst (λ (b : List ℕ). Wrote (IsCut b show.result) (S.written c.args.out) (S.written show.new.out)) c.as_str.ensures.value (show.ensures.written t))
+    (λ t. subst (λ (b : List ℕ). Wrote (IsCut (Rose (S.faults c.args.out) (S.faults show.new.out)) b show.result) (S.written c.args.out) (S.written show.new.out)) c.as_str.ensures.value (show.ensures.written t))
 
 pub returns-in-Ok-Rest : goal.returns-in-Ok-Rest
 returns-in-Ok-Rest g c =

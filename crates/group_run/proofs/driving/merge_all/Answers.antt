@@ -11,6 +11,7 @@ use Rattle.group_run.specs.declared.turn.Turn.{Turn}
 use Rattle.group_run.proofs.Caused.{front_push}
 use Rattle.group_run.proofs.Left.{comes}
 use Rattle.group_run.proofs.Onward.{ends_longer, over_now}
+use Rattle.group_run.proofs.Rising.{written_on}
 use Rattle.group_run.proofs.driving.merge_all.Goals as goal
 
 pub merge_next-requires : goal.merge_next-requires
@@ -46,8 +47,7 @@ loop-turn-preserved g c =
       record { count = e.same.count ∙ i.1.count; groups = e.same.groups ∙ i.1.groups; opened_book = e.same.opened_book ∙ i.1.opened_book; opened = e.same.opened ∙ i.1.opened },
       (λ n is. e.left n (i.2 (suc n) (omega (arith, is, push)))),
       (λ n is. e.more n (i.3 (suc n) (omega (arith, is, push)))),
-      (λ st. subst (λ (l : List SiteGroup). Wrote (AreLines (line_in l) c.merge_next.new.history.items c.merge_next.new.acknowledged.items) start (g.S.Sink.written c.merge_next.new.site.sink)) i.1.groups
-          (e.written st start (subst (λ (l : List SiteGroup). Wrote (AreLines (line_in l) c.loop-turn.history.items c.loop-turn.acknowledged.items) start (g.S.Sink.written c.loop-turn.site.sink)) (sym i.1.groups) (i.4 st)))),
+      (λ st. written_on g.S.Sink c.args.site.now.sink c.loop-turn.site.sink c.merge_next.new.site.sink c.args.site.now.groups c.loop-turn.site.groups c.loop-turn.history.items c.loop-turn.acknowledged.items c.merge_next.new.history.items c.merge_next.new.acknowledged.items i.1.groups i.6 (i.4 st) (e.written st start)),
       omega (arith, i.5, e.device.later),
       omega (arith, i.6, e.output.later),
       front_push c.args.turns.items ts t i.7 y.0 y.1,
@@ -73,10 +73,8 @@ returns-in_err-merge_next-clause-over g c =
 pub returns-in_err-merge_next-clause-written : goal.returns-in_err-merge_next-clause-written
 returns-in_err-merge_next-clause-written g c st =
     let i = c.loop-turn.invariant in
-    let start = g.S.Sink.written c.args.site.now.sink in
-    subst (λ (l : List SiteGroup). Wrote (AreLines (line_in l) c.merge_next.new.history.items c.merge_next.new.acknowledged.items) start (g.S.Sink.written c.merge_next.new.site.sink)) i.1.groups
-    (c.merge_next.ensures.written st start
-    (subst (λ (l : List SiteGroup). Wrote (AreLines (line_in l) c.loop-turn.history.items c.loop-turn.acknowledged.items) start (g.S.Sink.written c.loop-turn.site.sink)) (sym i.1.groups) (i.4 st)))
+    written_on g.S.Sink c.args.site.now.sink c.loop-turn.site.sink c.merge_next.new.site.sink c.args.site.now.groups c.loop-turn.site.groups c.loop-turn.history.items c.loop-turn.acknowledged.items c.merge_next.new.history.items c.merge_next.new.acknowledged.items i.1.groups i.6 (i.4 st)
+    (c.merge_next.ensures.written st (g.S.Sink.written c.args.site.now.sink))
 
 pub returns-clause-over : goal.returns-clause-over
 returns-clause-over g c =

@@ -1,5 +1,6 @@
 use Rattle.std.proofs.Common.{◌≡◌, ◌+◌, ◌≤◌, ℕ, length, take}
 use Rattle.std.specs.Prelude.{IsTrue}
+use Rattle.file_tree.specs.Disk.{Rose}
 use Rattle.merge_site.specs.Site.{IsSameSite}
 use Rattle.group_run.specs.Lines.{AreLines, Wrote, line_in}
 use Rattle.group_run.specs.Runs.{IsUnderWay}
@@ -12,7 +13,7 @@ invariant-loop-turn g l =
     × IsSameSite l.fn.site l.site
     × ((n : ℕ) → length l.yielded + n ≡ length l.fn.turns.items → HasRoom n l.history)
     × ((n : ℕ) → length l.yielded + n ≡ length l.fn.turns.items → HasRoom n l.acknowledged)
-    × (IsTrue g.S.Sink.tells → Wrote (AreLines (line_in l.fn.site.groups) l.history.items l.acknowledged.items) (g.S.Sink.written l.fn.site.sink) (g.S.Sink.written l.site.sink))
+    × (IsTrue g.S.Sink.tells → Wrote (AreLines (Rose (g.S.Sink.faults l.fn.site.sink) (g.S.Sink.faults l.site.sink)) (line_in l.fn.site.groups) l.history.items l.acknowledged.items) (g.S.Sink.written l.fn.site.sink) (g.S.Sink.written l.site.sink))
     × (g.T.Tree.faults l.fn.site.tree ≤ g.T.Tree.faults l.site.tree)
     × (g.S.Sink.faults l.fn.site.sink ≤ g.S.Sink.faults l.site.sink)
     × (l.yielded ≡ take (length l.yielded) l.fn.turns.items)

@@ -15,7 +15,7 @@ use Rattle.group_run.proofs.run.merge_groups.Goals as goal
 pub returns-in-Err-clause-written : goal.returns-in-Err-clause-written
 returns-in-Err-clause-written g c t =
     rw c.unopened.ensures
-    ([], lines_none (line_in c.args.batch.groups.items) c.args.batch.history.items c.args.batch.acknowledged.items c.requires.untold, ap g.S.Sink.written c.in-Err.ensures.back.1 ∙ sym (append-nil _))
+    ([], lines_none _ (line_in c.args.batch.groups.items) c.args.batch.history.items c.args.batch.acknowledged.items c.requires.untold, ap g.S.Sink.written c.in-Err.ensures.back.1 ∙ sym (append-nil _))
 
 pub returns-in-Err-clause-went : goal.returns-in-Err-clause-went
 returns-in-Err-clause-went g c t =

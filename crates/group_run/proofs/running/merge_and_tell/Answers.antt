@@ -1,5 +1,6 @@
-use Rattle.std.proofs.Common.{◌∙◌, ◌++◌, ap, refl, take}
+use Rattle.std.proofs.Common.{◌∙◌, ◌++◌, Err, ap, refl, subst, take}
 use Rattle.std.proofs.lemmas.Result.{err_from_is_err_and}
+use Rattle.file_tree.specs.Disk.{Rose}
 use Rattle.journal.specs.Group.{Group}
 use Rattle.merge_core.specs.Phase.{was_opened}
 use Rattle.merge_site.specs.Booking.{is_over}
@@ -20,20 +21,21 @@ returns-clause-works g c = works_then c.args.group c.args.site.now c.merge.new.s
 pub returns-in_err-merge-clause-written : goal.returns-in_err-merge-clause-written
 returns-in_err-merge-clause-written g c t start wrote =
     let told = c.args.acknowledged.now.items in
-    wrote_none (line_in c.args.site.now.groups) c.args.group c.args.history.now.items told start (g.S.Sink.written c.args.site.now.sink) (g.S.Sink.written c.merge.new.site.sink) c.requires.all_told wrote c.merge.new.history.items told c.merge.ensures.one refl
+    wrote_none (Rose (g.S.Sink.faults c.args.site.now.sink) (g.S.Sink.faults c.merge.new.site.sink)) (line_in c.args.site.now.groups) c.args.group c.args.history.now.items told start (g.S.Sink.written c.args.site.now.sink) (g.S.Sink.written c.merge.new.site.sink) c.requires.all_told wrote c.merge.new.history.items told c.merge.ensures.one refl
     (ap g.S.Sink.written c.merge.ensures.sink)
 
 pub returns-in_err-tell-clause-written : goal.returns-in_err-tell-clause-written
 returns-in_err-tell-clause-written g c t start wrote =
     let p = c.tell.ensures.part t in
     let told = c.args.acknowledged.now.items in
-    wrote_part (line_in c.args.site.now.groups) c.args.group c.args.history.now.items told start (g.S.Sink.written c.args.site.now.sink) (g.S.Sink.written c.tell.new.site.sink) c.requires.all_told wrote c.merge.new.history.items told p.0 c.in_ok-merge.ensures.merged refl
+    let fails = subst (λ x. Rose (g.S.Sink.faults x) (g.S.Sink.faults c.tell.new.site.sink)) c.merge.ensures.sink (c.tell.ensures.faults.rose (c.in_err-tell.was ∙ ap Err c.in_err-tell.ensures.only)) in
+    wrote_part (Rose (g.S.Sink.faults c.args.site.now.sink) (g.S.Sink.faults c.tell.new.site.sink)) (line_in c.args.site.now.groups) c.args.group c.args.history.now.items told start (g.S.Sink.written c.args.site.now.sink) (g.S.Sink.written c.tell.new.site.sink) c.requires.all_told wrote fails c.merge.new.history.items told p.0 c.in_ok-merge.ensures.merged refl
     (p.1
     ∙ (ap (λ x. g.S.Sink.written x ++ take p.0 (line_in c.merge.new.site.groups c.args.group)) c.merge.ensures.sink ∙ ap (λ l. g.S.Sink.written c.args.site.now.sink ++ take p.0 (line_in l c.args.group)) c.merge.ensures.works.groups))
 
 pub returns-clause-written : goal.returns-clause-written
 returns-clause-written g c t start wrote =
-    wrote_whole (line_in c.args.site.now.groups) c.args.group c.args.history.now.items c.args.acknowledged.now.items start (g.S.Sink.written c.args.site.now.sink) (g.S.Sink.written c.tell.new.site.sink) c.requires.all_told wrote c.merge.new.history.items c.add.new.list.items
+    wrote_whole (Rose (g.S.Sink.faults c.args.site.now.sink) (g.S.Sink.faults c.tell.new.site.sink)) (line_in c.args.site.now.groups) c.args.group c.args.history.now.items c.args.acknowledged.now.items start (g.S.Sink.written c.args.site.now.sink) (g.S.Sink.written c.tell.new.site.sink) c.requires.all_told wrote c.merge.new.history.items c.add.new.list.items
     c.in_ok-merge.ensures.merged c.add.ensures.items
     (c.in_ok-tell.ensures.written t
     ∙ (ap (λ x. g.S.Sink.written x ++ line_in c.merge.new.site.groups c.args.group) c.merge.ensures.sink ∙ ap (λ l. g.S.Sink.written c.args.site.now.sink ++ line_in l c.args.group) c.merge.ensures.works.groups))

@@ -6,9 +6,7 @@ use Rattle.build_pool.specs.Pool.{PoolRose}
 use Rattle.build_pool.specs.declared.orders.Order.{Order}
 use Rattle.plan_law.specs.Plans.{Group, group_at}
 use Rattle.plan_lives.proofs.Places.{group_is}
-use Rattle.merge_site.specs.declared.group.SiteGroup.{SiteGroup}
 use Rattle.file_tree.specs.declared.fault.TreeFault.TheVariants as trees
-use Rattle.group_run.specs.Lines.{AreLines, Wrote, line_in}
 use Rattle.group_run.specs.Runs.{EndsAt, IsUnderWay}
 use Rattle.group_run.specs.Turns.{numbers}
 use Rattle.group_run.specs.declared.stop.Stop.TheVariants as merges
@@ -21,6 +19,7 @@ use Rattle.plan_run.specs.Runs.{SaysBuild, merge_end, upto}
 use Rattle.plan_run.proofs.Course.{length_upto, not_yet, ran_now, ran_stopped, up_next}
 use Rattle.plan_run.proofs.Ordered.{all_built, alike_then, build_counts, build_plain, orders_here, past_before, rose_before, says_before}
 use Rattle.plan_run.proofs.Whole.{merge_counts}
+use Rattle.group_run.proofs.Rising.{written_on}
 use Rattle.plan_run.proofs.turns.merge_groups.Goals as goal
 
 pub returns-in_err-newcomers : goal.returns-in_err-newcomers
@@ -152,8 +151,7 @@ returns-in_err-merge_next g c =
       ran = ran_stopped Image plan jobs c.args.places.now (holdings_of c.args.progress.now.held) g.T.Tree.tells (g.T.Tree.story c.args.site.now.opened).now.holds place next (inv.0.turns ++ t ∷ [])
           c.merge_next.new.history.items c.merge_next.new.acknowledged.items c.merge_next.new.site f lt up.0 up.1 ended;
       merged = tt;
-      written = λ st. subst (λ (l : List SiteGroup). Wrote (AreLines (line_in l) c.merge_next.new.history.items c.merge_next.new.acknowledged.items) start (g.S.Sink.written c.merge_next.new.site.sink)) inv.1.groups
-          (e.written st start (subst (λ (l : List SiteGroup). Wrote (AreLines (line_in l) history told) start (g.S.Sink.written c.loop-place.site.sink)) (sym inv.1.groups) (inv.4 st)));
+      written = λ st. written_on g.S.Sink c.args.site.now.sink c.loop-place.site.sink c.merge_next.new.site.sink c.args.site.now.groups c.loop-place.site.groups history told c.merge_next.new.history.items c.merge_next.new.acknowledged.items inv.1.groups inv.6 (inv.4 st) (e.written st start);
       build = tt;
       ids = λ k. n.ids k ∙ inv.9 k;
       lent = n.lent ∙ inv.10;
@@ -210,8 +208,7 @@ loop-place-preserved g c =
       record { count = e.same.count ∙ inv.1.count; groups = e.same.groups ∙ inv.1.groups; opened_book = e.same.opened_book ∙ inv.1.opened_book; opened = e.same.opened ∙ inv.1.opened },
       (λ k is. e.left k (inv.2 (suc k) (omega (arith, is)))),
       (λ k is. e.more k (inv.3 (suc k) (omega (arith, is)))),
-      (λ st. subst (λ (l : List SiteGroup). Wrote (AreLines (line_in l) c.merge_next.new.history.items c.merge_next.new.acknowledged.items) start (g.S.Sink.written c.merge_next.new.site.sink)) inv.1.groups
-          (e.written st start (subst (λ (l : List SiteGroup). Wrote (AreLines (line_in l) history told) start (g.S.Sink.written c.loop-place.site.sink)) (sym inv.1.groups) (inv.4 st)))),
+      (λ st. written_on g.S.Sink c.args.site.now.sink c.loop-place.site.sink c.merge_next.new.site.sink c.args.site.now.groups c.loop-place.site.groups history told c.merge_next.new.history.items c.merge_next.new.acknowledged.items inv.1.groups inv.6 (inv.4 st) (e.written st start)),
       omega (arith, inv.5, device),
       omega (arith, inv.6, output),
       alike_then B.told old.resting c.loop-place.pool.resting c.newcomers_of.new.pool.resting inv.7 n.alike,

@@ -1,6 +1,7 @@
 use Rattle.std.proofs.Common.{◌≡◌, ◌+◌, ◌≤◌, ℕ, length}
 use Rattle.std.specs.Prelude.{IsTrue}
 use Rattle.build_pool.specs.Pool.{SameIds, faults_of}
+use Rattle.file_tree.specs.Disk.{Rose}
 use Rattle.group_run.specs.Lines.{AreLines, Wrote, line_in}
 use Rattle.group_run.specs.Through.{HasRoom}
 use Rattle.merge_site.specs.Site.{IsSameSite}
@@ -15,7 +16,7 @@ invariant-loop-place g l =
     × IsSameSite l.fn.site l.site
     × ((n : ℕ) → l.place + n ≡ length l.plan → HasRoom n l.progress.history)
     × ((n : ℕ) → l.place + n ≡ length l.plan → HasRoom n l.progress.acknowledged)
-    × (IsTrue g.S.Sink.tells → Wrote (AreLines (line_in l.fn.site.groups) l.progress.history.items l.progress.acknowledged.items) (g.S.Sink.written l.fn.site.sink) (g.S.Sink.written l.site.sink))
+    × (IsTrue g.S.Sink.tells → Wrote (AreLines (Rose (g.S.Sink.faults l.fn.site.sink) (g.S.Sink.faults l.site.sink)) (line_in l.fn.site.groups) l.progress.history.items l.progress.acknowledged.items) (g.S.Sink.written l.fn.site.sink) (g.S.Sink.written l.site.sink))
     × (g.T.Tree.faults l.fn.site.tree ≤ g.T.Tree.faults l.site.tree)
     × (g.S.Sink.faults l.fn.site.sink ≤ g.S.Sink.faults l.site.sink)
     × TellAlike g.B.Builder.told l.fn.pool.resting l.pool.resting
