@@ -1,8 +1,8 @@
 //! Programs that are asked line by line: each line of the input is a case, and one line is printed
 //! for it.
 //!
-//! **A contract sees** nothing of these calls: the programs that tests ask stand on them, and no
-//! other crate.
+//! **A contract sees** nothing of these calls: the programs that tests ask stand on them, and
+//! `tree_lines`, which is theirs too.
 //!
 //! **Proved**: that they are safe.
 //!

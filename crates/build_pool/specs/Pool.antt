@@ -3,22 +3,22 @@
 use Rattle.std.specs.Prelude.{◌≡◌, ◌==◌, ◌⊎◌, ◌<◌, ◌≤◌, ◌+◌, ◌^◌, ℕ, List, Some, Contains, sum_by, remove, slice_get, if◌then◌else◌}
 use Rattle.build_pool.specs.declared.pools.Away.{Away}
 
-pub record Kept (B : Type 0) : Type 0 where
+pub record PoolValue (B : Type 0) : Type 0 where
   pub resting : List B
   pub lent : List Away
 
 -- the sum of a number of each builder at rest and of one of each that is lent
-abbrev pub added : {B : Type 0} → (B → ℕ) → (Away → ℕ) → Kept B → ℕ
+abbrev pub added : {B : Type 0} → (B → ℕ) → (Away → ℕ) → PoolValue B → ℕ
 added f g p = sum_by f p.resting + sum_by g p.lent
 
 abbrev pub is_number : ℕ → ℕ → ℕ
 is_number n m = if m == n then 1 else 0
 
 -- how many builders of the pool, at rest or lent, are known by this number
-abbrev pub id_times : {B : Type 0} → (B → ℕ) → ℕ → Kept B → ℕ
+abbrev pub id_times : {B : Type 0} → (B → ℕ) → ℕ → PoolValue B → ℕ
 id_times number n p = added (λ b. is_number n (number b)) (λ a. is_number n a.number) p
 
-abbrev pub SameIds : {B : Type 0} → (B → ℕ) → Kept B → Kept B → Type 0
+abbrev pub SameIds : {B : Type 0} → (B → ℕ) → PoolValue B → PoolValue B → Type 0
 SameIds number old new = (n : ℕ) → id_times number n new ≡ id_times number n old
 
 -- no two builders are known by one number
@@ -26,20 +26,20 @@ abbrev pub AreOnce : {B : Type 0} → (B → ℕ) → List B → Type 0
 AreOnce number bs = (n : ℕ) → sum_by (λ b. is_number n (number b)) bs ≤ 1
 
 -- no two builders of the pool, at rest or lent, are known by one number
-abbrev pub HasEachOnce : {B : Type 0} → (B → ℕ) → Kept B → Type 0
+abbrev pub HasEachOnce : {B : Type 0} → (B → ℕ) → PoolValue B → Type 0
 HasEachOnce number p = (n : ℕ) → id_times number n p ≤ 1
 
 -- how often the builders failed; a lent one counts with what it had when it was lent
-abbrev pub faults_of : {B : Type 0} → (B → ℕ) → Kept B → ℕ
+abbrev pub faults_of : {B : Type 0} → (B → ℕ) → PoolValue B → ℕ
 faults_of faults p = added faults (λ a. a.faults) p
 
 -- the count of some builder stands at the end of its type
-abbrev pub IsFull : {B : Type 0} → (B → ℕ) → Kept B → Type 0
+abbrev pub IsFull : {B : Type 0} → (B → ℕ) → PoolValue B → Type 0
 IsFull {B} faults p = ((b : B) × Contains p.resting b × (2 ^ 64 ≤ faults b + 1)) ⊎
     ((a : Away) × Contains p.lent a × (2 ^ 64 ≤ a.faults + 1))
 
 -- the builders failed more often, so far as can be counted
-abbrev pub PoolRose : {B : Type 0} → (B → ℕ) → Kept B → Kept B → Type 0
+abbrev pub PoolRose : {B : Type 0} → (B → ℕ) → PoolValue B → PoolValue B → Type 0
 PoolRose faults old new = (faults_of faults old < faults_of faults new) ⊎ IsFull faults new
 
 -- the entry at this place has this number, and none behind it has

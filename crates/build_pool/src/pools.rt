@@ -23,9 +23,9 @@ pub struct BuildPool<B> {
 
 impl<B> Model for BuildPool<B> {
     ghost use Rattle.std.specs.Prelude.{◌+◌, ◌≤◌, vec_capacity, vec_len};
-    ghost use Rattle.build_pool.specs.Pool.{Kept};
+    ghost use Rattle.build_pool.specs.Pool.{PoolValue};
 
-    ghost Value = { Kept B };
+    ghost Value = { PoolValue B };
 
     ghost view = { λ p. record { resting = p.resting.items; lent = p.lent.items } };
 

@@ -5,8 +5,8 @@
 //! stands for all packages and the list of the lines, and a set of flags as which flags it has. Atoms
 //! match for an asker without flags.
 //!
-//! **Proved**: a package is masked exactly where some mask matches it and no unmask does; a keyword
-//! is accepted exactly where the last word that speaks of it adds it, or none speaks of it and it
+//! **Proved**: whether some mask of a list matches a package is told exactly; a keyword is accepted
+//! exactly where the last word that speaks of it adds it, or none speaks of it and it
 //! stands for all; the changes of flags are those of the items that count, in their order, and the
 //! flags that are forced or masked are those that such changes make of none.
 //!

@@ -11,7 +11,7 @@ use Rattle.dep_atom.specs.declared.package.PackageId.{PackageId}
 use Rattle.dep_atom.specs.declared.uses.UseDep.{UseDep}
 use Rattle.dep_atom.proofs.SameParts.{same_facts}
 use Rattle.slot_value.specs.Slots.{IsSlotValue}
-use Rattle.md5_cache.specs.Entries.{Entry, Tells}
+use Rattle.md5_cache.specs.Entries.{CacheEntryValue, Tells}
 use Rattle.md5_cache.specs.declared.pair.Pair.{Pair}
 use Rattle.candidate_rules.specs.Items.{is_meant}
 use Rattle.candidate_rules.specs.Keywords.{every, is_accepted, words_of}
@@ -42,7 +42,7 @@ by_atoms rules is keywords =
     cond (list_any (is_accepted rules.keywords.standing (flat_map (words_of rules.keywords.bare) (filter (λ l. is l.atom) rules.keywords.lines))) (every ∷ keywords))
     (cond (list_any (λ i. option_map_or is i.atom false) rules.masks && not (list_any (λ i. option_map_or is i.atom false) rules.unmasks)) (Some Masked) None) (Some Keyword)
 
-pub kept_alike : (rules : VisibleRules) (pairs : List Pair) (id : PackageId) (e d : Entry) → SaysOnce → Tells pairs id e → Tells pairs id d → kept_back rules e ≡ kept_back rules d
+pub kept_alike : (rules : VisibleRules) (pairs : List Pair) (id : PackageId) (e d : CacheEntryValue) → SaysOnce → Tells pairs id e → Tells pairs id d → kept_back rules e ≡ kept_back rules d
 kept_alike rules pairs id e d once h k =
     let f = e.package_is.facts in
     let g = d.package_is.facts in

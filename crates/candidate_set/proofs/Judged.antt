@@ -20,8 +20,8 @@ use Rattle.dep_atom.specs.Ids.{IsId}
 use Rattle.dep_atom.specs.declared.package.PackageId.{PackageId}
 use Rattle.file_tree.specs.Disk.{Map}
 use Rattle.file_tree.specs.Paths.{is_below}
-use Rattle.file_tree.specs.Thing.{Thing}
-use Rattle.md5_cache.specs.Entries.{Entry}
+use Rattle.file_tree.specs.ObjectValue.{ObjectValue}
+use Rattle.md5_cache.specs.Entries.{CacheEntryValue}
 use Rattle.candidate_set.specs.Candidates.{AreCandidates, IsJudged, IsVerdict, bytes_of, cache_folder, cache_path, ebuild_text, entry_text, hidden_of, id_cmp, id_of, visible_of}
 use Rattle.candidate_set.specs.Places.{AreJudged, ArePlaces, IsPlace, IsVerdictOn, has_entry, ids_of, place_cmp}
 use Rattle.candidate_set.specs.declared.place.Place.{Place}
@@ -53,7 +53,7 @@ none_judged m rules = record { verdicts = []; each = tt; those = refl; visible_a
 one_kept : (m : Map) (ids : List PackageId) (id : PackageId) (b : Bool) → has_entry m id ≡ b → filter (has_entry m) (ids ++ id ∷ []) ≡ filter (has_entry m) ids ++ cond b (id ∷ []) []
 one_kept m ids id b e = filter-append (has_entry m) ids (id ∷ []) ∙ ap (λ (c : Bool). filter (has_entry m) ids ++ cond c (id ∷ []) []) e
 
-one_judged : (m : Map) (rules : VisibleRules) (ids : List PackageId) (id : PackageId) (visible : List Entry) (hidden : List Hidden) (o : Option Verdict) → MatchOption o (entry_text m id ≡ None) (IsVerdictOn m rules id)
+one_judged : (m : Map) (rules : VisibleRules) (ids : List PackageId) (id : PackageId) (visible : List CacheEntryValue) (hidden : List Hidden) (o : Option Verdict) → MatchOption o (entry_text m id ≡ None) (IsVerdictOn m rules id)
     → AreJudged m rules ids visible hidden → AreJudged m rules (ids ++ id ∷ []) (visible ++ filter_map visible_of (option_to_list o)) (hidden ++ filter_map hidden_of (option_to_list o))
 one_judged m rules ids id visible hidden None none are = record {
   verdicts = are.verdicts;
@@ -71,12 +71,12 @@ one_judged m rules ids id visible hidden (Some v) on are =
           map-append id_of are.verdicts (v ∷ [])
           ∙ (ap (λ (l : List PackageId). l ++ id_of v ∷ []) are.those
           ∙ (ap (λ (i : PackageId). filter (has_entry m) ids ++ i ∷ []) on.named ∙ sym (one_kept m ids id true there)));
-      visible_are = ap (λ (l : List Entry). l ++ filter_map visible_of (v ∷ [])) are.visible_are ∙ sym (filter_map-append visible_of are.verdicts (v ∷ []));
+      visible_are = ap (λ (l : List CacheEntryValue). l ++ filter_map visible_of (v ∷ [])) are.visible_are ∙ sym (filter_map-append visible_of are.verdicts (v ∷ []));
       hidden_are = ap (λ (l : List Hidden). l ++ filter_map hidden_of (v ∷ [])) are.hidden_are ∙ sym (filter_map-append hidden_of are.verdicts (v ∷ []));
     }
 
 -- one place more
-pub next_judged : (m n : Map) (rules : VisibleRules) (places : List Place) (i : ℕ) (p : Place) (visible more_visible : List Entry) (hidden more_hidden : List Hidden) (o : Option Verdict) → i < length places → p ≡ get_or places i p → n ≡ m
+pub next_judged : (m n : Map) (rules : VisibleRules) (places : List Place) (i : ℕ) (p : Place) (visible more_visible : List CacheEntryValue) (hidden more_hidden : List Hidden) (o : Option Verdict) → i < length places → p ≡ get_or places i p → n ≡ m
     → MatchOption o (entry_text n p.id ≡ None) (IsVerdictOn n rules p.id) → more_visible ≡ visible ++ filter_map visible_of (option_to_list o) → more_hidden ≡ hidden ++ filter_map hidden_of (option_to_list o)
     → AreJudged m rules (ids_of (take i places)) visible hidden → AreJudged m rules (ids_of (take (i + 1) places)) more_visible more_hidden
 next_judged m n rules places i p visible more_visible hidden more_hidden o lt is same on seen unseen are =
@@ -85,19 +85,19 @@ next_judged m n rules places i p visible more_visible hidden more_hidden o lt is
     let here = subst (λ (x : Map). MatchOption o (entry_text x p.id ≡ None) (IsVerdictOn x rules p.id)) same on in
     let next = one_judged m rules (ids_of (take i places)) p.id visible hidden o here are in
     subst (λ (ids : List PackageId). AreJudged m rules ids more_visible more_hidden) (sym longer)
-    (subst (λ (vs : List Entry). AreJudged m rules (ids_of (take i places) ++ p.id ∷ []) vs more_hidden) (sym seen)
+    (subst (λ (vs : List CacheEntryValue). AreJudged m rules (ids_of (take i places) ++ p.id ∷ []) vs more_hidden) (sym seen)
     (subst (AreJudged m rules (ids_of (take i places) ++ p.id ∷ []) (visible ++ filter_map visible_of (option_to_list o))) (sym unseen) next))
 
 -- places in order are still places
 pub all_places : (paths : List (List ℕ)) (found places : List Place) → ArePlaces paths found → IsPermutation found places → AllByRecursion IsPlace places
 all_places paths found places are moved = all_by_has IsPlace places (λ p has. (are.each p (has-moved places found p (IsPermutation-sym found places moved) has)).0)
 
-something : (x : Option Thing) → IsSome (bytes_of x) → IsSome x
+something : (x : Option ObjectValue) → IsSome (bytes_of x) → IsSome x
 something None is = absurd (cc is)
 something (Some x) is = refl
 
 -- the verdicts on the packages of all entries, in their order, are those on all candidates
-pub are_candidates : (m : Map) (rules : VisibleRules) (listed : List (List ℕ)) (found places : List Place) (visible : List Entry) (hidden : List Hidden) → IsTotalOrder key_cmp → Keyed
+pub are_candidates : (m : Map) (rules : VisibleRules) (listed : List (List ℕ)) (found places : List Place) (visible : List CacheEntryValue) (hidden : List Hidden) → IsTotalOrder key_cmp → Keyed
     → ((q : List ℕ) → Contains listed q ↔ ((is_below cache_folder q ≡ true) × IsSome (m q))) → ArePlaces listed found → IsPermutation found places → IsSorted place_cmp places
     → AreJudged m rules (ids_of places) visible hidden → AreCandidates m rules visible hidden
 are_candidates m rules listed found places visible hidden total keyed all are moved up judged = record {

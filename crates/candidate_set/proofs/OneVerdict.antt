@@ -3,7 +3,7 @@ use Rattle.std.proofs.Common.{◌≡◌, ◌∙◌, ◌⊎◌, ℕ, List, Option
 use Rattle.std.specs.Prelude.{IfErr, IfOk, MatchResult, ⊤}
 use Rattle.std.proofs.lemmas.Option.{same_Some}
 use Rattle.dep_atom.specs.declared.package.PackageId.{PackageId}
-use Rattle.md5_cache.specs.Entries.{Entry}
+use Rattle.md5_cache.specs.Entries.{CacheEntryValue}
 use Rattle.md5_cache.specs.EntryFaults.{FirstEntryFault, IsEntry}
 use Rattle.md5_cache.specs.FieldFaults.{HasNoOther, IsOther}
 use Rattle.md5_cache.specs.Fields.{AreFields}
@@ -108,7 +108,7 @@ module _ (rules : VisibleRules) (id : PackageId) (bytes : List ℕ) (ebuild : Op
       let same : h.text ≡ text = same_Some h.text text (sym h.there ∙ there) in
       subst (λ (t : List ℕ). Means bytes t a) same (subst (MeansOf bytes h.text) h.kind (means bytes h.text h.fault h.first))
 
-  has_no_fault : (e : Entry) (a : Reason) → HasEntry id bytes ebuild e → HasFault bytes ebuild a → ⊥
+  has_no_fault : (e : CacheEntryValue) (a : Reason) → HasEntry id bytes ebuild e → HasFault bytes ebuild a → ⊥
   has_no_fault e a has h = no_kind bytes has.text a has.entry (fault_means a has.text has.there h)
 
   nothing : (text : List ℕ) → ebuild ≡ None → ebuild ≡ Some text → ⊥
@@ -153,13 +153,13 @@ module _ (rules : VisibleRules) (id : PackageId) (bytes : List ℕ) (ebuild : Op
   one_reason once Keyword b f g = kept_only once Keyword b f g
   one_reason once Masked b f g = kept_only once Masked b f g
 
-  not_kept : SaysOnce → (e : Entry) (b : Reason) → IsVisible rules id bytes ebuild e → IsKeptBack rules id bytes ebuild b → ⊥
+  not_kept : SaysOnce → (e : CacheEntryValue) (b : Reason) → IsVisible rules id bytes ebuild e → IsKeptBack rules id bytes ebuild b → ⊥
   not_kept once e b f g =
       let none : None ≡ Some b = sym f.free ∙ (kept_alike rules (pairs_of bytes) id e g.e once f.has.tells g.has.tells ∙ g.kept) in
       cc none
 
   -- and one that is visible has none
-  pub no_reason : SaysOnce → (e : Entry) (b : Reason) → IsVisible rules id bytes ebuild e → IsReason rules id bytes ebuild b → ⊥
+  pub no_reason : SaysOnce → (e : CacheEntryValue) (b : Reason) → IsVisible rules id bytes ebuild e → IsReason rules id bytes ebuild b → ⊥
   no_reason once e NoEbuild f g = nothing f.has.text g f.has.there
   no_reason once e Eapi f g = has_no_fault e Eapi f.has g
   no_reason once e Stale f g = has_no_fault e Stale f.has g
@@ -168,7 +168,7 @@ module _ (rules : VisibleRules) (id : PackageId) (bytes : List ℕ) (ebuild : Op
   no_reason once e Masked f g = not_kept once e Masked f g
 
   -- what is answered where there is a reason
-  pub told : SaysOnce → (r : Result Entry Refusal) → IfOk r (IsVisible rules id bytes ebuild) → IfErr r (IsRefused rules id bytes ebuild) → (reason : Reason) → IsReason rules id bytes ebuild reason
+  pub told : SaysOnce → (r : Result CacheEntryValue Refusal) → IfOk r (IsVisible rules id bytes ebuild) → IfErr r (IsRefused rules id bytes ebuild) → (reason : Reason) → IsReason rules id bytes ebuild reason
       → MatchResult r (λ _. ⊥) (λ x. (x ≡ Hidden reason) ⊎ (x ≡ Memory))
   told once (Ok e) visible refused reason is = no_reason once e reason visible is
   told once (Err (Hidden other)) visible refused reason is = inl (ap Hidden (one_reason once other reason refused is))

@@ -11,7 +11,7 @@ use Rattle.std.proofs.lemmas.Map.Keys.{apart_from_distinct, sorted_from_all_adja
 use Rattle.std.proofs.lemmas.Map.Text.{is_eq-slice_cmp}
 use Rattle.std.proofs.lemmas.Slice.Eq.{bytes_eq-Decides}
 use Rattle.basics.proofs.Orderings.{less_if}
-use Rattle.version_text.specs.Grammar.{IsVersion, Parts, spelling}
+use Rattle.version_text.specs.Grammar.{IsVersion, VersionValue, spelling}
 use Rattle.pms_version.specs.Keys.{key_cmp}
 use Rattle.pms_version.specs.Order.{version_cmp}
 use Rattle.dep_atom.specs.Ids.{id_text, version_rank}
@@ -61,7 +61,7 @@ strictly R (x ∷ xs) total sorted apart = sorted_from_all_adjacent total (x ∷
 
 -- versions are ordered as their keys are
 abbrev pub Keyed : Type 0
-Keyed = (a b : Parts) → IsVersion a → IsVersion b → version_cmp a b ≡ key_cmp a b
+Keyed = (a b : VersionValue) → IsVersion a → IsVersion b → version_cmp a b ≡ key_cmp a b
 
 one_less : (p q : Place) → Keyed → IsPlace p → IsPlace q → place_cmp p q ≡ id_cmp p.id q.id
 one_less p q keyed is js =

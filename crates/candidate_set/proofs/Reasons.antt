@@ -1,7 +1,7 @@
 -- The first reason why a candidate isn't visible.
 use Rattle.std.proofs.Common.{◌≡◌, ◌∙◌, ◌⊎◌, ℕ, Bool, true, false, cond, List, Option, None, Some, ap, inl, inr, refl, subst, sym}
 use Rattle.dep_atom.specs.declared.package.PackageId.{PackageId}
-use Rattle.md5_cache.specs.Entries.{Entry, Tells}
+use Rattle.md5_cache.specs.Entries.{CacheEntryValue, Tells}
 use Rattle.md5_cache.specs.EntryFaults.{FirstEntryFault}
 use Rattle.md5_cache.specs.Pairs.{pairs_of}
 use Rattle.md5_cache.specs.declared.fault.CacheFault.{CacheFault}
@@ -34,7 +34,7 @@ two_reasons true false reason e = absurd (cc e)
 two_reasons false m reason e = inl (cc e)
 
 -- what keeps the entry back is the reason
-pub kept : (rules : VisibleRules) (id : PackageId) (bytes : List ℕ) (ebuild : Option (List ℕ)) (e : Entry) (reason : Reason) → HasEntry id bytes ebuild e → kept_back rules e ≡ Some reason → IsReason rules id bytes ebuild reason
+pub kept : (rules : VisibleRules) (id : PackageId) (bytes : List ℕ) (ebuild : Option (List ℕ)) (e : CacheEntryValue) (reason : Reason) → HasEntry id bytes ebuild e → kept_back rules e ≡ Some reason → IsReason rules id bytes ebuild reason
 kept rules id bytes ebuild e reason has is =
     elim (two_reasons (accepts rules.keywords e.package_is.facts e.keywords) (is_masked rules.masks rules.unmasks e.package_is.facts) reason is) [
       | inl same ↦ subst (IsReason rules id bytes ebuild) (sym same) (of Keyword (is ∙ ap Some same))
@@ -44,7 +44,7 @@ kept rules id bytes ebuild e reason has is =
       of r that = record { e = e; has = has; kept = that }
 
 -- an entry that is kept back is none of a visible candidate
-pub not_visible : (rules : VisibleRules) (id : PackageId) (bytes : List ℕ) (ebuild : Option (List ℕ)) (e d : Entry) (reason : Reason) → SaysOnce → Tells (pairs_of bytes) id e → kept_back rules e ≡ Some reason → IsVisible rules id bytes ebuild d → ⊥
+pub not_visible : (rules : VisibleRules) (id : PackageId) (bytes : List ℕ) (ebuild : Option (List ℕ)) (e d : CacheEntryValue) (reason : Reason) → SaysOnce → Tells (pairs_of bytes) id e → kept_back rules e ≡ Some reason → IsVisible rules id bytes ebuild d → ⊥
 not_visible rules id bytes ebuild e d reason once tells is visible =
     let none : Some reason ≡ None = sym is ∙ (kept_alike rules (pairs_of bytes) id e d once tells visible.has.tells ∙ visible.free) in
     cc none

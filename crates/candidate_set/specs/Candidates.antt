@@ -13,10 +13,10 @@ use Rattle.dep_atom.specs.Ids.{IsId, id_text}
 use Rattle.dep_atom.specs.Text.{name_text}
 use Rattle.dep_atom.specs.declared.package.PackageId.{PackageId}
 use Rattle.file_tree.specs.Disk.{Map}
-use Rattle.file_tree.specs.Thing.{Thing}
+use Rattle.file_tree.specs.ObjectValue.{ObjectValue}
 use Rattle.file_tree.specs.declared.objects.Kind.{Kind}
 use Rattle.file_tree.specs.declared.objects.Kind.TheVariants.{Exec, Link, Plain}
-use Rattle.md5_cache.specs.Entries.{Entry}
+use Rattle.md5_cache.specs.Entries.{CacheEntryValue}
 use Rattle.candidate_set.specs.Verdicts.{IsReason, IsVisible}
 use Rattle.candidate_set.specs.declared.rules.VisibleRules.{VisibleRules}
 use Rattle.candidate_set.specs.declared.verdict.Hidden.{Hidden}
@@ -46,7 +46,7 @@ bytes_if Plain bytes = Some bytes
 bytes_if Exec bytes = Some bytes
 bytes_if Link bytes = None
 
-abbrev pub bytes_of : Option Thing → Option (List ℕ)
+abbrev pub bytes_of : Option ObjectValue → Option (List ℕ)
 bytes_of None = None
 bytes_of (Some x) = bytes_if x.kind x.bytes
 
@@ -88,7 +88,7 @@ id_cmp a b = ordering_then (slice_cmp nat_cmp (name_text a.name) (name_text b.na
     (slice_cmp nat_cmp (spelling a.version) (spelling b.version)))
 
 -- the entry of a visible candidate, and the reason for another one
-abbrev pub visible_of : Verdict → Option Entry
+abbrev pub visible_of : Verdict → Option CacheEntryValue
 visible_of (verdicts.Visible e) = Some e
 visible_of (verdicts.Hidden h) = None
 
@@ -97,7 +97,7 @@ hidden_of (verdicts.Visible e) = None
 hidden_of (verdicts.Hidden h) = Some h
 
 -- a verdict on each candidate, in their order, parted into those that are visible and the others
-pub record AreCandidates (m : Map) (rules : VisibleRules) (visible : List Entry)
+pub record AreCandidates (m : Map) (rules : VisibleRules) (visible : List CacheEntryValue)
     (hidden : List Hidden) : Type 0 where
   pub verdicts : List Verdict
   pub each : AllByRecursion (IsVerdict m rules) verdicts

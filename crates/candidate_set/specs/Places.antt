@@ -9,7 +9,7 @@ use Rattle.dep_atom.specs.Ids.{IsId, version_rank}
 use Rattle.dep_atom.specs.Text.{name_text}
 use Rattle.dep_atom.specs.declared.package.PackageId.{PackageId}
 use Rattle.file_tree.specs.Disk.{Map}
-use Rattle.md5_cache.specs.Entries.{Entry}
+use Rattle.md5_cache.specs.Entries.{CacheEntryValue}
 use Rattle.candidate_set.specs.Candidates.{IsVerdict, cache_path, entry_text, hidden_of, id_of, visible_of}
 use Rattle.candidate_set.specs.declared.place.Place.{Place}
 use Rattle.candidate_set.specs.declared.rules.VisibleRules.{VisibleRules}
@@ -50,7 +50,7 @@ has_entry m id = is_some (entry_text m id)
 
 -- the verdicts on those of the packages that have an entry, parted
 pub record AreJudged (m : Map) (rules : VisibleRules) (ids : List PackageId)
-    (visible : List Entry) (hidden : List Hidden) : Type 0 where
+    (visible : List CacheEntryValue) (hidden : List Hidden) : Type 0 where
   pub verdicts : List Verdict
   pub each : AllByRecursion (IsVerdict m rules) verdicts
   pub those : map id_of verdicts ≡ filter (has_entry m) ids

@@ -1,7 +1,7 @@
 -- Whether a candidate is visible, and the first reason why one isn't (PMS 5.2.4, 7.3.3, 14.3).
 use Rattle.std.specs.Prelude.{◌≡◌, ℕ, List, Option, None, Some, if◌then◌else◌, ⊤}
 use Rattle.dep_atom.specs.declared.package.PackageId.{PackageId}
-use Rattle.md5_cache.specs.Entries.{Entry, Tells}
+use Rattle.md5_cache.specs.Entries.{CacheEntryValue, Tells}
 use Rattle.md5_cache.specs.EntryFaults.{FirstEntryFault, IsEntry}
 use Rattle.md5_cache.specs.Pairs.{pairs_of}
 use Rattle.md5_cache.specs.declared.fault.CacheFault.{CacheFault}
@@ -16,7 +16,7 @@ use Rattle.candidate_set.specs.declared.rules.VisibleRules.{VisibleRules}
 
 -- the ebuild is there, and the text is the entry of it, which tells this of the package
 pub record HasEntry (id : PackageId) (bytes : List ℕ) (ebuild : Option (List ℕ))
-    (e : Entry) : Type 0 where
+    (e : CacheEntryValue) : Type 0 where
   pub text : List ℕ
   pub there : ebuild ≡ Some text
   pub entry : IsEntry bytes text
@@ -24,7 +24,7 @@ pub record HasEntry (id : PackageId) (bytes : List ℕ) (ebuild : Option (List �
 
 -- what keeps a package with this entry back: that none of its keywords is accepted, or else that it
 -- is masked
-abbrev pub kept_back : VisibleRules → Entry → Option Reason
+abbrev pub kept_back : VisibleRules → CacheEntryValue → Option Reason
 kept_back rules e =
     if accepts rules.keywords e.package_is.facts e.keywords then
     if is_masked rules.masks rules.unmasks e.package_is.facts then Some Masked else None
@@ -32,7 +32,7 @@ kept_back rules e =
 
 -- the candidate is visible, with this entry
 pub record IsVisible (rules : VisibleRules) (id : PackageId) (bytes : List ℕ)
-    (ebuild : Option (List ℕ)) (e : Entry) : Type 0 where
+    (ebuild : Option (List ℕ)) (e : CacheEntryValue) : Type 0 where
   pub has : HasEntry id bytes ebuild e
   pub free : kept_back rules e ≡ None
 
@@ -57,7 +57,7 @@ pub record HasFault (bytes : List ℕ) (ebuild : Option (List ℕ)) (reason : Re
 -- the candidate has an entry, and is kept back for this reason
 pub record IsKeptBack (rules : VisibleRules) (id : PackageId) (bytes : List ℕ)
     (ebuild : Option (List ℕ)) (reason : Reason) : Type 0 where
-  pub e : Entry
+  pub e : CacheEntryValue
   pub has : HasEntry id bytes ebuild e
   pub kept : kept_back rules e ≡ Some reason
 

@@ -1,6 +1,6 @@
 ghost use Rattle.std.specs.Prelude.{◌≡◌, ◌⊎◌, IfErr, IfOk, MatchResult, None, Some};
 ghost use Rattle.std.specs.Option.{option_copied};
-ghost use Rattle.md5_cache.specs.Entries.{Entry};
+ghost use Rattle.md5_cache.specs.Entries.{CacheEntryValue};
 ghost use Rattle.candidate_set.specs.Verdicts.{IsReason, IsRefused, IsVisible, kept_back};
 ghost use Rattle.candidate_set.specs.Verdicts.{refusal_of};
 ghost use Rattle.candidate_set.specs.declared.reason.Reason.{Reason as ReasonValue};
@@ -23,7 +23,7 @@ pub fn judge(
 ) -> Result<CacheEntry, Refusal>
     ensures visible { IfOk result
         (IsVisible rules.now id entry.now (option_copied ebuild.entry)) }
-    ensures only { (e : Entry) →
+    ensures only { (e : CacheEntryValue) →
         IsVisible rules.now id entry.now (option_copied ebuild.entry) e →
         IfErr result (λ r. r ≡ Memory) }
     ensures reason { IfErr result
@@ -45,7 +45,7 @@ fn judge_files(
 ) -> Result<CacheEntry, Refusal>
     ensures visible { IfOk result
         (IsVisible rules.now id entry.now (option_copied ebuild.entry)) }
-    ensures only { (e : Entry) →
+    ensures only { (e : CacheEntryValue) →
         IsVisible rules.now id entry.now (option_copied ebuild.entry) e →
         IfErr result (λ r. r ≡ Memory) }
     ensures reason { IfErr result

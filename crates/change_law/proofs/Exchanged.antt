@@ -11,7 +11,7 @@ use Rattle.dep_atom.specs.declared.package.PackageId.{PackageId}
 use Rattle.dep_atom.proofs.Joined.{ComesApart}
 use Rattle.file_tree.specs.Disk.{Map, held_by}
 use Rattle.file_tree.specs.Paths.{is_below}
-use Rattle.file_tree.specs.Thing.{Thing}
+use Rattle.file_tree.specs.ObjectValue.{ObjectValue}
 use Rattle.file_tree.specs.declared.objects.Entry.{Entry}
 use Rattle.image_fit.specs.Images as images
 use Rattle.journal.specs.Group.{Group}
@@ -24,7 +24,7 @@ use Rattle.owner_book.specs.Book as books
 use Rattle.owner_book.specs.Book.{Book, owner_in}
 use Rattle.owner_book.specs.Rules.{is_dying, is_reserved}
 use Rattle.owner_book.specs.declared.wish.Wish.{Wish}
-use Rattle.vdb_text.specs.Files.{database_path, record_path}
+use Rattle.vdb_text.specs.Files.{database_path, package_file_path}
 use Rattle.vdb_text.proofs.Packages.{OneSpelling, one_id}
 use Rattle.contents_text.specs.Contents.{path_of}
 use Rattle.contents_text.specs.declared.owned.Owned.{Owned}
@@ -130,9 +130,9 @@ module _ (comes : ComesApart) (spells : OneSpelling) (key : Installed → OwnerK
       ]
 
   abbrev mark : Files × Installed → List ℕ
-  mark z = record_path (id_of z.1) (name_of contents)
+  mark z = package_file_path (id_of z.1) (name_of contents)
 
-  below_at : (z : Files × Installed) (name : List ℕ) → Has zs z → is_below database_path (record_path (id_of z.1) name) ≡ true
+  below_at : (z : Files × Installed) (name : List ℕ) → Has zs z → is_below database_path (package_file_path (id_of z.1) name) ≡ true
   below_at z name there = counted_below _ (counted_of (id_of z.1) name (brought z there).files.id)
 
   -- the file of CONTENTS of a package that comes
@@ -153,7 +153,7 @@ module _ (comes : ComesApart) (spells : OneSpelling) (key : Installed → OwnerK
   one_folder : (y z : Files × Installed) (q : List ℕ) → Has zs y → Has zs z → IsOf (id_of y.1) q → IsOf (id_of z.1) q → y ≡ z
   one_folder y z q there here (name, is) (other, too) =
       let same = one_id comes spells (id_of y.1) (id_of z.1) name other (brought y there).files.id (brought z here).files.id (sym is ∙ too) in
-      let marks : mark y ≡ mark z = ap (λ (id : PackageId). record_path id (name_of contents)) same in
+      let marks : mark y ≡ mark z = ap (λ (id : PackageId). package_file_path id (name_of contents)) same in
       one_piece paths_in zs y z (mark z) distinct_pieces there here (subst (λ (q : List ℕ). Has (paths_in y) q) marks (mark_path y there)) (mark_path z here)
 
   own_distinct : (z : Files × Installed) → Has zs z → AreDistinct (map images.path_of z.0.folder.items)
@@ -161,18 +161,18 @@ module _ (comes : ComesApart) (spells : OneSpelling) (key : Installed → OwnerK
       distinct_back (map images.path_of z.0.image.items) (map images.path_of z.0.folder.items)
       (subst (λ (l : List (List ℕ)). AreDistinct l) (map-append images.path_of z.0.image.items z.0.folder.items) (distinct_piece paths_in zs z distinct_pieces there))
 
-  none_put : (z : Files × Installed) (name : List ℕ) → Has zs z → ¬ Has (map images.path_of z.0.folder.items) (record_path (id_of z.1) name) → (x : Option Thing) → put g (record_path (id_of z.1) name) ≡ x → put g (record_path (id_of z.1) name) ≡ None
+  none_put : (z : Files × Installed) (name : List ℕ) → Has zs z → ¬ Has (map images.path_of z.0.folder.items) (package_file_path (id_of z.1) name) → (x : Option ObjectValue) → put g (package_file_path (id_of z.1) name) ≡ x → put g (package_file_path (id_of z.1) name) ≡ None
   none_put z name there out None e = e
   none_put z name there out (Some t) e =
-      let k = put_inside (record_path (id_of z.1) name) (below_at z name there) (subst (λ (x : Option Thing). IsSome x) (sym e) refl) in
-      let same = one_folder k.0 z (record_path (id_of z.1) name) k.1 there k.3 (name, refl) in
-      absurd (out (subst (λ (y : Files × Installed). Has (map images.path_of y.0.folder.items) (record_path (id_of z.1) name)) same k.2))
+      let k = put_inside (package_file_path (id_of z.1) name) (below_at z name there) (subst (λ (x : Option ObjectValue). IsSome x) (sym e) refl) in
+      let same = one_folder k.0 z (package_file_path (id_of z.1) name) k.1 there k.3 (name, refl) in
+      absurd (out (subst (λ (y : Files × Installed). Has (map images.path_of y.0.folder.items) (package_file_path (id_of z.1) name)) same k.2))
 
   -- what is put into the folder of a package that comes are its own files
-  own_put : (z : Files × Installed) (name : List ℕ) → Has zs z → put g (record_path (id_of z.1) name) ≡ held_by z.0.folder.items (record_path (id_of z.1) name)
+  own_put : (z : Files × Installed) (name : List ℕ) → Has zs z → put g (package_file_path (id_of z.1) name) ≡ held_by z.0.folder.items (package_file_path (id_of z.1) name)
   own_put z name there =
       let own = z.0.folder.items in
-      let q = record_path (id_of z.1) name in
+      let q = package_file_path (id_of z.1) name in
       elim (cases_Bool (is_in (map images.path_of own) q)) [
         | inl e ↦ (let k = has-map_back images.path_of own q (has_if_in (map images.path_of own) q e) in
             subst (λ (p : List ℕ). put g p ≡ held_by own p) k.2
@@ -187,7 +187,7 @@ module _ (comes : ComesApart) (spells : OneSpelling) (key : Installed → OwnerK
   owned_here : (z : Files × Installed) (o : Owned) → Has zs z → Has z.1.owned o → Holds (put g o.path) o.content
   owned_here z o there has =
       let k = (brought z there).files.owned o has in
-      subst (λ (x : Option Thing). Holds x o.content)
+      subst (λ (x : Option ObjectValue). Holds x o.content)
       (sym (ap (put g) k.2.path ∙ all_put k.0 (has_entry z k.0 there (has-append_left z.0.image.items z.0.folder.items k.0 k.1)))) k.2.content
 
   -- what holds of each package that is brought holds of each that comes
@@ -209,7 +209,7 @@ module _ (comes : ComesApart) (spells : OneSpelling) (key : Installed → OwnerK
       (p, leaves, owns),
       λ has.
           let e = has-map_back images.path_of es q has in
-          none_is_not_some (put g q) none (subst (λ (x : Option Thing). IsSome x) (sym (ap (put g) (sym e.2) ∙ all_put e.0 e.1)) refl),
+          none_is_not_some (put g q) none (subst (λ (x : Option ObjectValue). IsSome x) (sym (ap (put g) (sym e.2) ∙ all_put e.0 e.1)) refl),
     );
   }
 
@@ -233,7 +233,7 @@ module _ (comes : ComesApart) (spells : OneSpelling) (key : Installed → OwnerK
   put_wish v has =
       let there = subst (λ (l : List (List ℕ)). Has l v.path) (all_wished packages) (has-map books.path_of ws v has) in
       let k = has-map_back images.path_of es v.path there in
-      subst (λ (x : Option Thing). IsSome x) (sym (ap (put g) (sym k.2) ∙ all_put k.0 k.1)) refl
+      subst (λ (x : Option ObjectValue). IsSome x) (sym (ap (put g) (sym k.2) ∙ all_put k.0 k.1)) refl
 
   wishes : Wishes key c ws
   wishes = record {
@@ -243,7 +243,7 @@ module _ (comes : ComesApart) (spells : OneSpelling) (key : Installed → OwnerK
         let k = each_wish z.0.0 z.0.1 (brought z.0 z.1).files v z.2 in
         (z.0.1, has-map right zs z.0 z.1, k.0 ∙ sym (brought z.0 z.1).mine, k.1);
     recorded = λ a q here has. by_pair (λ (b : Installed). Has (paths b) q → IsWished b q) (λ z there. recorded_wish z q there) a here has;
-    marked = by_pair (λ (b : Installed). IsWished b (record_path (id_of b) (name_of contents))) mark_wish;
+    marked = by_pair (λ (b : Installed). IsWished b (package_file_path (id_of b) (name_of contents))) mark_wish;
     put = put_wish;
     keys = apart;
   }

@@ -25,7 +25,8 @@ pub struct Keyed {
 impl Keyed {
     /// The lines of a universe under what their packages may have of such keys.
     pub fn new(alloc: Global, universe: &Universe, key: Key) -> Result<Keyed, AllocError>
-        ensures { IfOk result (λ keyed. AreKeyed key (universe_of universe.now).offers keyed.lists) }
+        ensures { IfOk result
+            (λ keyed. AreKeyed key (universe_of universe.now).offers keyed.lists) }
     {
         let lists = lists_of(alloc, &universe.offers, key)?;
         Ok(Keyed { lists })

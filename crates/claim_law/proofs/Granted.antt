@@ -21,7 +21,7 @@ use Rattle.owner_book.specs.Book.{Book, IsClaimedBy, IsTaken as IsTakenPath, cla
 use Rattle.owner_book.specs.Near.{is_near}
 use Rattle.owner_book.specs.Whole.{AreFree, FreeIn}
 use Rattle.owner_book.specs.declared.wish.Wish.{Wish}
-use Rattle.vdb_text.specs.Files.{record_path}
+use Rattle.vdb_text.specs.Files.{package_file_path}
 use Rattle.database_law.specs.Database.{IsDatabase, folder_name}
 use Rattle.database_law.specs.Fields.{contents, name_of}
 use Rattle.database_law.specs.Packages.{Installed, id_of, paths}
@@ -37,8 +37,8 @@ pub not_below : (q : List ℕ) → is_below q q ≡ false
 not_below q = and_right _ (slice_index q (length q) == 47) (ap (λ (b : ℕ). b == 47) (get_or-eq_default q 0 {n = length q} (omega arith)))
 
 -- packages of one folder have one file of CONTENTS
-mark_path : (a b : PackageId) → id_text a ≡ id_text b → record_path a (name_of contents) ≡ record_path b (name_of contents)
-unfolding record_path
+mark_path : (a b : PackageId) → id_text a ≡ id_text b → package_file_path a (name_of contents) ≡ package_file_path b (name_of contents)
+unfolding package_file_path
 mark_path a b e = ap (λ (t : List ℕ). codes "var/db/pkg/" ++ (t ++ (47 ∷ name_of contents))) e
 
 -- packages with marks of their own are told apart by them
@@ -160,8 +160,8 @@ module _ (key : Installed → OwnerKey) (b : Book) (m : Map) (ps : List Installe
   new_folder : (a p : Installed) → Has c.added a → Stays ps c.gone p → ¬ (folder_name a ≡ folder_name p)
   new_folder a p ha stays e =
       let w = tells.wishes.marked a ha in
-      let path : w.0.path ≡ record_path (id_of p) (name_of contents) = w.2 ∙ mark_path (id_of a) (id_of p) e in
-      let some : IsSome (m (record_path (id_of p) (name_of contents))) = text_there (m (record_path (id_of p) (name_of contents))) ((db.says p stays.0).there contents refl) in
+      let path : w.0.path ≡ package_file_path (id_of p) (name_of contents) = w.2 ∙ mark_path (id_of a) (id_of p) e in
+      let some : IsSome (m (package_file_path (id_of p) (name_of contents))) = text_there (m (package_file_path (id_of p) (name_of contents))) ((db.says p stays.0).there contents refl) in
       let owns : Owns m p w.0.path = inr ((name_of contents, path), subst (λ (s : List ℕ). IsSome (m s)) (sym path) some) in
       true≢false (sym (owned_goes p w.0 stays.0 owns w.1) ∙ stays.1)
 
@@ -172,7 +172,7 @@ module _ (key : Installed → OwnerKey) (b : Book) (m : Map) (ps : List Installe
   }
 
   module _ (h : ℕ) (d : Change) (vs : List Wish) (claim : IsClaimOf key b h d vs) where
-    abbrev parts : books.Parts
+    abbrev parts : books.ClaimValue
     parts = record { placed = vs; removed = d.does.content.removals }
 
     claimed_wish : (v : Wish) → Has vs v → IsClaimedBy b.claims v.path h

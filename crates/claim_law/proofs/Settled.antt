@@ -6,7 +6,7 @@ use Rattle.std.proofs.lemmas.Option.{same_Some}
 use Rattle.basics.specs.Members.{Has}
 use Rattle.basics.proofs.Tests.{none_is_not_some, or_first}
 use Rattle.file_tree.specs.Disk.{Map}
-use Rattle.file_tree.specs.Thing.{Thing}
+use Rattle.file_tree.specs.ObjectValue.{ObjectValue}
 use Rattle.journal.specs.Judging.{is_in}
 use Rattle.merge_record.specs.declared.record.OwnerKey.{OwnerKey}
 use Rattle.journal.proofs.Form.{has_if_in, in_if_has}
@@ -41,7 +41,7 @@ module _ (comes : ComesApart) (spells : OneSpelling) (key : Installed → OwnerK
   abbrev new : Map
   new = applied m (c.does ∷ [])
 
-  abbrev parts : books.Parts
+  abbrev parts : books.ClaimValue
   parts = record { placed = ws; removed = c.does.content.removals }
 
   settled_true : (q : List ℕ) → has parts q ≡ true → owner_after c ws own q ≡ key_in ws q
@@ -57,7 +57,7 @@ module _ (comes : ComesApart) (spells : OneSpelling) (key : Installed → OwnerK
   stood : (p : Installed) (q : List ℕ) → Stays ps c.gone p → IsOf (id_of p) q → new q ≡ m q
   stood p q stays of =
       let same = folder_stays comes spells m ps c.added qs c.gone c.does db kept may.step.removes may.step.puts may.step.apart after p stays in
-      ap new of.1 ∙ ap (λ (f : List ℕ → Option Thing). f of.0) same ∙ sym (ap m of.1)
+      ap new of.1 ∙ ap (λ (f : List ℕ → Option ObjectValue). f of.0) same ∙ sym (ap m of.1)
 
   -- what stands in a coming package's folder was put
   came : (a : Installed) (q : List ℕ) → Has c.added a → IsOf (id_of a) q → new q ≡ put c.does q
@@ -104,12 +104,12 @@ module _ (comes : ComesApart) (spells : OneSpelling) (key : Installed → OwnerK
   ] where
     owned_before : Stays ps c.gone p → Owns new p q → Owns m p q
     owned_before stays (inl recorded) = inl recorded
-    owned_before stays (inr there) = inr (there.0, subst (λ (x : Option Thing). IsSome x) (stood p q stays there.0) there.1)
+    owned_before stays (inr there) = inr (there.0, subst (λ (x : Option ObjectValue). IsSome x) (stood p q stays there.0) there.1)
 
     owned_by_wish : Has c.added p → Owns new p q → owner_after c ws own q ≡ Some (key p)
     owned_by_wish added (inl recorded) = (let w = tells.wishes.recorded p q added recorded in told p q w.0 w.1 w.2 w.3)
     owned_by_wish added (inr there) =
-        let put_there : IsSome (put c.does q) = subst (λ (x : Option Thing). IsSome x) (came p q added there.0) there.1 in
+        let put_there : IsSome (put c.does q) = subst (λ (x : Option ObjectValue). IsSome x) (came p q added there.0) there.1 in
         let w = put_wished key c ws tells.wishes q (put_placed c q put_there) in
         let a = tells.wishes.each w.0 w.1 in
         let of : IsOf (id_of p) w.0.path = (there.0.0, w.2 ∙ there.0.1) in
@@ -126,11 +126,11 @@ module _ (comes : ComesApart) (spells : OneSpelling) (key : Installed → OwnerK
   ] where
     wish_owned : (a : Installed) (w : Wish) → Has c.added a → Has ws w → IsWishOf a w → Owns new a w.path
     wish_owned a w ha hw (inl recorded) = inl recorded.1
-    wish_owned a w ha hw (inr inside) = inr (inside.1, subst (λ (x : Option Thing). IsSome x) (sym (came a w.path ha inside.1)) (tells.wishes.put w hw))
+    wish_owned a w ha hw (inr inside) = inr (inside.1, subst (λ (x : Option ObjectValue). IsSome x) (sym (came a w.path ha inside.1)) (tells.wishes.put w hw))
 
     owned_still : (p : Installed) (s : List ℕ) → Stays ps c.gone p → Owns m p s → Owns new p s
     owned_still p s stays (inl recorded) = inl recorded
-    owned_still p s stays (inr there) = inr (there.0, subst (λ (x : Option Thing). IsSome x) (sym (stood p s stays there.0)) there.1)
+    owned_still p s stays (inr there) = inr (there.0, subst (λ (x : Option ObjectValue). IsSome x) (sym (stood p s stays there.0)) there.1)
 
     -- a package that goes owns nothing that its group doesn't change
     still : (p : Installed) (s : List ℕ) → Has ps p → Owns m p s → has parts s ≡ false → c.gone p ≡ false
@@ -141,10 +141,10 @@ module _ (comes : ComesApart) (spells : OneSpelling) (key : Installed → OwnerK
     ] where
       unput : (t : List ℕ) → is_wished ws t ≡ false → put c.does t ≡ None
       unput t none = go (put c.does t) refl where
-        go : (x : Option Thing) → put c.does t ≡ x → put c.does t ≡ None
+        go : (x : Option ObjectValue) → put c.does t ≡ x → put c.does t ≡ None
         go None f = f
         go (Some y) f =
-            let w = put_wished key c ws tells.wishes t (put_placed c t (subst (λ (z : Option Thing). IsSome z) (sym f) refl)) in
+            let w = put_wished key c ws tells.wishes t (put_placed c t (subst (λ (z : Option ObjectValue). IsSome z) (sym f) refl)) in
             absurd (true≢false (sym (ap (is_wished ws) (sym w.2) ∙ wished_if_has ws w.0 w.1) ∙ none))
 
 pub settled_owners_are : ComesApart → OneSpelling → SettledOwnersAre

@@ -1,14 +1,14 @@
 -- Books stay tidy.
 use Rattle.std.proofs.Common.{◌≡◌, ◌⊎◌, ◌∙◌, ◌||◌, ◌==◌, ℕ, Bool, true, false, List, [], Option, Some, None, inl, inr, refl, sym, ap, subst}
 use Rattle.std.specs.Prelude.{IsSome, is_some}
-use Rattle.std.proofs.lemmas.Bool.{cases_Bool, cases_eq, cond-false, cond-true, eq-eqb, ne_eqb, or_cases, or_left}
+use Rattle.std.proofs.lemmas.Bool.{cases_Bool, cases_eq, cond-false, cond-true, eq-eqb, ne_eqb, or_cases, or_left, or_parts}
 use Rattle.std.proofs.lemmas.Option.{same_Some}
 use Rattle.basics.specs.Members.{Has}
 use Rattle.basics.proofs.Tests.{none_is_not_some, some-IsSome}
 use Rattle.file_tree.specs.Paths.{is_below}
 use Rattle.journal.specs.Judging.{is_in}
 use Rattle.merge_record.specs.declared.record.OwnerKey.{OwnerKey}
-use Rattle.owner_book.specs.Book.{AreDisjoint, Book, ChangesClaim, HasOwnersOf, HasSettled, IsClaimedBy, IsTaken, Parts, claim_in, has, is_wished, key_in, owner_in}
+use Rattle.owner_book.specs.Book.{AreDisjoint, Book, ChangesClaim, HasOwnersOf, HasSettled, IsClaimedBy, IsTaken, ClaimValue, claim_in, has, is_wished, key_in, owner_in}
 use Rattle.owner_book.specs.Near.{is_near}
 use Rattle.owner_book.specs.Removing.{AreRemovable}
 use Rattle.owner_book.specs.Whole.{AreFree}
@@ -19,14 +19,8 @@ use Rattle.claim_law.proofs.Lists.{one_first, wish_if_wished, wished_if_has}
 
 -- ---- paths near one another
 
-or_swap : (a b : Bool) → (a || b) ≡ (b || a)
-or_swap true true = refl
-or_swap true false = refl
-or_swap false true = refl
-or_swap false false = refl
-
 near_back : (p q : List ℕ) → is_near q p ≡ false → is_near p q ≡ false
-near_back p q e = or_swap (is_below p q) (is_below q p) ∙ e
+near_back p q e = let both = or_parts (is_below q p) (is_below p q) e in ap (λ (b : Bool). b || is_below q p) both.1 ∙ both.0
 
 not_near : (p : List ℕ) → is_near p p ≡ false
 not_near p = ap (λ (b : Bool). b || is_below p p) (not_below p) ∙ not_below p
@@ -42,9 +36,9 @@ wish_of ws q e = named (key_in ws q) refl
 
 -- ---- the claims of the other groups
 
-module _ (old new : Book) (g : ℕ) (o : Option Parts) (changes : ChangesClaim old new g o) where
+module _ (old new : Book) (g : ℕ) (o : Option ClaimValue) (changes : ChangesClaim old new g o) where
   -- the claim of a group is the new one, or one of another group that was there
-  which : (h : ℕ) (d : Parts) → claim_in new.claims h ≡ Some d → ((g ≡ h) × (o ≡ Some d)) ⊎ ((g ≡ h → ⊥) × (claim_in old.claims h ≡ Some d))
+  which : (h : ℕ) (d : ClaimValue) → claim_in new.claims h ≡ Some d → ((g ≡ h) × (o ≡ Some d)) ⊎ ((g ≡ h → ⊥) × (claim_in old.claims h ≡ Some d))
   which h d is = elim (cases_eq g h) [
     | inl same ↦ inl (same, sym (cond-true (g == h) o (claim_in old.claims h) (eq-eqb g h same)) ∙ (sym (changes h) ∙ is))
     | inr other ↦ inr (other, sym (cond-false (g == h) o (claim_in old.claims h) (ne_eqb g h other)) ∙ (sym (changes h) ∙ is))
@@ -55,7 +49,7 @@ none_some x e = cc e
 
 -- ---- a claim more
 
-module _ (dying : ℕ → OwnerKey → Bool) (old new : Book) (g : ℕ) (c : Parts) (tidy : IsTidyBook dying old) (free : AreFree old (dying g) c.placed) (may : AreRemovable old (dying g) c.removed)
+module _ (dying : ℕ → OwnerKey → Bool) (old new : Book) (g : ℕ) (c : ClaimValue) (tidy : IsTidyBook dying old) (free : AreFree old (dying g) c.placed) (may : AreRemovable old (dying g) c.removed)
     (owners : HasOwnersOf old new) (changes : ChangesClaim old new g (Some c)) where
   -- no other group has a path of it
   fresh : (q : List ℕ) (h : ℕ) → has c q ≡ true → IsClaimedBy old.claims q h → ⊥
@@ -109,7 +103,7 @@ module _ (dying : ℕ → OwnerKey → Bool) (old new : Book) (g : ℕ) (c : Par
   taken_then : (q : List ℕ) → IsTaken new [] q → IsTaken old [] q ⊎ (has c q ≡ true)
   taken_then q (inl owned) = inl (inl (owned_then q owned))
   taken_then q (inr (inl (h, (d, is, mine)))) = elim (which old new g (Some c) changes h d is) [
-    | inl (same, e) ↦ inr (subst (λ (x : Parts). has x q ≡ true) (sym (same_Some c d e)) mine)
+    | inl (same, e) ↦ inr (subst (λ (x : ClaimValue). has x q ≡ true) (sym (same_Some c d e)) mine)
     | inr (other, e) ↦ inl (inr (inl (h, (d, e, mine))))
   ]
   taken_then q (inr (inr none)) = absurd (cc none)
@@ -118,10 +112,10 @@ module _ (dying : ℕ → OwnerKey → Bool) (old new : Book) (g : ℕ) (c : Par
   disjoint_claimed h i q (d, d_is, d_has) (e, e_is, e_has) = elim (which old new g (Some c) changes h d d_is) [
     | inl (same, x) ↦ elim (which old new g (Some c) changes i e e_is) [
       | inl (same', y) ↦ sym same ∙ same'
-      | inr (other, y) ↦ absurd (fresh q i (subst (λ (z : Parts). has z q ≡ true) (sym (same_Some c d x)) d_has) (e, y, e_has))
+      | inr (other, y) ↦ absurd (fresh q i (subst (λ (z : ClaimValue). has z q ≡ true) (sym (same_Some c d x)) d_has) (e, y, e_has))
     ]
     | inr (other, x) ↦ elim (which old new g (Some c) changes i e e_is) [
-      | inl (same', y) ↦ absurd (fresh q h (subst (λ (z : Parts). has z q ≡ true) (sym (same_Some c e y)) e_has) (d, x, d_has))
+      | inl (same', y) ↦ absurd (fresh q h (subst (λ (z : ClaimValue). has z q ≡ true) (sym (same_Some c e y)) e_has) (d, x, d_has))
       | inr (other', y) ↦ tidy.disjoint h i q (d, x, d_has) (e, y, e_has)
     ]
   ]
@@ -130,13 +124,13 @@ module _ (dying : ℕ → OwnerKey → Bool) (old new : Book) (g : ℕ) (c : Par
   mine_claimed h q k (d, is, mine) own =
       let before = sym (owners q) ∙ own in
       elim (which old new g (Some c) changes h d is) [
-        | inl (same, e) ↦ subst (λ (x : ℕ). dying x k ≡ true) same (going q k (subst (λ (z : Parts). has z q ≡ true) (sym (same_Some c d e)) mine) before)
+        | inl (same, e) ↦ subst (λ (x : ℕ). dying x k ≡ true) same (going q k (subst (λ (z : ClaimValue). has z q ≡ true) (sym (same_Some c d e)) mine) before)
         | inr (other, e) ↦ tidy.mine h q k (d, e, mine) before
       ]
 
   placed_claimed : PlacedAreFlat new
   placed_claimed h d p q is wished taken = elim (which old new g (Some c) changes h d is) [
-    | inl (same, e) ↦ (let here : is_wished c.placed p ≡ true = subst (λ (z : Parts). is_wished z.placed p ≡ true) (sym (same_Some c d e)) wished in
+    | inl (same, e) ↦ (let here : is_wished c.placed p ≡ true = subst (λ (z : ClaimValue). is_wished z.placed p ≡ true) (sym (same_Some c d e)) wished in
         elim (taken_then q taken) [ inl before ↦ apart_before p q here before | inr mine ↦ apart_from p q here mine ])
     | inr (other, e) ↦ elim (taken_then q taken) [
       | inl before ↦ tidy.placed h d p q e wished before
@@ -158,7 +152,7 @@ module _ (dying : ℕ → OwnerKey → Bool) (old new : Book) (g : ℕ) (c : Par
 -- ---- a claim less
 
 module _ (dying : ℕ → OwnerKey → Bool) (old new : Book) (g : ℕ) (tidy : IsTidyBook dying old) (changes : ChangesClaim old new g None) where
-  left : (h : ℕ) (d : Parts) → claim_in new.claims h ≡ Some d → (g ≡ h → ⊥) × (claim_in old.claims h ≡ Some d)
+  left : (h : ℕ) (d : ClaimValue) → claim_in new.claims h ≡ Some d → (g ≡ h → ⊥) × (claim_in old.claims h ≡ Some d)
   left h d is = elim (which old new g None changes h d is) [
     | inl (same, e) ↦ absurd (none_some d e)
     | inr other ↦ other
@@ -181,7 +175,7 @@ module _ (dying : ℕ → OwnerKey → Bool) (old new : Book) (g : ℕ) (tidy : 
         ]);
       }
 
-  module _ (c : Parts) (was : claim_in old.claims g ≡ Some c) (settles : HasSettled old new c) where
+  module _ (c : ClaimValue) (was : claim_in old.claims g ≡ Some c) (settles : HasSettled old new c) where
     -- an owned path was owned before and is none of the claim, or the claim places it
     owned_from : (q : List ℕ) (k : OwnerKey) → owner_in new.owned q ≡ Some k → ((has c q ≡ false) × (owner_in old.owned q ≡ Some k)) ⊎ (is_wished c.placed q ≡ true)
     owned_from q k is = elim (cases_Bool (has c q)) [

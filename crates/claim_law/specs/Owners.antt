@@ -6,7 +6,7 @@ use Rattle.journal.specs.Judging.{path_of}
 use Rattle.merge_record.specs.declared.record.OwnerKey.{OwnerKey}
 use Rattle.owner_book.specs.Book as books
 use Rattle.owner_book.specs.declared.wish.Wish.{Wish}
-use Rattle.vdb_text.specs.Files.{record_path}
+use Rattle.vdb_text.specs.Files.{package_file_path}
 use Rattle.database_law.specs.Database.{IsOf}
 use Rattle.database_law.specs.Fields.{contents, name_of}
 use Rattle.database_law.specs.Packages.{Installed, id_of, paths}
@@ -34,7 +34,7 @@ pub record Wishes (key : Installed → OwnerKey) (c : Change) (ws : List Wish) :
   pub recorded : (a : Installed) (q : List ℕ) → Has c.added a → Has (paths a) q →
       (w : Wish) × Has ws w × (w.path ≡ q) × (w.owner ≡ key a)
   pub marked : (a : Installed) → Has c.added a →
-      (w : Wish) × Has ws w × (w.path ≡ record_path (id_of a) (name_of contents))
+      (w : Wish) × Has ws w × (w.path ≡ package_file_path (id_of a) (name_of contents))
       × (w.owner ≡ key a)
   pub put : (w : Wish) → Has ws w → IsSome (put c.does w.path)
   pub keys : AreDistinct (map key c.added)

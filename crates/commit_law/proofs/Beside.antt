@@ -11,7 +11,7 @@ use Rattle.journal.specs.Names.{jobs}
 use Rattle.journal.proofs.Form.{in_if_has}
 use Rattle.journal.proofs.Free.{is_in-append}
 use Rattle.dep_atom.proofs.Joined.{ComesApart}
-use Rattle.vdb_text.specs.Files.{record_path}
+use Rattle.vdb_text.specs.Files.{package_file_path}
 use Rattle.vdb_text.proofs.Packages.{OneSpelling}
 use Rattle.journal.specs.Group.{Group, applied, covers, with_group}
 use Rattle.journal.proofs.Changes.{outside, placed_outside}
@@ -100,7 +100,7 @@ module _ (comes : ComesApart) (spells : OneSpelling) (m : Map) (ps qs : List Ins
           elim from.2 [
             | inl own ↦ inl own
             | inr there ↦ (
-                let out : is_below jobs q ≡ false = subst (λ (s : List ℕ). is_below jobs s ≡ false) (sym there.0.1) (counted_outside (record_path (id_of from.0) there.0.0) (counted_of (id_of from.0) there.0.0 (db.ids from.0 from.1.0))) in
+                let out : is_below jobs q ≡ false = subst (λ (s : List ℕ). is_below jobs s ≡ false) (sym there.0.1) (counted_outside (package_file_path (id_of from.0) there.0.0) (counted_of (id_of from.0) there.0.0 (db.ids from.0 from.1.0))) in
                 inr (there.0, subst (λ (x : Option _). IsSome x) (sym (mine_as q (removed_covered c.does q has) out)) there.1))
           ],
         );

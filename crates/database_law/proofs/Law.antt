@@ -7,7 +7,7 @@ use Rattle.basics.proofs.Membership.{has-map, has-map_back}
 use Rattle.basics.proofs.Tests.{none_is_not_some, some-IsSome}
 use Rattle.file_tree.specs.Disk.{Map}
 use Rattle.file_tree.specs.Paths.{is_below}
-use Rattle.file_tree.specs.Thing.{Thing}
+use Rattle.file_tree.specs.ObjectValue.{ObjectValue}
 use Rattle.journal.specs.Judging.{is_in, meets_jobs}
 use Rattle.journal.specs.Names.{jobs}
 use Rattle.merge_record.specs.declared.record.Placement.{Placement}
@@ -18,7 +18,7 @@ use Rattle.database_law.specs.Fields.{Folder, Says}
 use Rattle.dep_atom.specs.Ids.{IsId, id_text}
 use Rattle.dep_atom.specs.declared.package.PackageId.{PackageId}
 use Rattle.dep_atom.proofs.Joined.{ComesApart}
-use Rattle.vdb_text.specs.Files.{database_path, record_path}
+use Rattle.vdb_text.specs.Files.{database_path, package_file_path}
 use Rattle.vdb_text.proofs.Packages.{OneSpelling, one_id}
 use Rattle.journal.specs.Group.{Group, applied, with_group, with_groups, with_placements}
 use Rattle.contents_text.specs.declared.owned.Content.{Content}
@@ -29,11 +29,11 @@ use Rattle.database_law.specs.Step.{GroupKeepsDatabase, GroupsKeepDatabase, IsAf
 use Rattle.database_law.proofs.Places.{cases_option, counted_below, counted_dropped, counted_of, counted_outside, mark, one_of_rising, path_free, says_mark}
 
 -- one more placement, by whether it is at the path
-placed_step : (p : Placement) (ps : List Placement) (o : Thing) (os : List Thing) (q : List ℕ) (x : Option Thing) (b : Bool) → bytes_eq q p.path ≡ b → with_placements (p ∷ ps) (o ∷ os) q x ≡ with_placements ps os q (cond b (Some o) x)
+placed_step : (p : Placement) (ps : List Placement) (o : ObjectValue) (os : List ObjectValue) (q : List ℕ) (x : Option ObjectValue) (b : Bool) → bytes_eq q p.path ≡ b → with_placements (p ∷ ps) (o ∷ os) q x ≡ with_placements ps os q (cond b (Some o) x)
 placed_step p ps o os q x b is = ap (λ (c : Bool). with_placements ps os q (cond c (Some o) x)) is
 
 -- an object that is put stays till a later placement
-placed_not_none : (ps : List Placement) (os : List Thing) (q : List ℕ) (t : Thing) → with_placements ps os q (Some t) ≡ None → ⊥
+placed_not_none : (ps : List Placement) (os : List ObjectValue) (q : List ℕ) (t : ObjectValue) → with_placements ps os q (Some t) ≡ None → ⊥
 placed_not_none [] os q t e = cc e
 placed_not_none (p ∷ ps) [] q t e = cc e
 placed_not_none (p ∷ ps) (o ∷ os) q t e = elim (cases_Bool (bytes_eq q p.path)) [
@@ -42,7 +42,7 @@ placed_not_none (p ∷ ps) (o ∷ os) q t e = elim (cases_Bool (bytes_eq q p.pat
 ]
 
 -- what is put, whatever stood there
-placed_some : (ps : List Placement) (os : List Thing) (q : List ℕ) (x : Option Thing) (t : Thing) → with_placements ps os q None ≡ Some t → with_placements ps os q x ≡ Some t
+placed_some : (ps : List Placement) (os : List ObjectValue) (q : List ℕ) (x : Option ObjectValue) (t : ObjectValue) → with_placements ps os q None ≡ Some t → with_placements ps os q x ≡ Some t
 placed_some [] os q x t e = absurd (cc e)
 placed_some (p ∷ ps) [] q x t e = absurd (cc e)
 placed_some (p ∷ ps) (o ∷ os) q x t e = elim (cases_Bool (bytes_eq q p.path)) [
@@ -51,7 +51,7 @@ placed_some (p ∷ ps) (o ∷ os) q x t e = elim (cases_Bool (bytes_eq q p.path)
 ]
 
 -- what is not put is as it was
-placed_none : (ps : List Placement) (os : List Thing) (q : List ℕ) (x : Option Thing) → with_placements ps os q None ≡ None → with_placements ps os q x ≡ x
+placed_none : (ps : List Placement) (os : List ObjectValue) (q : List ℕ) (x : Option ObjectValue) → with_placements ps os q None ≡ None → with_placements ps os q x ≡ x
 placed_none [] os q x e = refl
 placed_none (p ∷ ps) [] q x e = refl
 placed_none (p ∷ ps) (o ∷ os) q x e = elim (cases_Bool (bytes_eq q p.path)) [
@@ -63,7 +63,7 @@ module _ (does : Group) (m : Map) (q : List ℕ) (outside : is_below jobs q ≡ 
   out : applied m (does ∷ []) q ≡ with_placements does.content.placements does.objects q (cond (is_in does.content.removals q) None (m q))
   out = cond-false (is_below jobs q) None (with_group does q (m q)) outside
 
-  holds_put : (t : Thing) → put does q ≡ Some t → applied m (does ∷ []) q ≡ Some t
+  holds_put : (t : ObjectValue) → put does q ≡ Some t → applied m (does ∷ []) q ≡ Some t
   holds_put t e = out ∙ placed_some does.content.placements does.objects q (cond (is_in does.content.removals q) None (m q)) t e
 
   loses : put does q ≡ None → is_in does.content.removals q ≡ true → applied m (does ∷ []) q ≡ None
@@ -78,7 +78,7 @@ dropped_if_jobs q h =
     let rest : (is_below jobs q || is_below q jobs) ≡ false = (or_parts (bytes_eq q jobs) (is_below jobs q || is_below q jobs) journal).1 in
     (or_parts (is_below jobs q) (is_below q jobs) rest).0
 
-holds_some : (x : Option Thing) (c : Content) → Holds x c → IsSome x
+holds_some : (x : Option ObjectValue) (c : Content) → Holds x c → IsSome x
 holds_some x (File digest) h = some-IsSome x h.0 h.1
 holds_some x (Link target) h = some-IsSome x _ h
 
@@ -91,31 +91,31 @@ module _ (comes : ComesApart) (spells : OneSpelling) (m : Map) (ps added qs : Li
   same_folder : (p g : Installed) → Has ps p → Has ps g → (id_of p) ≡ (id_of g) → p ≡ g
   same_folder p g hp hg e = one_of_rising ps p g db.rising hp hg (ap id_text e)
 
-  same_id : (a b : Installed) (x y : List ℕ) → IsId (id_of a) → IsId (id_of b) → record_path (id_of a) x ≡ record_path (id_of b) y → (id_of a) ≡ (id_of b)
+  same_id : (a b : Installed) (x y : List ℕ) → IsId (id_of a) → IsId (id_of b) → package_file_path (id_of a) x ≡ package_file_path (id_of b) y → (id_of a) ≡ (id_of b)
   same_id a b x y = one_id comes spells (id_of a) (id_of b) x y
 
   -- no coming package has the folder of one that stays
   not_both : (p a : Installed) → Stays ps gone p → Has added a → (id_of p) ≡ (id_of a) → ⊥
   not_both p a stays has e =
-      let none = free.free p (record_path (id_of p) mark) stays (inr ((mark, refl), says_mark (folder m (id_of p)) p (db.says p stays.0))) in
+      let none = free.free p (package_file_path (id_of p) mark) stays (inr ((mark, refl), says_mark (folder m (id_of p)) p (db.says p stays.0))) in
       let some = says_mark (folder (put does) (id_of a)) a (puts.says a has) in
-      none_is_not_some (put does (record_path (id_of p) mark)) none (subst (λ (i : PackageId). IsSome (put does (record_path i mark))) (sym e) some)
+      none_is_not_some (put does (package_file_path (id_of p) mark)) none (subst (λ (i : PackageId). IsSome (put does (package_file_path i mark))) (sym e) some)
 
   module _ (p : Installed) (stays : Stays ps gone p) where
-    unput : (name : List ℕ) → put does (record_path (id_of p) name) ≡ None
-    unput name = elim (cases_option (put does (record_path (id_of p) name))) [
+    unput : (name : List ℕ) → put does (package_file_path (id_of p) name) ≡ None
+    unput name = elim (cases_option (put does (package_file_path (id_of p) name))) [
       | inl none ↦ none
       | inr some ↦ (
-          let q : List ℕ = record_path (id_of p) name in
+          let q : List ℕ = package_file_path (id_of p) name in
           let from = puts.inside q (counted_below q (counted_of (id_of p) name (db.ids p stays.0))) (some-IsSome (put does q) some.0 some.1) in
           absurd (not_both p from.0 stays from.1 (same_id p from.0 name from.2.0 (db.ids p stays.0) (puts.ids from.0 from.1) from.2.1)))
     ]
 
-    unremoved : (name : List ℕ) → is_in does.content.removals (record_path (id_of p) name) ≡ false
-    unremoved name = elim (cases_Bool (is_in does.content.removals (record_path (id_of p) name))) [
+    unremoved : (name : List ℕ) → is_in does.content.removals (package_file_path (id_of p) name) ≡ false
+    unremoved name = elim (cases_Bool (is_in does.content.removals (package_file_path (id_of p) name))) [
       | inr e ↦ e
       | inl e ↦ (
-          let q : List ℕ = record_path (id_of p) name in
+          let q : List ℕ = package_file_path (id_of p) name in
           let from = removes.only q (has_if_in does.content.removals q e) in
           let is = counted_of (id_of p) name (db.ids p stays.0) in
           elim from.2 [
@@ -128,18 +128,18 @@ module _ (comes : ComesApart) (spells : OneSpelling) (m : Map) (ps added qs : Li
 
     pub folder_stays : folder new (id_of p) ≡ folder m (id_of p)
     folder_stays = λ i name.
-        keeps does m (record_path (id_of p) name) (counted_outside (record_path (id_of p) name) (counted_of (id_of p) name (db.ids p stays.0))) (unput name) (unremoved name) i
+        keeps does m (package_file_path (id_of p) name) (counted_outside (package_file_path (id_of p) name) (counted_of (id_of p) name (db.ids p stays.0))) (unput name) (unremoved name) i
 
     says_stays : Says (folder new (id_of p)) p
     says_stays = subst (λ (f : Folder). Says f p) (sym folder_stays) (db.says p stays.0)
 
   -- what stands in a coming package's folder was put
   module _ (a : Installed) (has : Has added a) (name : List ℕ) where
-    unput_is_none : put does (record_path (id_of a) name) ≡ None → is_in does.content.removals (record_path (id_of a) name) ≡ false → m (record_path (id_of a) name) ≡ None
-    unput_is_none none in-place = elim (cases_option (m (record_path (id_of a) name))) [
+    unput_is_none : put does (package_file_path (id_of a) name) ≡ None → is_in does.content.removals (package_file_path (id_of a) name) ≡ false → m (package_file_path (id_of a) name) ≡ None
+    unput_is_none none in-place = elim (cases_option (m (package_file_path (id_of a) name))) [
       | inl e ↦ e
       | inr some ↦ (
-          let q : List ℕ = record_path (id_of a) name in
+          let q : List ℕ = package_file_path (id_of a) name in
           let there = some-IsSome (m q) some.0 some.1 in
           let from = db.all q (counted_of (id_of a) name (puts.ids a has)) there in
           let same = same_id from.0 a from.2.0 name (db.ids from.0 from.1) (puts.ids a has) (sym from.2.1) in
@@ -149,9 +149,9 @@ module _ (comes : ComesApart) (spells : OneSpelling) (m : Map) (ps added qs : Li
           ])
     ]
 
-    pub name_comes : applied m (does ∷ []) (record_path (id_of a) name) ≡ put does (record_path (id_of a) name)
+    pub name_comes : applied m (does ∷ []) (package_file_path (id_of a) name) ≡ put does (package_file_path (id_of a) name)
     name_comes =
-        let q : List ℕ = record_path (id_of a) name in
+        let q : List ℕ = package_file_path (id_of a) name in
         let outside = counted_outside q (counted_of (id_of a) name (puts.ids a has)) in
         elim (cases_option (put does q)) [
           | inr some ↦ holds_put does m q outside some.0 some.1 ∙ sym some.1
@@ -174,7 +174,7 @@ module _ (comes : ComesApart) (spells : OneSpelling) (m : Map) (ps added qs : Li
     | inl none ↦ elim (cases_Bool (is_in does.content.removals q)) [
       | inl e ↦ absurd (none_is_not_some (new q) (loses does m q (counted_outside q is) none e) there)
       | inr e ↦ (
-          let before = subst (λ (x : Option Thing). IsSome x) (keeps does m q (counted_outside q is) none e) there in
+          let before = subst (λ (x : Option ObjectValue). IsSome x) (keeps does m q (counted_outside q is) none e) there in
           let from = db.all q is before in
           elim (cases_Bool (gone from.0)) [
             | inl leaves ↦ absurd (true≢false (sym (in_if_has does.content.removals q (removes.all from.0 q (from.1, leaves) (inr (from.2, before)) none)) ∙ e))
@@ -233,13 +233,13 @@ module _ (comes : ComesApart) (spells : OneSpelling) (m : Map) (ps added qs : Li
   none_above p s q t (inr a) (inr b) mine theirs = free.flat p s q t a b mine theirs
 
   holds_after : (p : Installed) (o : Owned) → (Stays ps gone p ⊎ Has added p) → Has p.owned o → Holds (new o.path) o.content
-  holds_after p o (inl stays) has = subst (λ (x : Option Thing). Holds x o.content) (sym (own_same p stays o.path (has-map path_of p.owned o has))) (kept.held p o stays.0 has)
+  holds_after p o (inl stays) has = subst (λ (x : Option ObjectValue). Holds x o.content) (sym (own_same p stays o.path (has-map path_of p.owned o has))) (kept.held p o stays.0 has)
   holds_after p o (inr comes) has =
       let there = puts.owned p o comes has in
       let free' = path_free (folder (put does) (id_of p)) p o.path (puts.says p comes) (has-map path_of p.owned o has) in
       elim (cases_option (put does o.path)) [
         | inl none ↦ absurd (none_is_not_some (put does o.path) none (holds_some (put does o.path) o.content there))
-        | inr some ↦ subst (λ (x : Option Thing). Holds x o.content) (some.1 ∙ sym (holds_put does m o.path (dropped_if_jobs o.path free') some.0 some.1)) there
+        | inr some ↦ subst (λ (x : Option ObjectValue). Holds x o.content) (some.1 ∙ sym (holds_put does m o.path (dropped_if_jobs o.path free') some.0 some.1)) there
       ]
 
   kept_after : IsKept new qs
@@ -260,7 +260,7 @@ pub applied_behind : (m : Map) (g : Group) (gs : List Group) (q : List ℕ) → 
 applied_behind m g gs q = elim (cases_Bool (is_below jobs q)) [
   | inl e ↦ cond-true (is_below jobs q) None (with_groups gs q (applied m (g ∷ []) q)) e ∙ sym (cond-true (is_below jobs q) None (with_groups gs q (with_group g q (m q))) e)
   | inr e ↦ cond-false (is_below jobs q) None (with_groups gs q (applied m (g ∷ []) q)) e
-      ∙ ap (λ (x : Option Thing). with_groups gs q x) (cond-false (is_below jobs q) None (with_group g q (m q)) e)
+      ∙ ap (λ (x : Option ObjectValue). with_groups gs q x) (cond-false (is_below jobs q) None (with_group g q (m q)) e)
       ∙ sym (cond-false (is_below jobs q) None (with_groups gs q (with_group g q (m q))) e)
 ]
 

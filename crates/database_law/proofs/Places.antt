@@ -10,7 +10,7 @@ use Rattle.std.proofs.lemmas.Bool.Decides.{nat_tests}
 use Rattle.basics.proofs.Membership.{has-append_cases, has-map_back}
 use Rattle.basics.proofs.Texts.{not_less}
 use Rattle.file_tree.specs.Paths.{is_below}
-use Rattle.file_tree.specs.Thing.{Thing}
+use Rattle.file_tree.specs.ObjectValue.{ObjectValue}
 use Rattle.journal.specs.Names.{jobs}
 use Rattle.pms_names.specs.Flags.{IsRising, byte_order}
 use Rattle.contents_text.specs.Contents.{TellsOwned, Line, is_dropped, obj, sym as link_line, dir, owned_by, owned_in, path_of, unless_dropped}
@@ -24,8 +24,8 @@ use Rattle.pms_names.specs.Bytes.{begins_badly, may_contain}
 use Rattle.pms_names.specs.Names.{IsName}
 use Rattle.pms_names.specs.declared.kind.Kind.TheVariants.{Category, Package}
 use Rattle.version_text.specs.Grammar.{spelling}
-use Rattle.vdb_text.specs.Files.{database_path, record_path}
-use Rattle.vdb_text.proofs.Packages.{record_path-parts}
+use Rattle.vdb_text.specs.Files.{database_path, package_file_path}
+use Rattle.vdb_text.proofs.Packages.{package_file_path-parts}
 use Rattle.contents_text.specs.declared.owned.Content.TheVariants.{File, Link}
 use Rattle.contents_text.specs.declared.owned.Owned.{Owned}
 use Rattle.database_law.specs.Packages.{Installed, paths}
@@ -64,12 +64,12 @@ version_counts id is = record {
   taken = name_taken id.name.«package» (45 ∷ spelling id.version) is.«package»;
 }
 
-pub counted_of : (id : PackageId) (name : List ℕ) → IsId id → IsCounted (record_path id name)
+pub counted_of : (id : PackageId) (name : List ℕ) → IsId id → IsCounted (package_file_path id name)
 counted_of id name is = record {
   category = id.name.category;
   pf = name_and_version id;
   name = name;
-  is = record_path-parts id name;
+  is = package_file_path-parts id name;
   category-counts = category_counts id is;
   pf-counts = version_counts id is;
 }
@@ -117,7 +117,7 @@ path_free f p q says has =
     subst (λ (s : List ℕ). is_dropped s ≡ false) o.2 free
 
 -- a file with a text is there
-pub text_there : (x : Option Thing) → IsSome (text_of x) → IsSome x
+pub text_there : (x : Option ObjectValue) → IsSome (text_of x) → IsSome x
 text_there None some = absurd (let h : IsSome {T = List ℕ} None = some in cc h)
 text_there (Some x) some = refl
 

@@ -8,9 +8,9 @@ use Rattle.dep_atom.specs.Ids.{IsId, id_text}
 use Rattle.dep_atom.specs.declared.package.PackageId.{PackageId}
 use Rattle.file_tree.specs.Disk.{Map}
 use Rattle.file_tree.specs.Paths.{is_below}
-use Rattle.file_tree.specs.Thing.{Thing}
+use Rattle.file_tree.specs.ObjectValue.{ObjectValue}
 use Rattle.file_tree.specs.declared.objects.Kind.TheVariants as kinds
-use Rattle.vdb_text.specs.Files.{record_path}
+use Rattle.vdb_text.specs.Files.{package_file_path}
 use Rattle.database_law.specs.Fields.{Folder, Says, is_file}
 use Rattle.contents_text.specs.declared.owned.Content.{Content}
 use Rattle.contents_text.specs.declared.owned.Content.TheVariants.{File, Link}
@@ -19,7 +19,7 @@ use Rattle.database_law.specs.Packages.{Installed, id_of, paths}
 
 -- the package's own folder
 abbrev pub folder : Map → PackageId → Folder
-folder m id name = m (record_path id name)
+folder m id name = m (package_file_path id name)
 
 -- the database skips folders whose names begin with a hyphen or a full stop
 abbrev pub is_skipped : List ℕ → Bool
@@ -44,7 +44,7 @@ pub record IsCounted (path : List ℕ) : Type 0 where
 
 -- the path is in this package's folder
 abbrev pub IsOf : PackageId → List ℕ → Type 0
-IsOf id path = (name : List ℕ) × (path ≡ record_path id name)
+IsOf id path = (name : List ℕ) × (path ≡ package_file_path id name)
 
 abbrev pub folder_name : Installed → List ℕ
 folder_name p = id_text (id_of p)
@@ -58,9 +58,9 @@ pub record IsDatabase (m : Map) (ps : List Installed) : Type 0 where
       (p : Installed) × Has ps p × IsOf (id_of p) q
 
 -- an object is as it was recorded
-abbrev pub Holds : Option Thing → Content → Type 0
+abbrev pub Holds : Option ObjectValue → Content → Type 0
 Holds x (File digest) =
-    (t : Thing) × (x ≡ Some t) × ((is_file t.kind ≡ true) × (md5 t.bytes ≡ digest))
+    (t : ObjectValue) × (x ≡ Some t) × ((is_file t.kind ≡ true) × (md5 t.bytes ≡ digest))
 Holds x (Link target) = x ≡ Some (record { kind = kinds.Link; bytes = target })
 
 -- no path has two owners, and none is above another

@@ -14,7 +14,7 @@ use Rattle.dep_tree.specs.Texts as dependencies
 use Rattle.required_use.specs.Texts as expressions
 use Rattle.slot_value.specs.Slots.{IsSlotValue}
 use Rattle.use_flags.specs.Items.{flag_of}
-use Rattle.file_tree.specs.Thing.{Thing}
+use Rattle.file_tree.specs.ObjectValue.{ObjectValue}
 use Rattle.file_tree.specs.declared.objects.Kind.{Kind}
 use Rattle.file_tree.specs.declared.objects.Kind.TheVariants.{Exec, Link, Plain}
 use Rattle.pkg_state.specs.Package.{class_word, tree_of}
@@ -24,7 +24,7 @@ use Rattle.database_law.specs.Packages.{Installed}
 
 -- what the files of a folder hold, by what is written behind the folder's slash
 abbrev pub Folder : Type 0
-Folder = List ℕ → Option Thing
+Folder = List ℕ → Option ObjectValue
 
 abbrev pub is_file : Kind → Bool
 is_file Plain = true
@@ -32,7 +32,7 @@ is_file Exec = true
 is_file Link = false
 
 -- the bytes of a file; a link in its place counts as missing
-abbrev pub text_of : Option Thing → Option (List ℕ)
+abbrev pub text_of : Option ObjectValue → Option (List ℕ)
 text_of None = None
 text_of (Some x) = if is_file x.kind then Some x.bytes else None
 

@@ -4,7 +4,7 @@ use Rattle.pkg_state.specs.declared.class.Class.TheVariants.{Bdepend, Depend, Id
 use Rattle.dep_atom.specs.Ids.{id_text}
 use Rattle.dep_atom.specs.declared.package.PackageId.{PackageId}
 use Rattle.file_tree.specs.Disk.{Map}
-use Rattle.vdb_text.specs.Files.{record_path}
+use Rattle.vdb_text.specs.Files.{package_file_path}
 use Rattle.database_law.specs.Database.{folder}
 use Rattle.database_law.specs.Fields.{Field, contents, eapi, flags, known, needs, required, slots, text_of, name_of}
 use Rattle.record_read.specs.Texts.{Texts, folder_texts}
@@ -46,8 +46,8 @@ all_read r t are = λ i k. each r t are k i
 pub same_text_of : (m n : Map) (text : List ℕ) (k : Field) (x : Option (List ℕ)) → n ≡ m → x ≡ texts_at n text k → x ≡ texts_at m text k
 same_text_of m n text k x same e = e ∙ ap (λ (y : Map). texts_at y text k) same
 
-one_path : (id : PackageId) (text : List ℕ) (k : Field) → text ≡ id_text id → file_path text k ≡ record_path id (name_of k)
-unfolding record_path
+one_path : (id : PackageId) (text : List ℕ) (k : Field) → text ≡ id_text id → file_path text k ≡ package_file_path id (name_of k)
+unfolding package_file_path
 one_path id text k e = ap (λ (t : List ℕ). file_path t k) e
 
 -- the files in the folder of a package's text are those of the package's folder

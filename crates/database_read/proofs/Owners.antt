@@ -5,8 +5,8 @@ use Rattle.std.proofs.lemmas.List.{append_cancel_left}
 use Rattle.dep_atom.specs.Ids.{IsId, id_text, name_and_version}
 use Rattle.dep_atom.specs.declared.package.PackageId.{PackageId}
 use Rattle.dep_atom.proofs.Cuts.{cut_once}
-use Rattle.vdb_text.specs.Files.{record_path}
-use Rattle.vdb_text.proofs.Packages.{record_path-parts}
+use Rattle.vdb_text.specs.Files.{package_file_path}
+use Rattle.vdb_text.proofs.Packages.{package_file_path-parts}
 use Rattle.database_law.specs.Database.{IsCounted, IsOf}
 use Rattle.database_law.proofs.Places.{category_counts, lacks_from, version_counts}
 use Rattle.database_read.specs.Folders.{folder_text}
@@ -20,24 +20,24 @@ one_folder q c d =
     (one.0, two.0)
 
 -- each path of a package's folder is in one that counts
-abbrev pub counted_in : (id : PackageId) (name : List ℕ) → IsId id → IsCounted (record_path id name)
+abbrev pub counted_in : (id : PackageId) (name : List ℕ) → IsId id → IsCounted (package_file_path id name)
 counted_in id name is = record {
   category = id.name.category;
   pf = name_and_version id;
   name = name;
-  is = record_path-parts id name;
+  is = package_file_path-parts id name;
   category-counts = category_counts id is;
   pf-counts = version_counts id is;
 }
 
 -- and that is the package's own
-pub own_folder : (q : List ℕ) (c : IsCounted q) (id : PackageId) (name : List ℕ) → IsId id → q ≡ record_path id name → folder_text c.category c.pf ≡ id_text id
+pub own_folder : (q : List ℕ) (c : IsCounted q) (id : PackageId) (name : List ℕ) → IsId id → q ≡ package_file_path id name → folder_text c.category c.pf ≡ id_text id
 own_folder q c id name is e =
-    let at : (x : IsCounted (record_path id name)) → folder_text x.category x.pf ≡ id_text id =
-    λ x. (let one = one_folder (record_path id name) x (counted_in id name is) in ap (λ (t : List ℕ). folder_text t x.pf) one.0 ∙ ap (λ (t : List ℕ). folder_text id.name.category t) one.1) in
+    let at : (x : IsCounted (package_file_path id name)) → folder_text x.category x.pf ≡ id_text id =
+    λ x. (let one = one_folder (package_file_path id name) x (counted_in id name is) in ap (λ (t : List ℕ). folder_text t x.pf) one.0 ∙ ap (λ (t : List ℕ). folder_text id.name.category t) one.1) in
     subst (λ (p : List ℕ). (x : IsCounted p) → folder_text x.category x.pf ≡ id_text id) (sym e) at c
 
 -- a path in the folder of a package's text is in the package's folder
 pub in_folder : (q : List ℕ) (c : IsCounted q) (id : PackageId) → folder_text c.category c.pf ≡ id_text id → IsOf id q
-unfolding record_path
+unfolding package_file_path
 in_folder q c id e = (c.name, c.is ∙ ap (λ (t : List ℕ). codes "var/db/pkg/" ++ t) (sym (append_assoc c.category (47 ∷ c.pf) (47 ∷ c.name)) ∙ ap (λ (t : List ℕ). t ++ (47 ∷ c.name)) e))

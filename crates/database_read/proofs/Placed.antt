@@ -7,7 +7,7 @@ use Rattle.basics.proofs.Each.{all_has}
 use Rattle.dep_atom.specs.Ids.{IsId, id_text}
 use Rattle.dep_atom.specs.declared.package.PackageId.{PackageId}
 use Rattle.file_tree.specs.Paths.{is_path}
-use Rattle.vdb_text.specs.Files.{record_path}
+use Rattle.vdb_text.specs.Files.{package_file_path}
 use Rattle.vdb_text.proofs.Placed.{record_is_path}
 use Rattle.database_law.specs.Database.{IsCounted}
 use Rattle.database_law.specs.Fields.{Field, name_of}
@@ -17,7 +17,7 @@ use Rattle.database_read.specs.Telling.{AreAtPaths, HasFilePaths, file_path, fol
 use Rattle.file_tree.proofs.Fronts.{front_is_path}
 
 at_path : (id : PackageId) → IsId id → (k : Field) → is_path (file_path (id_text id) k) ≡ true
-unfolding record_path
+unfolding package_file_path
 at_path id is k = record_is_path id (name_of k) is (name_is_file_name k)
 
 pub file_paths : (id : PackageId) (text : List ℕ) → IsId id → text ≡ id_text id → HasFilePaths text

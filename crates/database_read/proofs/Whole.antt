@@ -7,7 +7,7 @@ use Rattle.basics.proofs.Texts.{less_one_way, not_less}
 use Rattle.basics.proofs.Sorted.{same_sorted}
 use Rattle.pms_names.specs.Flags.{IsRising}
 use Rattle.file_tree.specs.Disk.{Map}
-use Rattle.vdb_text.specs.Files.{record_path}
+use Rattle.vdb_text.specs.Files.{package_file_path}
 use Rattle.database_law.specs.Database.{IsDatabase, folder, folder_name}
 use Rattle.database_law.specs.Packages.{Installed, id_of}
 use Rattle.database_law.proofs.Places.{mark, says_mark}
@@ -54,7 +54,7 @@ module _ (m : Map) (texts : List (List ℕ)) (are : AreFolders m texts) where
         let o = has-map_back folder_name ps t has in
         let p = o.0 in
         (are.members t).1 (record {
-          path = record_path (id_of p) mark;
+          path = package_file_path (id_of p) mark;
           there = says_mark (folder m (id_of p)) p (db.says p o.1);
           counted = counted_in (id_of p) mark (db.ids p o.1);
           is = sym o.2;

@@ -2,7 +2,7 @@
 use Rattle.std.proofs.Common.{◌≡◌, ℕ, suc, ◌+◌, ◌<◌, List, ◌∷◌, ◌++◌, length, get_or, take, drop, sym, ◌∙◌, ap, subst, arith, length-append, add-one}
 use Rattle.std.proofs.Math.Seq.{drop-append_seam, drop-cons}
 use Rattle.std.proofs.lemmas.List.{take-append-drop, drop-drop, get_or-drop}
-use Rattle.version_text.specs.Grammar.{IsVersionText, Parts}
+use Rattle.version_text.specs.Grammar.{IsVersionText, VersionValue}
 use Rattle.dep_atom.specs.declared.package.PackageId.{PackageId}
 use Rattle.dep_atom.specs.Ids.{PartsAt}
 
@@ -27,9 +27,9 @@ ComesApart = (p q v w : List ℕ) → IsVersionText v → IsVersionText w → p 
 pub parts_are : ComesApart → (bytes : List ℕ) (at : ℕ) (p v : List ℕ) → PartsAt bytes at → IsVersionText v → bytes ≡ p ++ (45 ∷ v) → (take at bytes ≡ p) × (drop (at + 1) bytes ≡ v)
 parts_are apart bytes at p v parts is e = apart (take at bytes) p (drop (at + 1) bytes) v parts.version is (sym (cut_at bytes at parts.within parts.hyphen) ∙ e)
 
-pub id_same : (category name : List ℕ) (version : Parts) (id : PackageId) → category ≡ id.name.category → name ≡ id.name.«package» → version ≡ id.version → ◌≡◌ {A = PackageId} (record { name = record { category = category; «package» = name }; version = version }) id
+pub id_same : (category name : List ℕ) (version : VersionValue) (id : PackageId) → category ≡ id.name.category → name ≡ id.name.«package» → version ≡ id.version → ◌≡◌ {A = PackageId} (record { name = record { category = category; «package» = name }; version = version }) id
 id_same category name version id ec en ev =
     let one : ◌≡◌ {A = PackageId} (record { name = record { category = category; «package» = name }; version = version }) (record { name = record { category = id.name.category; «package» = name }; version = version }) = ap (λ (x : List ℕ). let r : PackageId = record { name = record { category = x; «package» = name }; version = version } in r) ec in
     let two : ◌≡◌ {A = PackageId} (record { name = record { category = id.name.category; «package» = name }; version = version }) (record { name = record { category = id.name.category; «package» = id.name.«package» }; version = version }) = ap (λ (x : List ℕ). let r : PackageId = record { name = record { category = id.name.category; «package» = x }; version = version } in r) en in
-    let three : ◌≡◌ {A = PackageId} (record { name = record { category = id.name.category; «package» = id.name.«package» }; version = version }) id = ap (λ (x : Parts). let r : PackageId = record { name = id.name; version = x } in r) ev in
+    let three : ◌≡◌ {A = PackageId} (record { name = record { category = id.name.category; «package» = id.name.«package» }; version = version }) id = ap (λ (x : VersionValue). let r : PackageId = record { name = id.name; version = x } in r) ev in
     one ∙ two ∙ three

@@ -4,7 +4,7 @@ use Rattle.std.specs.List.{flat_map}
 use Rattle.std.proofs.Math.Seq.{take-append_seam, drop-append_seam}
 use Rattle.std.proofs.lemmas.List.{drop-drop, get_or-drop}
 use Rattle.basics.specs.Bytes.{is_digit}
-use Rattle.version_text.specs.Grammar.{IsInteger, IsVersionText, Parts, spell_number, spell_ending, spelling}
+use Rattle.version_text.specs.Grammar.{IsInteger, IsVersionText, VersionValue, spell_number, spell_ending, spelling}
 use Rattle.version_text.proofs.Unique.{cut_once as apart, spelled_once}
 use Rattle.pms_version.specs.Limits.{IsReadable}
 use Rattle.pms_names.specs.Names.{IsName}
@@ -100,7 +100,7 @@ pub then_seam : (P : List ℕ → Type 0) (text : List ℕ) → ((t : List ℕ) 
 then_seam P text on t = parts_at_seam t.0 t.1 text (on t.1 t.3) t.4
 
 -- what a readable version and the text before its hyphen make together comes apart in one way
-pub joined_once : (p q : List ℕ) (v w : Parts) → IsReadable v → IsReadable w → p ++ (45 ∷ spelling v) ≡ q ++ (45 ∷ spelling w) → (p ≡ q) × (v ≡ w)
+pub joined_once : (p q : List ℕ) (v w : VersionValue) → IsReadable v → IsReadable w → p ++ (45 ∷ spelling v) ≡ q ++ (45 ∷ spelling w) → (p ≡ q) × (v ≡ w)
 joined_once p q v w f g e =
     let once = apart p q (spelling v) (spelling w) (v, f.version, refl) (w, g.version, refl) e in
     (once.0, spelled_once v w f.version g.version once.1)

@@ -1,7 +1,7 @@
 -- What is spelled comes apart in one way.
 use Rattle.std.proofs.Common.{◌≡◌, ◌∙◌, ℕ, Bool, true, false, List, [], ◌∷◌, ◌++◌, Option, Some, None, ◌==◌, length, get_or, refl, sym, ap, arith, append_assoc, append-nil}
 use Rattle.std.proofs.lemmas.Bool.Decides.{nat_tests}
-use Rattle.version_text.specs.Grammar.{Parts, spelling}
+use Rattle.version_text.specs.Grammar.{VersionValue, spelling}
 use Rattle.pms_version.specs.Limits.{IsReadable}
 use Rattle.pms_names.specs.declared.kind.Kind.TheVariants as kinds
 use Rattle.pms_names.specs.Bytes.{begins_badly}
@@ -34,7 +34,7 @@ pub name_lacks : (x y : ℕ) (n : Name) → is_plain x ≡ false → is_plain y 
 name_lacks x y n p q slash is =
     lacks-append x y n.category (47 ∷ n.«package») (lacks_plain x y n.category p q (plain_name kinds.Category n.category is.category)) (rw slash (lacks_plain x y n.«package» p q (plain_name kinds.Package n.«package» is.«package»)))
 
-readable_some : (o : Option Parts) → IsReadableOption o → (v : Parts) × (o ≡ Some v) × IsReadable v
+readable_some : (o : Option VersionValue) → IsReadableOption o → (v : VersionValue) × (o ≡ Some v) × IsReadable v
 readable_some None h = absurd h
 readable_some (Some v) h = (v, refl, h)
 
@@ -46,10 +46,10 @@ equals_end : (b : Bool) → equals_text b ≡ end_text 61 b
 equals_end true = refl
 equals_end false = refl
 
-pub version_once : (text front : List ℕ) (p : Bool) (name : Name) (version : Option Parts) (star : Bool) → IsNameForm name → IsReadableOption version → text ≡ front ++ end_text 42 p → (p ≡ false → (f : List ℕ) → text ≡ f ++ (42 ∷ []) → ⊥) → text ≡ name_text name ++ (version_part version ++ star_text star) → (v : Parts) × (version ≡ Some v) × IsReadable v × (front ≡ name_text name ++ (45 ∷ spelling v)) × (p ≡ star)
+pub version_once : (text front : List ℕ) (p : Bool) (name : Name) (version : Option VersionValue) (star : Bool) → IsNameForm name → IsReadableOption version → text ≡ front ++ end_text 42 p → (p ≡ false → (f : List ℕ) → text ≡ f ++ (42 ∷ []) → ⊥) → text ≡ name_text name ++ (version_part version ++ star_text star) → (v : VersionValue) × (version ≡ Some v) × IsReadable v × (front ≡ name_text name ++ (45 ∷ spelling v)) × (p ≡ star)
 version_once text front p name version star named readable e none k =
     let some = readable_some version readable in
-    let v : Parts = some.0 in
+    let v : VersionValue = some.0 in
     let whole : text ≡ (name_text name ++ (45 ∷ spelling v)) ++ end_text 42 star = k ∙ ap (λ o. name_text name ++ (version_part o ++ star_text star)) some.1 ∙ sym (append_assoc (name_text name) (45 ∷ spelling v) (star_text star)) ∙ ap (λ s. (name_text name ++ (45 ∷ spelling v)) ++ s) (star_end star) in
     let lacks : Lacks 42 42 (name_text name ++ (45 ∷ spelling v)) = lacks-append 42 42 (name_text name) (45 ∷ spelling v) (name_lacks 42 42 name refl refl refl named) (lacks_plain 42 42 (spelling v) refl refl (plain_version v some.2.version)) in
     let once = ends_once 42 text front (name_text name ++ (45 ∷ spelling v)) p star e none lacks whole in
@@ -184,10 +184,10 @@ use_same flag kind otherwise u a b c =
 pub star_refused : (star may p : Bool) → p ≡ true → may ≡ false → (may ≡ false → star ≡ false) → p ≡ star → ⊥
 star_refused star may p t f none e = let s : star ≡ false = none f in cc
 
-pub package_same : (name : Name) (version : Option Parts) (star : Bool) (p : Package) → name ≡ p.name → version ≡ p.version → star ≡ p.star → ◌≡◌ {A = Package} (record { name = name; version = version; star = star }) p
+pub package_same : (name : Name) (version : Option VersionValue) (star : Bool) (p : Package) → name ≡ p.name → version ≡ p.version → star ≡ p.star → ◌≡◌ {A = Package} (record { name = name; version = version; star = star }) p
 package_same name version star p a b c =
     let one : ◌≡◌ {A = Package} (record { name = name; version = version; star = star }) (record { name = p.name; version = version; star = star }) = ap (λ (x : Name). let r : Package = record { name = x; version = version; star = star } in r) a in
-    let two : ◌≡◌ {A = Package} (record { name = p.name; version = version; star = star }) (record { name = p.name; version = p.version; star = star }) = ap (λ (x : Option Parts). let r : Package = record { name = p.name; version = x; star = star } in r) b in
+    let two : ◌≡◌ {A = Package} (record { name = p.name; version = version; star = star }) (record { name = p.name; version = p.version; star = star }) = ap (λ (x : Option VersionValue). let r : Package = record { name = p.name; version = x; star = star } in r) b in
     let three : ◌≡◌ {A = Package} (record { name = p.name; version = p.version; star = star }) p = ap (λ (x : Bool). let r : Package = record { name = p.name; version = p.version; star = x } in r) c in
     one ∙ two ∙ three
 

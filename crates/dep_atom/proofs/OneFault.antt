@@ -2,7 +2,7 @@
 use Rattle.std.proofs.Common.{◌≡◌, ◌∙◌, ◌⊎◌, ℕ, ◌+◌, inl, inr, Bool, true, false, List, [], ◌∷◌, ◌++◌, Option, Some, None, length, get_or, refl, sym, ap, subst, arith, append-nil}
 use Rattle.std.specs.List.{AllByRecursion}
 use Rattle.std.proofs.lemmas.List.{append_cancel_left, append_cancel_right}
-use Rattle.version_text.specs.Grammar.{IsVersionText, Parts, spelling}
+use Rattle.version_text.specs.Grammar.{IsVersionText, VersionValue, spelling}
 use Rattle.pms_version.specs.Limits.{IsReadable}
 use Rattle.pms_names.specs.declared.name.Name.{Name as FullName}
 use Rattle.dep_atom.specs.declared.atom.Op.{Op}
@@ -107,7 +107,7 @@ versioned_once may text a b f g p q =
     let same = unstarred_once text g.front f.front g.star f.star g.unstarred f.unstarred in
     starred_once may f.front f.star a b f.why (subst (λ s. StarredFault may f.front s b) same.1 (subst (λ l. StarredFault may l g.star b) same.0 g.why)) p q
 
-versioned_none : (may : Bool) (text : List ℕ) (a : AtomFault) (n : FullName) (v : Parts) (star : Bool) → IsNameForm n → IsReadable v → (may ≡ false → star ≡ false) → text ≡ name_text n ++ (version_part (Some v) ++ star_text star) → VersionedFault may text a → a ≡ Memory
+versioned_none : (may : Bool) (text : List ℕ) (a : AtomFault) (n : FullName) (v : VersionValue) (star : Bool) → IsNameForm n → IsReadable v → (may ≡ false → star ≡ false) → text ≡ name_text n ++ (version_part (Some v) ++ star_text star) → VersionedFault may text a → a ≡ Memory
 versioned_none may text a n v star named readable starred e f =
     let once = version_once text f.front f.star n (Some v) star named readable (f.unstarred.whole ∙ ap (λ s. f.front ++ s) (star_end f.star)) f.unstarred.none e in
     starred_none may f.front f.star a (n, spelling once.0, named, (once.0, once.2, refl), once.3) (λ no. once.4 ∙ starred no) f.why
@@ -127,7 +127,7 @@ true_is_false e = absurd (cc)
 body_none : (op : Op) (text : List ℕ) (a : AtomFault) → IsBodyText op text → BodyFault op text a → a ≡ Memory
 body_none op text a is f = of op is.1 is.3.versioned is.4 f
   where
-    of : (o : Op) (version : Option Parts) → IsVersionForm o version is.2 → text ≡ name_text is.0 ++ (version_part version ++ star_text is.2) → BodyFault o text a → a ≡ Memory
+    of : (o : Op) (version : Option VersionValue) → IsVersionForm o version is.2 → text ≡ name_text is.0 ++ (version_part version ++ star_text is.2) → BodyFault o text a → a ≡ Memory
     of Any None form e g = plain_none text a (is.0, is.3.named, e ∙ ap (λ s. name_text is.0 ++ star_text s) form ∙ append-nil (name_text is.0)) g
     of Any (Some v) form e g = absurd form
     of Equal None form e g = absurd form

@@ -5,7 +5,7 @@ use Rattle.std.specs.Str.{IsAscii}
 use Rattle.std.proofs.lemmas.Bool.Decides.{nat_tests}
 use Rattle.std.proofs.lemmas.List.Folds.{list_any-append}
 use Rattle.basics.specs.Bytes.{is_digit, is_lower}
-use Rattle.version_text.specs.Grammar.{AreDigits, IsInteger, IsLetter, SuffixKind, SuffixText, Parts, IsVersion, word, spell_number, spell_suffix, spell_revision, spell_ending, spelling}
+use Rattle.version_text.specs.Grammar.{AreDigits, IsInteger, IsLetter, SuffixKind, SuffixValue, VersionValue, IsVersion, word, spell_number, spell_suffix, spell_revision, spell_ending, spelling}
 use Rattle.version_text.specs.Grammar.SuffixKind.{Alpha, Beta, Pre, Rc, P}
 use Rattle.pms_names.specs.declared.kind.Kind.{Kind}
 use Rattle.pms_names.specs.declared.kind.Kind.TheVariants.{Category, Package, Slot, Flag}
@@ -63,7 +63,7 @@ plain_word Pre = (refl, (refl, (refl, tt)))
 plain_word Rc = (refl, (refl, tt))
 plain_word P = (refl, tt)
 
-plain_suffixes : (ss : List SuffixText) → AllByRecursion (λ (s : SuffixText). AreDigits s.digits) ss → ArePlain (flat_map spell_suffix ss)
+plain_suffixes : (ss : List SuffixValue) → AllByRecursion (λ (s : SuffixValue). AreDigits s.digits) ss → ArePlain (flat_map spell_suffix ss)
 plain_suffixes [] h = tt
 plain_suffixes (s ∷ ss) h = plain-append (spell_suffix s) (flat_map spell_suffix ss) (refl, plain-append (word s.kind) s.digits (plain_word s.kind) (plain_digits s.digits h.0)) (plain_suffixes ss h.1)
 
@@ -71,7 +71,7 @@ plain_revision : (r : List ℕ) → AreDigits r → ArePlain (spell_revision r)
 plain_revision [] h = tt
 plain_revision (d ∷ ds) h = (refl, (refl, (plain_digit d h.0, plain_digits ds h.1)))
 
-pub plain_version : (p : Parts) → IsVersion p → ArePlain (spelling p)
+pub plain_version : (p : VersionValue) → IsVersion p → ArePlain (spelling p)
 plain_version p is =
     plain-append p.first (flat_map spell_number p.more ++ (p.letter ++ spell_ending p.suffixes p.revision)) (plain_integer p.first is.first)
     (plain-append (flat_map spell_number p.more) (p.letter ++ spell_ending p.suffixes p.revision) (plain_more p.more is.more)

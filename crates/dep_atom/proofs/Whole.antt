@@ -1,6 +1,6 @@
 -- A whole atom comes apart in one way.
 use Rattle.std.proofs.Common.{◌≡◌, ◌∙◌, ℕ, ◌<◌, Bool, true, false, List, [], ◌∷◌, ◌++◌, Option, Some, None, length, get_or, refl, sym, ap, subst, arith, append_assoc}
-use Rattle.version_text.specs.Grammar.{Parts, spelling}
+use Rattle.version_text.specs.Grammar.{VersionValue, spelling}
 use Rattle.pms_names.specs.declared.kind.Kind.TheVariants as kinds
 use Rattle.pms_names.specs.declared.name.Name.{Name}
 use Rattle.dep_atom.specs.Values.{AtomValue}
@@ -28,7 +28,7 @@ pub name_head : (name : Name) (rest : List ℕ) → IsNameForm name → is_plain
 name_head name rest is =
     rw (append_assoc name.category (47 ∷ name.«package») rest) (head_plain name.category (47 ∷ (name.«package» ++ rest)) is.category.spelled.sized.some (plain_name kinds.Category name.category is.category))
 
-version_lacks : (op : Op) (version : Option Parts) (star : Bool) → IsVersionForm op version star → Lacks 58 91 (version_part version)
+version_lacks : (op : Op) (version : Option VersionValue) (star : Bool) → IsVersionForm op version star → Lacks 58 91 (version_part version)
 version_lacks op None star is = refl
 version_lacks Any (Some v) star is = absurd is
 version_lacks Equal (Some v) star is = lacks_plain 58 91 (spelling v) refl refl (plain_version v is.version)

@@ -1,7 +1,7 @@
 -- Which fault of a text that is no atom comes first, from left to right.
 use Rattle.std.specs.Prelude.{◌≡◌, ℕ, ◌+◌, ◌-◌, ◌<◌, ◌⊎◌, Bool, true, false, List, [], ◌∷◌, ◌++◌, length, slice_index, Option, ⊤}
 use Rattle.std.specs.List.{AllByRecursion}
-use Rattle.version_text.specs.Grammar.{IsVersionText, Parts}
+use Rattle.version_text.specs.Grammar.{IsVersionText, VersionValue}
 use Rattle.pms_names.specs.declared.name.Name.{Name}
 use Rattle.dep_atom.specs.declared.atom.Block.{Block}
 use Rattle.dep_atom.specs.declared.atom.Op.{Op}
@@ -151,7 +151,8 @@ pub record Cut (text : List ℕ) : Type 0 where
 -- the text between the operator and the slot part is in order
 abbrev pub IsBodyText : Op → List ℕ → Type 0
 IsBodyText op text =
-    (name : Name) × (version : Option Parts) × (star : Bool) × IsPackageForm op name version star
+    (name : Name) × (version : Option VersionValue) × (star : Bool) ×
+    IsPackageForm op name version star
     × (text ≡ name_text name ++ (version_part version ++ star_text star))
 
 abbrev pub IsSlotText : List ℕ → Type 0

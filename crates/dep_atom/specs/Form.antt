@@ -1,6 +1,6 @@
 -- Which atoms some text writes.
 use Rattle.std.specs.Prelude.{◌≡◌, ℕ, Bool, false, List, Option, Some, None, ⊤}
-use Rattle.version_text.specs.Grammar.{Parts}
+use Rattle.version_text.specs.Grammar.{VersionValue}
 use Rattle.pms_version.specs.Limits.{IsReadable}
 use Rattle.pms_names.specs.Names.{IsName}
 use Rattle.pms_names.specs.declared.kind.Kind.TheVariants as kinds
@@ -29,7 +29,7 @@ abbrev pub IsUseForm : UseDep → Type 0
 IsUseForm item = IsName kinds.Flag item.flag
 
 -- a version stands exactly behind an operator, and an asterisk behind that of `=` alone
-abbrev pub IsVersionForm : Op → Option Parts → Bool → Type 0
+abbrev pub IsVersionForm : Op → Option VersionValue → Bool → Type 0
 IsVersionForm Any None star = star ≡ false
 IsVersionForm Any (Some version) star = ⊥
 IsVersionForm Equal None star = ⊥
@@ -37,17 +37,17 @@ IsVersionForm Equal (Some version) star = IsReadable version
 IsVersionForm op None star = ⊥
 IsVersionForm op (Some version) star = IsReadable version × (star ≡ false)
 
-pub record IsPackageForm (op : Op) (name : Name) (version : Option Parts)
+pub record IsPackageForm (op : Op) (name : Name) (version : Option VersionValue)
     (star : Bool) : Type 0 where
   pub named : IsNameForm name
   pub versioned : IsVersionForm op version star
 
-abbrev pub IsReadableOption : Option Parts → Type 0
+abbrev pub IsReadableOption : Option VersionValue → Type 0
 IsReadableOption None = ⊥
 IsReadableOption (Some version) = IsReadable version
 
 -- a name and a version, with an asterisk only where it may stand
-pub record IsVersionedForm (may_star : Bool) (name : Name) (version : Option Parts)
+pub record IsVersionedForm (may_star : Bool) (name : Name) (version : Option VersionValue)
     (star : Bool) : Type 0 where
   pub named : IsNameForm name
   pub readable : IsReadableOption version

@@ -2,7 +2,7 @@
 use Rattle.std.specs.Prelude.{ℕ, Bool, true, false, not, ◌&&◌, ◌||◌, List, Option, Some, None, bytes_eq, if◌then◌else◌}
 use Rattle.std.specs.List.{list_all}
 use Rattle.std.specs.Ordering.{is_lt, is_le, is_eq, is_ge, is_gt}
-use Rattle.version_text.specs.Grammar.{Parts}
+use Rattle.version_text.specs.Grammar.{VersionValue}
 use Rattle.pms_version.specs.Order.{version_cmp, without_revision}
 use Rattle.pms_version.specs.Begins.{version_begins}
 use Rattle.pms_names.specs.Flags.{has}
@@ -22,7 +22,7 @@ abbrev pub same_name : Name → Name → Bool
 same_name a b = bytes_eq a.category b.category && bytes_eq a.«package» b.«package»
 
 -- the operator and its version accept the candidate; a star turns `=` into a test of the beginning
-abbrev pub version_fits : Op → Bool → Parts → Parts → Bool
+abbrev pub version_fits : Op → Bool → VersionValue → VersionValue → Bool
 version_fits Any star version candidate = true
 version_fits Less star version candidate = is_lt (version_cmp candidate version)
 version_fits LessEqual star version candidate = is_le (version_cmp candidate version)
@@ -34,7 +34,7 @@ version_fits GreaterEqual star version candidate = is_ge (version_cmp candidate 
 version_fits Greater star version candidate = is_gt (version_cmp candidate version)
 
 -- the same for an atom that may have no version, which then accepts every one
-abbrev pub accepts_version : Op → Bool → Option Parts → Parts → Bool
+abbrev pub accepts_version : Op → Bool → Option VersionValue → VersionValue → Bool
 accepts_version op star None candidate = true
 accepts_version op star (Some version) candidate = version_fits op star version candidate
 

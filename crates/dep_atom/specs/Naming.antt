@@ -1,7 +1,7 @@
 -- The words in which a package's name and version, and their faults, are told.
 use Rattle.std.specs.Prelude.{◌≡◌, ℕ, ◌+◌, ◌<◌, true, List, ◌∷◌, ◌++◌, length, take, drop, slice_index}
 use Rattle.basics.specs.Bytes.{is_digit}
-use Rattle.version_text.specs.Grammar.{Parts, spelling}
+use Rattle.version_text.specs.Grammar.{VersionValue, spelling}
 use Rattle.pms_version.specs.Limits.{IsReadable}
 use Rattle.pms_names.specs.Names.{IsName}
 use Rattle.pms_names.specs.declared.kind.Kind.TheVariants as kinds
@@ -31,15 +31,15 @@ PackageThen P text =
 
 -- the text is a version within the limits
 abbrev pub IsReadableText : List ℕ → Type 0
-IsReadableText text = (p : Parts) × IsReadable p × (text ≡ spelling p)
+IsReadableText text = (p : VersionValue) × IsReadable p × (text ≡ spelling p)
 
 -- the text is this package's name, a hyphen and this version
-abbrev pub IsPackageVersion : List ℕ → List ℕ → Parts → Type 0
+abbrev pub IsPackageVersion : List ℕ → List ℕ → VersionValue → Type 0
 IsPackageVersion text name version =
     IsName kinds.Package name × IsReadable version × (text ≡ name ++ (45 ∷ spelling version))
 
 -- the text is this name, a hyphen and this version
-abbrev pub IsNameVersion : List ℕ → Name → Parts → Type 0
+abbrev pub IsNameVersion : List ℕ → Name → VersionValue → Type 0
 IsNameVersion text name version =
     IsNameForm name × IsReadable version × (text ≡ name_text name ++ (45 ∷ spelling version))
 

@@ -6,7 +6,7 @@ use Rattle.std.proofs.lemmas.Bool.Decides.{nat_tests}
 use Rattle.std.proofs.lemmas.Grind.{common_steps}
 use Rattle.std.proofs.lemmas.List.Folds.{list_any-append}
 use Rattle.std.proofs.lemmas.Slice.Eq.{bytes_eq-Decides}
-use Rattle.version_text.specs.Grammar.{Parts, spelling}
+use Rattle.version_text.specs.Grammar.{VersionValue, spelling}
 use Rattle.pms_names.specs.Names.{IsName}
 use Rattle.pms_names.specs.declared.kind.Kind.TheVariants as kinds
 use Rattle.pms_names.specs.declared.name.Name.{Name}
@@ -78,7 +78,7 @@ op_outer Greater = (refl, tt)
 name_outer : (n : Name) → IsNameForm n → Are is_outer (name_text n)
 name_outer n h = are-append is_outer n.category (47 ∷ n.«package») (outer_plain n.category (plain_name kinds.Category n.category h.category)) (refl, outer_plain n.«package» (plain_name kinds.Package n.«package» h.«package»))
 
-version_outer : (op : Op) (version : Option Parts) (star : Bool) → IsVersionForm op version star → Are is_outer (version_part version)
+version_outer : (op : Op) (version : Option VersionValue) (star : Bool) → IsVersionForm op version star → Are is_outer (version_part version)
 version_outer op None star h = tt
 version_outer Any (Some v) star h = absurd h
 version_outer Equal (Some v) star h = (refl, outer_plain (spelling v) (plain_version v h.version))

@@ -2,7 +2,7 @@
 
 use file_tree::Path;
 use journal::{gate_path, jobs_folder, record_path, stage_path, token_path};
-use merge_record::{Placement, Record, RecordFault, decode, decode_encode, digest_of, encode};
+use merge_record::{DecodeFault, Placement, Record, decode, decode_encode, digest_of, encode};
 use std::alloc::{AllocError, Global};
 use std::io;
 use tree_lines::{
@@ -113,15 +113,15 @@ fn md5_of(text: &str) -> io::Result<[u8; 16]> {
     }
 }
 
-fn told(alloc: Global, read: Result<Record, RecordFault>) -> Result<String, AllocError> {
+fn told(alloc: Global, read: Result<Record, DecodeFault>) -> Result<String, AllocError> {
     match read {
         Ok(record) => told_record(alloc, &record),
-        Err(RecordFault::Short) => String::from_str(alloc, "short"),
-        Err(RecordFault::Tag { at }) => format!(in alloc; "tag {at}"),
-        Err(RecordFault::Path { at }) => format!(in alloc; "path {at}"),
-        Err(RecordFault::Trailing) => String::from_str(alloc, "trailing"),
-        Err(RecordFault::Limit) => String::from_str(alloc, "limit"),
-        Err(RecordFault::Memory) => Err(AllocError),
+        Err(DecodeFault::Short) => String::from_str(alloc, "short"),
+        Err(DecodeFault::Tag { at }) => format!(in alloc; "tag {at}"),
+        Err(DecodeFault::Path { at }) => format!(in alloc; "path {at}"),
+        Err(DecodeFault::Trailing) => String::from_str(alloc, "trailing"),
+        Err(DecodeFault::Limit) => String::from_str(alloc, "limit"),
+        Err(DecodeFault::Memory) => Err(AllocError),
     }
 }
 

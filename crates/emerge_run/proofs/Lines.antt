@@ -1,5 +1,5 @@
 -- What a run writes, from its groups' lines to its last line.
-use Rattle.std.proofs.Common.{◌≡◌, ℕ, Bool, List, [], ◌∷◌, ◌++◌, inl, inr, refl, ap, sym, ◌∙◌, subst, append_assoc, append-nil, length, take}
+use Rattle.std.proofs.Common.{◌≡◌, ◌≤◌, ℕ, Bool, List, [], ◌∷◌, ◌++◌, inl, inr, refl, ap, sym, ◌∙◌, subst, append_assoc, append-nil, length, take}
 use Rattle.file_tree.specs.Disk.{Map, Rose}
 use Rattle.group_run.specs.Lines.{AreLines, Wrote}
 use Rattle.plan_law.specs.Plans.{Group}
@@ -82,26 +82,28 @@ module _ (failed : Type 0) (words : List (List ℕ)) (tells : Bool) (opening : M
   said_memory history acknowledged came text (silent none undone is) = silent none (λ of. of) is
 
 -- what was said and then the last line
-module _ (words : List (List ℕ)) (tells : Bool) (opening : Map) (before between now : ℕ) where
+module _ (words : List (List ℕ)) (tells : Bool) (opening : Map) (before between now : ℕ) (from : before ≤ between) (up : between ≤ now) where
   pub wrote_all : (IsAnswer : Status → Type 0) (history acknowledged : List ℕ) (came s : Status) (old mid new : List ℕ) → IsAnswer came → IsAnswer status.Memory
       → Wrote (IsSaid (Rose before between) words tells opening history acknowledged came) old mid → Wrote (IsEnd (Rose between now) came s) mid new
       → Wrote (IsOutput before now words tells opening IsAnswer history acknowledged s) old new
-  wrote_all IsAnswer history acknowledged came s old mid new answer memory (lines, said, first) (last, inl ends, second) = (
+  wrote_all IsAnswer history acknowledged came s old mid new answer memory (lines, said, begun) (last, inl ends, second) = (
     lines ++ last,
-    record { lines = lines; came = came; between = between; said = said; answer = answer; last = last; ends = ends; whole = refl },
-    second ∙ (ap (λ (x : List ℕ). x ++ last) first ∙ append_assoc old lines last),
+    record { lines = lines; came = came; between = between; first = from; rest = up; said = said; answer = answer; last = last; ends = ends; whole = refl },
+    second ∙ (ap (λ (x : List ℕ). x ++ last) begun ∙ append_assoc old lines last),
   )
-  wrote_all IsAnswer history acknowledged came s old mid new answer memory (lines, said, first) (last, inr ends, second) = (
+  wrote_all IsAnswer history acknowledged came s old mid new answer memory (lines, said, begun) (last, inr ends, second) = (
     lines ++ last,
     record {
       lines = lines;
       came = status.Memory;
       between = between;
+      first = from;
+      rest = up;
       said = said_memory (Rose before between) words tells opening history acknowledged came lines said;
       answer = memory;
       last = last;
       ends = ends;
       whole = refl;
     },
-    second ∙ (ap (λ (x : List ℕ). x ++ last) first ∙ append_assoc old lines last),
+    second ∙ (ap (λ (x : List ℕ). x ++ last) begun ∙ append_assoc old lines last),
   )

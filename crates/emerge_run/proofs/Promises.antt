@@ -2,7 +2,7 @@
 use Rattle.std.proofs.Common.{◌≡◌, ◌⊎◌, ◌∙◌, ◌≤◌, ◌+◌, ℕ, true, false, List, [], Option, None, Some, Result, Ok, Err, IsTrue, MatchOption, ap, arith, inl, inr, length, map, refl, subst, sym}
 use Rattle.std.specs.Prelude.{IfSome, String, Vec, string_bytes}
 use Rattle.std.specs.Global.{Global}
-use Rattle.build_pool.specs.Pool.{Kept, PoolRose}
+use Rattle.build_pool.specs.Pool.{PoolValue, PoolRose}
 use Rattle.build_pool.specs.declared.builders.Builder.{Ghosts as Builder}
 use Rattle.dep_atom.specs.declared.package.PackageId.{PackageId}
 use Rattle.emerge_words.specs.declared.request.WordFault.{WordFault}
@@ -13,7 +13,7 @@ use Rattle.file_tree.specs.declared.limits.Quantity.TheVariants.{Paths}
 use Rattle.file_tree.specs.declared.traits.Sink.{Ghosts as Sink}
 use Rattle.file_tree.specs.declared.traits.Tree.{Ghosts as Tree}
 use Rattle.database_law.specs.Packages.{Installed}
-use Rattle.merge_core.specs.Keeping.{Keeping}
+use Rattle.merge_core.specs.CoreValue.{CoreValue}
 use Rattle.group_run.specs.Applied.{number}
 use Rattle.group_run.specs.Lines.{Wrote}
 use Rattle.group_run.specs.Went.{HaveRun}
@@ -73,13 +73,13 @@ counts_before : (P : Type 0) (a b d : ℕ) → a ≤ b → CountsFault P b d →
 counts_before P a b d le counts = let later = counts.later in record { later = omega (arith, le, later); rose = λ p. rose_earlier a b d le (counts.rose p) }
 
 -- a machine with this history has it as its order
-machine_order : (N : Type 0) (gs history : List ℕ) (n : ℕ) (o : Option Keeping) → MatchOption o N (HaveRun gs n history) → MatchOption o N (λ k. history ≡ map number k.order)
+machine_order : (N : Type 0) (gs history : List ℕ) (n : ℕ) (o : Option CoreValue) → MatchOption o N (HaveRun gs n history) → MatchOption o N (λ k. history ≡ map number k.order)
 machine_order N gs history n None none = none
 machine_order N gs history n (Some k) run = run.order
 
 -- ---- the merge of a task, from that of its plan
 
-module _ {T S B : Type 0} (trees : Tree T) (sinks : Sink S) (builders : Builder B) (opening : Vec Installed Global) (plan : List Group) (task : Task) (tree : T) (out : S) (pool new : Kept B) where
+module _ {T S B : Type 0} (trees : Tree T) (sinks : Sink S) (builders : Builder B) (opening : Vec Installed Global) (plan : List Group) (task : Task) (tree : T) (out : S) (pool new : PoolValue B) where
   pub merges_task : IsTask trees.tells (trees.story tree).now.holds opening.items plan task.jobs.items task.book → (r : Merged T S) (s : Status) → IsStatusOf (ids_with opening.items plan) (length plan) r.end s
       → MergesPlan trees sinks builders opening.items plan task tree out pool new r
       → MergesTask trees sinks builders opening.items plan task tree out pool
@@ -249,7 +249,7 @@ module _ {T : Type 0} (trees : Tree T) (words : List (List ℕ)) (old : T) where
 
 -- ---- a command, from its parts
 
-module _ {T S B : Type 0} (trees : Tree T) (sinks : Sink S) (builders : Builder B) (words : List (List ℕ)) (tree : T) (out : S) (pool : Kept B) where
+module _ {T S B : Type 0} (trees : Tree T) (sinks : Sink S) (builders : Builder B) (words : List (List ℕ)) (tree : T) (out : S) (pool : PoolValue B) where
   abbrev old : Story
   old = trees.story tree
 
@@ -260,7 +260,7 @@ module _ {T S B : Type 0} (trees : Tree T) (sinks : Sink S) (builders : Builder 
   Image = IsBuilt builders.tells builders.told pool.resting
 
   -- a command that merges its plan
-  pub runs_merging : (mid : T) (opening : Vec Installed Global) (plan : List Group) (task : Task) (run : Ended T S (Kept B)) → ChoosesWork trees words tree mid (as_seen opening (Ok (work.Merge plan task)))
+  pub runs_merging : (mid : T) (opening : Vec Installed Global) (plan : List Group) (task : Task) (run : Ended T S (PoolValue B)) → ChoosesWork trees words tree mid (as_seen opening (Ok (work.Merge plan task)))
       → MergesTask trees sinks builders opening.items plan task mid out pool run → RunsCommand trees sinks builders false words tree out pool run
   runs_merging mid opening plan task run chooses merges =
       let a = merges.answer in
@@ -307,7 +307,7 @@ module _ {T S B : Type 0} (trees : Tree T) (sinks : Sink S) (builders : Builder 
 
   -- a command that merges nothing
   module _ (mid : T) (said : S) (opening : Vec Installed Global) (plan : Option (List Group)) (history acknowledged : Vec ℕ Global) (s : Status) (none : history.items ≡ []) (untold : acknowledged.items ≡ []) where
-    abbrev idle : Ended T S (Kept B)
+    abbrev idle : Ended T S (PoolValue B)
     idle = record { status = s; tree = mid; out = said; pool = pool; opening = opening; plan = plan; machine = None; history = history; acknowledged = acknowledged }
 
     runs_idle : (IsTrue trees.tells → Comes words Image old (trees.story mid) history.items s) → ((n : ℕ) → s ≡ status.Ok n → n ≡ 0) → ((f : WordFault) → s ≡ status.Usage f → IsUsage words f)
@@ -358,7 +358,7 @@ module _ {T S B : Type 0} (trees : Tree T) (sinks : Sink S) (builders : Builder 
         (λ t. plan_beside words old (trees.story mid) opening.items w plan (chooses.tree t) (chooses.answer.found t) is_plan) (λ of. is_there (λ p. p ≡ plan_in w) plan is_plan)
 
   -- a command that shows its plan
-  pub runs_showing : (mid : T) (said : S) (opening : Vec Installed Global) (text : String Global) (plan : List Group) (s : Status) (run : Ended T S (Kept B)) (none : run.history.items ≡ []) (untold : run.acknowledged.items ≡ [])
+  pub runs_showing : (mid : T) (said : S) (opening : Vec Installed Global) (text : String Global) (plan : List Group) (s : Status) (run : Ended T S (PoolValue B)) (none : run.history.items ≡ []) (untold : run.acknowledged.items ≡ [])
       → run ≡ idle mid said opening (Some plan) run.history run.acknowledged s none untold → ChoosesWork trees words tree mid (as_seen opening (Ok (work.Show text plan))) → (s ≡ status.Ok 0) ⊎ (s ≡ status.OutputFault)
       → CountsFault (s ≡ status.OutputFault) (sinks.faults out) (sinks.faults said) → (IsTrue sinks.tells → Wrote (IsCut (Rose (sinks.faults out) (sinks.faults said)) (string_bytes text) s) (sinks.written out) (sinks.written said)) → RunsCommand trees sinks builders false words tree out pool run
   runs_showing mid said opening text plan s run none untold is chooses ends output written =
@@ -369,7 +369,7 @@ module _ {T S B : Type 0} (trees : Tree T) (sinks : Sink S) (builders : Builder 
       (λ t. wrote_showing _ words trees.tells before (string_bytes text) history.items told.items s (sinks.written out) (sinks.written said) chooses.answer.work none (written t)))
 
   -- one whose plan has no group
-  pub runs_empty : (mid : T) (opening : Vec Installed Global) (plan : List Group) (run : Ended T S (Kept B)) (none : run.history.items ≡ []) (untold : run.acknowledged.items ≡ [])
+  pub runs_empty : (mid : T) (opening : Vec Installed Global) (plan : List Group) (run : Ended T S (PoolValue B)) (none : run.history.items ≡ []) (untold : run.acknowledged.items ≡ [])
       → run ≡ idle mid out opening (Some plan) run.history run.acknowledged (status.Ok 0) none untold → ChoosesWork trees words tree mid (as_seen opening (Ok (work.Rest plan))) → RunsCommand trees sinks builders false words tree out pool run
   runs_empty mid opening plan run none untold is chooses =
       let history = run.history in
@@ -379,7 +379,7 @@ module _ {T S B : Type 0} (trees : Tree T) (sinks : Sink S) (builders : Builder 
       (λ t. wrote_resting _ words trees.tells before plan history.items told.items (status.Ok 0) (sinks.written out) (sinks.written out) chooses.answer.work none untold refl))
 
   -- a command that finds no plan
-  pub runs_unfound : (mid : T) (opening : Vec Installed Global) (s : Status) (run : Ended T S (Kept B)) (none : run.history.items ≡ []) (untold : run.acknowledged.items ≡ [])
+  pub runs_unfound : (mid : T) (opening : Vec Installed Global) (s : Status) (run : Ended T S (PoolValue B)) (none : run.history.items ≡ []) (untold : run.acknowledged.items ≡ [])
       → run ≡ idle mid out opening None run.history run.acknowledged s none untold → ChoosesWork trees words tree mid (as_seen opening (Err s)) → RunsCommand trees sinks builders false words tree out pool run
   runs_unfound mid opening s run none untold is chooses =
       let history = run.history in
@@ -394,7 +394,7 @@ module _ {T S B : Type 0} (trees : Tree T) (sinks : Sink S) (builders : Builder 
       chooses.back.opening chooses.back.unread (λ t. tt) (λ of. absurd (early_no_plan s early of)))
 
   -- the last line of a command
-  module _ (run : Ended T S (Kept B)) (s : Status) (said : S) (ends : (s ≡ run.status) ⊎ ((s ≡ status.Memory) ⊎ ((s ≡ status.OutputFault) × Rose (sinks.faults run.out) (sinks.faults said)))) where
+  module _ (run : Ended T S (PoolValue B)) (s : Status) (said : S) (ends : (s ≡ run.status) ⊎ ((s ≡ status.Memory) ⊎ ((s ≡ status.OutputFault) × Rose (sinks.faults run.out) (sinks.faults said)))) where
     keeps : (P : Status → Type 0) → P run.status → P status.Memory → P status.OutputFault → P s
     keeps P came memory output = elim ends [ inl same ↦ subst P (sym same) came | inr (inl no_memory) ↦ subst P (sym no_memory) memory | inr (inr (failed, rose)) ↦ subst P (sym failed) output ]
 
@@ -443,7 +443,7 @@ module _ {T S B : Type 0} (trees : Tree T) (sinks : Sink S) (builders : Builder 
                 unchanged = keeps (λ x. IsOfWords x → new ≡ old) o.unchanged (λ of. absurd of) (λ of. absurd of);
                 journal = keeps (KeepsJournal old new) o.journal tt tt;
               };
-          written = λ t. wrote_all words trees.tells before (sinks.faults out) (sinks.faults run.out) (sinks.faults said) (λ x. IsTrue trees.tells → Asks words before Image history x) history told run.status s (sinks.written out) (sinks.written run.out) (sinks.written said)
+          written = λ t. wrote_all words trees.tells before (sinks.faults out) (sinks.faults run.out) (sinks.faults said) a.output.later le (λ x. IsTrue trees.tells → Asks words before Image history x) history told run.status s (sinks.written out) (sinks.written run.out) (sinks.written said)
               a.asked (λ u. tt) (runs.written t) (line t);
           back = record {
             begun = b.begun;

@@ -1,6 +1,6 @@
 -- What a command promises of all that it gives back, from its words on, whatever it answers.
 use Rattle.std.specs.Prelude.{◌≡◌, ◌⊎◌, ℕ, Bool, true, List, [], IfSome, IsTrue, MatchOption, None, length, map}
-use Rattle.build_pool.specs.Pool.{Kept, PoolRose, SameIds}
+use Rattle.build_pool.specs.Pool.{PoolValue, PoolRose, SameIds}
 use Rattle.build_pool.specs.declared.builders.Builder.{Ghosts as Builder}
 use Rattle.dep_atom.specs.declared.package.PackageId.{PackageId}
 use Rattle.emerge_words.specs.declared.request.WordFault.{WordFault}
@@ -22,8 +22,8 @@ use Rattle.run_status.specs.declared.status.Status.TheVariants as status
 -- A command, by these words: what its run was lent, and what it gives back, once its last line is
 -- written or before that.
 module _ {T S B : Type 0} (trees : Tree T) (sinks : Sink S) (builders : Builder B) (last : Bool)
-    (words : List (List ℕ)) (start : T) (out : S) (pool : Kept B)
-    (run : Ended T S (Kept B)) where
+    (words : List (List ℕ)) (start : T) (out : S) (pool : PoolValue B)
+    (run : Ended T S (PoolValue B)) where
   -- what the tree held as it was handed in
   abbrev before : Map
   before = (trees.story start).now.holds

@@ -1,6 +1,6 @@
 -- What the merge of the plan that a run has found promises, whatever it answers.
 use Rattle.std.specs.Prelude.{◌≡◌, ℕ, List, [], IsTrue, MatchOption, None, length, map}
-use Rattle.build_pool.specs.Pool.{Kept, PoolRose, SameIds}
+use Rattle.build_pool.specs.Pool.{PoolValue, PoolRose, SameIds}
 use Rattle.build_pool.specs.declared.builders.Builder.{Ghosts as Builder}
 use Rattle.dep_atom.specs.declared.package.PackageId.{PackageId}
 use Rattle.file_tree.specs.Disk.{CountsFault, Rose}
@@ -23,7 +23,7 @@ use Rattle.run_status.specs.declared.status.Status.TheVariants as status
 -- the merge took these, and gave back these
 module _ {T S B : Type 0} (trees : Tree T) (sinks : Sink S) (builders : Builder B)
     (installed : List Installed) (groups : List Group) (task : Task) (start : T) (out : S)
-    (pool : Kept B) (run : Ended T S (Kept B)) where
+    (pool : PoolValue B) (run : Ended T S (PoolValue B)) where
   abbrev Image : Images
   Image = IsBuilt builders.tells builders.told pool.resting
 

@@ -1,5 +1,5 @@
 -- What a run writes: the lines of its groups, or the plan that it shows, and its last line.
-use Rattle.std.specs.Prelude.{◌≡◌, ◌⊎◌, ℕ, Bool, true, false, List, [], ◌++◌}
+use Rattle.std.specs.Prelude.{◌≡◌, ◌⊎◌, ◌≤◌, ℕ, Bool, true, false, List, [], ◌++◌}
 use Rattle.file_tree.specs.Disk.{Map, Rose}
 use Rattle.group_run.specs.Lines.{AreLines, IsBeginning}
 use Rattle.plan_law.specs.Plans.{Group}
@@ -41,13 +41,16 @@ pub data IsSaid (failed : Type 0) (words : List (List ℕ)) (tells : Bool) (open
       IsSaid failed words tells opening history acknowledged came text
 
 -- what a run with these answers wrote, while the faults of its output were counted from one number
--- to another: what it had to say, and then the last line of one of the answers
+-- to another: what it had to say, with the faults up to some number between, and then the last line
+-- of one of the answers, with the others
 pub record IsOutput (before now : ℕ) (words : List (List ℕ)) (tells : Bool) (opening : Map)
     (IsAnswer : Status → Type 0) (history acknowledged : List ℕ) (s : Status) (text : List ℕ) :
     Type 0 where
   pub lines : List ℕ
   pub came : Status
   pub between : ℕ
+  pub first : before ≤ between
+  pub rest : between ≤ now
   pub said : IsSaid (Rose before between) words tells opening history acknowledged came lines
   pub answer : IsAnswer came
   pub last : List ℕ

@@ -1,6 +1,6 @@
 -- How what a crash may leave goes on from call to call.
 use Rattle.std.proofs.Common.{◌≡◌, ℕ, List, [], ◌∷◌, ◌++◌, Option, ap, sym, ◌∙◌, subst, refl, append_assoc, append-nil, inl, inr}
-use Rattle.file_tree.specs.Thing.{Thing}
+use Rattle.file_tree.specs.ObjectValue.{ObjectValue}
 use Rattle.file_tree.specs.Disk.{Map, Disk, Story, IsImage, Moves, Syncs, next, settled, write}
 use Rattle.file_tree.specs.Moments.{EachLeaves, Leaves, Since}
 
@@ -29,7 +29,7 @@ since_next P old mid d s h = record {
 pub since_same : (P : Map → Type 0) (old mid new : Story) → Since P old mid → new ≡ mid → Since P old new
 since_same P old mid new s e = subst (λ (t : Story). Since P old t) (sym e) s
 
-pub since_moves : (P : Map → Type 0) (old mid new : Story) (p : List ℕ) → Since P old mid → ((x : Option Thing) → Leaves P (write mid.now p x)) → Moves mid p new → Since P old new
+pub since_moves : (P : Map → Type 0) (old mid new : Story) (p : List ℕ) → Since P old mid → ((x : Option ObjectValue) → Leaves P (write mid.now p x)) → Moves mid p new → Since P old new
 since_moves P old mid new p s h (inl e) = since_same P old mid new s e
 since_moves P old mid new p s h (inr (x, e)) = since_same P old (next mid (write mid.now p x)) new (since_next P old mid (write mid.now p x) s (h x)) e
 
@@ -71,7 +71,7 @@ pub runs_same : (Q : Disk → Type 0) (P : Map → Type 0) (old mid new : Story)
 runs_same Q P old mid new r e = subst (λ (t : Story). Runs Q P old t) (sym e) r
 
 pub runs_move : (Q : Disk → Type 0) (P : Map → Type 0) → ((d : Disk) → Q d → Leaves P d) → (old mid new : Story) (p : List ℕ)
-    → ((d : Disk) (x : Option Thing) → Q d → Q (write d p x)) → Runs Q P old mid → Moves mid p new → Runs Q P old new
+    → ((d : Disk) (x : Option ObjectValue) → Q d → Q (write d p x)) → Runs Q P old mid → Moves mid p new → Runs Q P old new
 runs_move Q P leaves old mid new p keep r (inl e) = runs_same Q P old mid new r e
 runs_move Q P leaves old mid new p keep r (inr (x, e)) =
     let q = keep mid.now x r.phase in

@@ -1,6 +1,6 @@
 -- A disk as a tree reads it, what a crash may leave of it, and the story of all its states.
 use Rattle.std.specs.Prelude.{◌≡◌, ◌↔◌, ◌⊎◌, ◌<◌, ◌≤◌, ◌+◌, ◌^◌, ℕ, Bool, true, false, List, [], ◌∷◌, ◌++◌, Option, Some, None, bytes_eq, Contains, IsSome, if◌then◌else◌}
-use Rattle.file_tree.specs.Thing.{Thing}
+use Rattle.file_tree.specs.ObjectValue.{ObjectValue}
 use Rattle.file_tree.specs.Paths.{is_below}
 use Rattle.file_tree.specs.declared.objects.Entry.{Entry}
 use Rattle.file_tree.specs.declared.objects.Look.{Look}
@@ -8,7 +8,7 @@ use Rattle.file_tree.specs.declared.objects.Look.TheVariants.{Nothing, Item, Fol
 
 -- what each path holds
 abbrev pub Map : Type 0
-Map = List ℕ → Option Thing
+Map = List ℕ → Option ObjectValue
 
 -- the map of some files: at each path the first of them that has it
 abbrev pub held_by : List Entry → Map
@@ -17,15 +17,15 @@ held_by (e ∷ es) q = if bytes_eq q e.path then Some e.object else held_by es q
 
 -- what each path reads as, and which paths were changed since the last sync
 pub record Disk : Type 0 where
-  pub holds : List ℕ → Option Thing
+  pub holds : List ℕ → Option ObjectValue
   pub touched : List ℕ → Bool
 
 -- the map with one path holding something else
-abbrev pub with_path : Map → List ℕ → Option Thing → Map
+abbrev pub with_path : Map → List ℕ → Option ObjectValue → Map
 with_path m p x = λ q. if bytes_eq p q then x else m q
 
 -- one path is changed, and touched by that
-abbrev pub write : Disk → List ℕ → Option Thing → Disk
+abbrev pub write : Disk → List ℕ → Option ObjectValue → Disk
 write d p x =
     record {
       holds = with_path d.holds p x;
@@ -45,7 +45,7 @@ abbrev pub IsUntouched : Disk → Type 0
 IsUntouched d = (q : List ℕ) → d.touched q ≡ false
 
 -- a crash now leaves x at the path
-pub record Fixed (d : Disk) (p : List ℕ) (x : Option Thing) : Type 0 where
+pub record Fixed (d : Disk) (p : List ℕ) (x : Option ObjectValue) : Type 0 where
   pub untouched : d.touched p ≡ false
   pub reads : d.holds p ≡ x
 
@@ -60,7 +60,7 @@ next s d = record { past = s.past ++ s.now ∷ []; now = d }
 -- a call that was asked to change a path, whatever it answered: the path holds anything and is
 -- touched, or nothing came of the call
 abbrev pub Moves : Story → List ℕ → Story → Type 0
-Moves old p new = (new ≡ old) ⊎ ((x : Option Thing) × (new ≡ next old (write old.now p x)))
+Moves old p new = (new ≡ old) ⊎ ((x : Option ObjectValue) × (new ≡ next old (write old.now p x)))
 
 -- a sync, whatever it answered
 abbrev pub Syncs : Story → Story → Type 0
@@ -71,7 +71,7 @@ abbrev pub new_story : Map → Story
 new_story m = record { past = []; now = record { holds = m; touched = λ _. false } }
 
 -- the story once the path was made to hold x
-abbrev pub with_write : Story → List ℕ → Option Thing → Story
+abbrev pub with_write : Story → List ℕ → Option ObjectValue → Story
 with_write s p x = next s (write s.now p x)
 
 -- the story once a failed call touched the path, which holds what it held
@@ -93,7 +93,7 @@ HasBelow m p = (q : List ℕ) × (is_below p q ≡ true) × IsSome (m q)
 -- what a look at a path answers
 abbrev pub Looks : Map → List ℕ → Look → Type 0
 Looks m p Nothing = (m p ≡ None) × (¬ HasBelow m p)
-Looks m p (Item kind) = (x : Thing) × (m p ≡ Some x) × (x.kind ≡ kind)
+Looks m p (Item kind) = (x : ObjectValue) × (m p ≡ Some x) × (x.kind ≡ kind)
 Looks m p Folder = (m p ≡ None) × HasBelow m p
 
 -- a count of faults rose; one that stands at the end of its type counts as risen

@@ -1,5 +1,5 @@
 pub mod Disk
 pub mod Faults
 pub mod Moments
+pub mod ObjectValue
 pub mod Paths
-pub mod Thing

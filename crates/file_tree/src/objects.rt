@@ -20,9 +20,9 @@ pub struct Object {
 }
 
 impl Model for Object {
-    ghost use Rattle.file_tree.specs.Thing.{Thing};
+    ghost use Rattle.file_tree.specs.ObjectValue.{ObjectValue};
 
-    ghost Value = { Thing };
+    ghost Value = { ObjectValue };
 
     ghost view = { λ o. record { kind = o.kind; bytes = o.bytes.items } };
 }

@@ -18,9 +18,9 @@ use Rattle.owner_book.specs.declared.wish.Wish.{Wish}
 use Rattle.merge_record.specs.Spelling.{PassesLimit}
 use Rattle.merge_record.specs.declared.record.Placement.{Placement}
 use Rattle.merge_core.specs.Event.{put_content}
-use Rattle.merge_core.specs.Keeping.{machine_of}
+use Rattle.merge_core.specs.CoreValue.{machine_of}
 use Rattle.merge_site.specs.Booking.{wish_for, wishes_at, with_wish}
-use Rattle.merge_site.specs.Site.{Account, IsOpened}
+use Rattle.merge_site.specs.Site.{SiteValue, IsOpened}
 use Rattle.merge_site.specs.Staging.{IsStageFault, placement_of}
 use Rattle.merge_site.specs.declared.fault.SiteFault.{SiteFault}
 use Rattle.merge_site.specs.declared.fault.SiteFault.TheVariants as sites
@@ -45,7 +45,7 @@ err_weaker P Q so (Ok a) h = tt
 err_weaker P Q so (Err e) h = so e h
 
 -- a record that the site refused passes a limit
-pub record_stops : {T S : Type 0} (f : SiteFault) (a : Account T S) (c : Changes) (g : ℕ) (removals : List (List ℕ)) → removals ≡ c.removals → HasStaged c.files (standing_at a g)
+pub record_stops : {T S : Type 0} (f : SiteFault) (a : SiteValue T S) (c : Changes) (g : ℕ) (removals : List (List ℕ)) → removals ≡ c.removals → HasStaged c.files (standing_at a g)
     → (f ≡ sites.Limit → PassesLimit (put_content (machine_of a.keeping) g removals)) → StopsRecord g c (stop_of_site f)
 record_stops (sites.Tree of) a c g removals is has limit = tt
 record_stops sites.Limit a c g removals is has limit =
@@ -84,7 +84,7 @@ front_push all done e front lt at =
     ∙ ap (λ x. take (length done) all ++ x ∷ []) (sym at)
     ∙ ap (λ xs. xs ++ e ∷ []) (sym front))
 
-pub stage_stops : {T S : Type 0} (f : StageFault) (a : Account T S) (g : ℕ) (before all done : List Entry) (e : Entry) → HasStaged (before ++ done) (standing_at a g) → AreGood done → done ≡ take (length done) all → length done < length all
+pub stage_stops : {T S : Type 0} (f : StageFault) (a : SiteValue T S) (g : ℕ) (before all done : List Entry) (e : Entry) → HasStaged (before ++ done) (standing_at a g) → AreGood done → done ≡ take (length done) all → length done < length all
     → e ≡ get_or all (length done) e → IsStageFault a.keeping g e f → StopsStages before all (stop_of_stage f)
 stage_stops (stages.Tree of) a g before all done e has good front lt at h = tt
 stage_stops (stages.Image bad) a g before all done e has good front lt at h =
@@ -158,7 +158,7 @@ wished_on ws next g k folder before done e lt is here =
 -- ---- the whole run
 
 -- a site that was just opened has the tree, the book and the groups that it was given
-pub opened_as : {T S : Type 0} (a : Account T S) (t : T) (k : Book) (groups : List SiteGroup) (P : T → Book → List SiteGroup → Type 0) → IsOpened a k groups → a.tree ≡ t → P a.tree a.opened_book a.groups → P t k groups
+pub opened_as : {T S : Type 0} (a : SiteValue T S) (t : T) (k : Book) (groups : List SiteGroup) (P : T → Book → List SiteGroup → Type 0) → IsOpened a k groups → a.tree ≡ t → P a.tree a.opened_book a.groups → P t k groups
 opened_as a t k groups P opened is h =
     subst (λ x. P x k groups) is (subst (λ (x : Book). P a.tree x groups) opened.opened_book (subst (λ (l : List SiteGroup). P a.tree a.opened_book l) opened.brings h))
 

@@ -10,10 +10,10 @@ use Rattle.journal.specs.Group.{Group, applied, with_groups}
 use Rattle.merge_core.specs.Trail.{IsAtRest}
 use Rattle.journal.specs.Names.{gate_path}
 use Rattle.journal.specs.Names.Part.{Gate}
-use Rattle.journal.specs.Recovered.{IsRecovered}
 use Rattle.merge_core.proofs.Paths.{file_below}
 use Rattle.recovery.proofs.Shut.{shut_leaves}
 use Rattle.recovery.specs.Phases.{IsShut, cleared}
+use Rattle.recovery.specs.Promise.{RecoversTo}
 use Rattle.group_run.specs.Applied.{AreOf, RecoversWith, number}
 use Rattle.group_run.specs.Went.{DroveWith, Went, WentWith}
 use Rattle.group_run.specs.declared.stop.Stop.{Stop}
@@ -28,12 +28,12 @@ device_or_not (Err (stops.Image b)) = inr (λ e. cc e)
 device_or_not (Err (stops.Claim s)) = inr (λ e. cc e)
 device_or_not (Err stops.Limit) = inr (λ e. cc e)
 
-recovers_of : (Run : List Group → Type 0) (m : Map) (groups : List Group) (among history : List ℕ) (c : Map) → Run groups → map number groups ≡ history → ((n : ℕ) → Has among n → Has history n) → IsRecovered c (applied m groups) → RecoversWith Run m among c
+recovers_of : (Run : List Group → Type 0) (m : Map) (groups : List Group) (among history : List ℕ) (c : Map) → Run groups → map number groups ≡ history → ((n : ℕ) → Has among n → Has history n) → RecoversTo c (applied m groups) → RecoversWith Run m among c
 recovers_of Run m groups among history c of are within is = record { groups = groups; of = of; has = λ n there. subst (λ (l : List ℕ). Has l n) (sym are) (within n there); is = is }
 
 pub went : {A : Type 0} (Run : List Group → Type 0) (old mid new : Story) (history : List ℕ) (end end' : Result A Stop) → DroveWith Run old mid history end
     → (IsErrOf end (stops.Tree trees.Failed) → new ≡ mid) → (IsErrOf end (stops.Tree trees.Failed) → IsErrOf end' (stops.Tree trees.Failed))
-    → ((IsErrOf end (stops.Tree trees.Failed) → ⊥) → (m : Map) → IsShut m mid.now → Since (λ c. IsRecovered c (cleared m)) mid new)
+    → ((IsErrOf end (stops.Tree trees.Failed) → ⊥) → (m : Map) → IsShut m mid.now → Since (λ c. RecoversTo c (cleared m)) mid new)
     → ((IsErrOf end' (stops.Tree trees.Failed) → ⊥) → (IsErrOf end' (stops.Tree trees.Memory) → ⊥) → (m : Map) → IsShut m mid.now → (q : List ℕ) → new.now.holds q ≡ cleared m q)
     → ((IsErrOf end' (stops.Tree trees.Failed) → ⊥) → (IsErrOf end' (stops.Tree trees.Memory) → ⊥) → IsUntouched new.now)
     → WentWith Run old new history end'
@@ -49,7 +49,7 @@ went Run old mid new history end end' d same stays clears reads settled = elim (
       let since = clears healthy (λ q. with_groups k.0 q (old.now.holds q)) k.2.1 in
       record {
         moments = since_then (RecoversWith Run old.now.holds []) old mid new d.moments
-            (since_weaker (λ c. IsRecovered c (applied old.now.holds k.0)) (RecoversWith Run old.now.holds []) (λ c is. recovers_of Run old.now.holds k.0 [] history c k.1 k.2.0 (λ n none. absurd none) is) mid new since);
+            (since_weaker (λ c. RecoversTo c (applied old.now.holds k.0)) (RecoversWith Run old.now.holds []) (λ c is. recovers_of Run old.now.holds k.0 [] history c k.1 k.2.0 (λ n none. absurd none) is) mid new since);
         crash = λ c image. recovers_of Run old.now.holds k.0 history history c k.1 k.2.0 (λ n there. there) (since.now c image);
         left = λ well. record { groups = k.0; of = k.1; are = k.2.0; each = since.now };
         tree = λ well fed. record { groups = k.0; of = k.1; are = k.2.0; reads = reads well fed (λ q. with_groups k.0 q (old.now.holds q)) k.2.1; untouched = settled well fed };
@@ -71,7 +71,7 @@ nowhere Run old new history end of rest same none is =
     record {
       moments = since_same (RecoversWith Run old.now.holds []) old old new (since_start (RecoversWith Run old.now.holds []) old (stands [] (λ n there. absurd there))) same;
       crash = subst (λ (s : Story). Leaves (RecoversWith Run old.now.holds history) s.now) (sym same) (stands history (λ n there. there));
-      left = λ well. record { groups = []; of = of; are = sym none; each = subst (λ (s : Story). Leaves (λ c. IsRecovered c (applied old.now.holds [])) s.now) (sym same) each };
+      left = λ well. record { groups = []; of = of; are = sym none; each = subst (λ (s : Story). Leaves (λ c. RecoversTo c (applied old.now.holds [])) s.now) (sym same) each };
       tree = λ well fed. absurd (fed is);
     }
 

@@ -15,7 +15,7 @@ use Rattle.journal.specs.Judging.{is_in}
 use Rattle.journal.specs.Names.{jobs}
 use Rattle.merge_record.specs.declared.record.OwnerKey.{OwnerKey}
 use Rattle.journal.specs.Group.{Group, applied, with_group, with_groups}
-use Rattle.owner_book.specs.Book.{Book, HasOwnersOf, HasSettled, Parts, key_in, owner_in, settled_owner}
+use Rattle.owner_book.specs.Book.{Book, HasOwnersOf, HasSettled, ClaimValue, key_in, owner_in, settled_owner}
 use Rattle.owner_book.specs.declared.wish.Wish.{Wish}
 use Rattle.merge_site.specs.declared.group.SiteGroup.{SiteGroup}
 use Rattle.group_run.specs.Applied.{number}
@@ -157,7 +157,7 @@ left_owned rs owned q =
     lookup-filter-keys (bytes_eq q) (λ k. not (is_in rs k)) (not (is_in rs q)) (λ k same. ap (λ p. not (is_in rs p)) (sym ((bytes_eq-Decides q k).0 same))) owned
     ∙ unless (is_in rs q) (lookup (bytes_eq q) owned)
 
-abbrev pub parts_in : Changes → Parts
+abbrev pub parts_in : Changes → ClaimValue
 parts_in c = record { placed = c.wishes; removed = c.removals }
 
 pub settled_has : (b : Book) (c : Changes) → HasSettled b (settled c b) (parts_in c)

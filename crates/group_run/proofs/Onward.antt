@@ -8,7 +8,7 @@ use Rattle.owner_book.specs.Book.{HasSettled}
 use Rattle.merge_core.specs.Payloads.{IsAt}
 use Rattle.merge_core.specs.Phase.{was_opened}
 use Rattle.merge_core.specs.declared.phase.Phase.TheVariants as phases
-use Rattle.merge_site.specs.Site.{Account}
+use Rattle.merge_site.specs.Site.{SiteValue}
 use Rattle.file_tree.specs.declared.fault.TreeFault.TheVariants as trees
 use Rattle.journal.specs.Group.{Group}
 use Rattle.group_run.specs.Applied.{RecoversWith, number}
@@ -23,7 +23,7 @@ use Rattle.group_run.specs.declared.turn.Turn.{Turn}
 use Rattle.group_run.proofs.Left.{beginning_of, begins_longer, first_more, first_numbers, has_longer, has_take, numbers_then, one_longer, parts_in, plain_behind, stops_longer, told_then}
 use Rattle.group_run.proofs.Through.{cause_on, ended_now, ended_on, history_now, recovers_weaker, rest_behind, through_on}
 
-module _ {T S : Type 0} (tells : Bool) (opening : Map) (ts : List Turn) (t : Turn) (a b : Account T S) (old told new newly : List ℕ)
+module _ {T S : Type 0} (tells : Bool) (opening : Map) (ts : List Turn) (t : Turn) (a b : SiteValue T S) (old told new newly : List ℕ)
     (under : IsUnderWay tells opening ts old told a) (fresh : IsNew ts t) (works : Works t.group a b)
     (let_in : IsTrue tells → was_opened (standing_at b t.group).phase ≡ true → IsAdmitted (stood_at opening a) a.book a.groups (changes_of t) t.group (group_in b t.group)) where
   pub next_merged : {A : Type 0} (r : Result A Stop) → OnOk r (IsAt b.keeping t.group phases.Told) → OnOk r (group_in b t.group ≡ group_for t) → OnOk r (HasSettled a.book b.book (parts_in (changes_of t)))
@@ -55,7 +55,7 @@ module _ {T S : Type 0} (tells : Bool) (opening : Map) (ts : List Turn) (t : Tur
 
 -- ---- a run that ends between two turns
 
-pub over_now : {T S : Type 0} (tells : Bool) (opening : Map) (ts : List Turn) (history acknowledged : List ℕ) (a : Account T S) (end : Result (Unit {0}) Stop)
+pub over_now : {T S : Type 0} (tells : Bool) (opening : Map) (ts : List Turn) (history acknowledged : List ℕ) (a : SiteValue T S) (end : Result (Unit {0}) Stop)
     → IsUnderWay tells opening ts history acknowledged a → IfErr end (λ s. IsOfGroup s → ⊥) → IsOver tells opening ts history acknowledged end a
 over_now tells opening ts history acknowledged a end under plain = record {
   ended = ended_now tells opening ts a under.through end;
@@ -87,7 +87,7 @@ over_now tells opening ts history acknowledged a end under plain = record {
 
 -- ---- a run that was stopped, with more turns behind
 
-module _ {T S : Type 0} (tells : Bool) (opening : Map) (ts us : List Turn) (a : Account T S) where
+module _ {T S : Type 0} (tells : Bool) (opening : Map) (ts us : List Turn) (a : SiteValue T S) where
   first_longer : (xs : List Group) → AreFirst opening a.opened_book a.groups ts xs → AreFirst opening a.opened_book a.groups (ts ++ us) xs
   first_longer xs h = first_more opening a.opened_book a.groups ts us xs h
 

@@ -2,14 +2,14 @@
 use Rattle.std.proofs.Common.{◌≡◌, ℕ, true, Option, Some, None, Result, Ok, Err, refl, ap}
 use Rattle.std.specs.Prelude.{IfErr, IsErrOf, OnOk}
 use Rattle.file_tree.specs.Disk.{Disk, Map}
-use Rattle.file_tree.specs.Thing.{Thing}
+use Rattle.file_tree.specs.ObjectValue.{ObjectValue}
 use Rattle.journal.specs.Names.{gate_path}
 use Rattle.merge_core.specs.Order.{IsInOrder}
 use Rattle.merge_core.specs.Phase.{Phase, Idle, Building, Recorded, Marked, Sealed, Claimed, GatePut, Open, Placed, GateTaken, Done, Told, Abandoned, Redo, Redone, Odd, Emptied, gate_owed, is_working, may_end}
 use Rattle.merge_core.specs.Roll.{Machine, phase_at, stood}
 use Rattle.merge_core.specs.Payloads.{IsAt}
 use Rattle.merge_core.specs.declared.phase.Phase.TheVariants as phases
-use Rattle.merge_site.specs.Site.{Account}
+use Rattle.merge_site.specs.Site.{SiteValue}
 use Rattle.merge_core.proofs.Words.{gate_kept, tree_kept}
 use Rattle.recovery.specs.Phases.{IsShut}
 use Rattle.file_tree.specs.declared.fault.TreeFault.TheVariants as trees
@@ -17,7 +17,7 @@ use Rattle.group_run.specs.Working.{is_shut, standing_at}
 use Rattle.group_run.specs.declared.stop.Stop.{Stop}
 use Rattle.group_run.specs.declared.stop.Stop.TheVariants as stops
 
-shut_owed : (found : Option Thing) (p : Phase) → is_shut p ≡ true → gate_owed found p ≡ Some None
+pub shut_owed : (found : Option ObjectValue) (p : Phase) → is_shut p ≡ true → gate_owed found p ≡ Some None
 shut_owed found Idle e = refl
 shut_owed found Building e = refl
 shut_owed found Recorded e = refl
@@ -86,6 +86,6 @@ ok_if (Ok a) p = p
 ok_if (Err e) p = tt
 
 -- a group that is done has its gate shut, where nothing but the device could fail
-pub done_shut : {A T S : Type 0} (r : Result A Stop) (a : Account T S) (g : ℕ) → (IsErrOf r (stops.Tree trees.Failed) → ⊥) → IfErr r (λ e. e ≡ stops.Tree trees.Failed) → OnOk r (IsAt a.keeping g phases.Done) → is_shut (standing_at a g).phase ≡ true
+pub done_shut : {A T S : Type 0} (r : Result A Stop) (a : SiteValue T S) (g : ℕ) → (IsErrOf r (stops.Tree trees.Failed) → ⊥) → IfErr r (λ e. e ≡ stops.Tree trees.Failed) → OnOk r (IsAt a.keeping g phases.Done) → is_shut (standing_at a g).phase ≡ true
 done_shut (Ok x) a g healthy only at = ap is_shut at.phase
 done_shut (Err e) a g healthy only at = absurd (healthy (ap Err only))

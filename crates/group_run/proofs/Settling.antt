@@ -3,16 +3,16 @@ use Rattle.std.proofs.Common.{◌≡◌, ◌⊎◌, ◌++◌, ◌∙◌, ℕ, Bo
 use Rattle.std.specs.List.{AllByRecursion}
 use Rattle.basics.specs.Members.{Has}
 use Rattle.merge_record.specs.declared.record.OwnerKey.{OwnerKey}
-use Rattle.owner_book.specs.Book.{Book, HasOwnersOf, HasSettled, Parts, owner_in, settled_owner}
+use Rattle.owner_book.specs.Book.{Book, HasOwnersOf, HasSettled, ClaimValue, owner_in, settled_owner}
 use Rattle.owner_book.specs.declared.wish.Wish.{Wish}
 use Rattle.merge_core.specs.Event.{Abandon, Acknowledge, Begin, Claim, CloseGate, Event, OpenGate, PlacePath, PutRecord, PutStage, PutToken, RemovePath, SyncClosed, SyncGate, SyncPlaced, SyncSealed, answered}
-use Rattle.merge_core.specs.Keeping.{machine_of}
+use Rattle.merge_core.specs.CoreValue.{machine_of}
 use Rattle.merge_core.specs.Phase.{Phase, Idle, Building, Recorded, Marked, Sealed, Claimed, GatePut, Open, Placed, GateTaken, Done, Told, Abandoned, Redo, Redone, Odd, Emptied, may_end}
 use Rattle.merge_core.specs.Roll.{Machine, Standing, phase_at}
 use Rattle.merge_core.specs.Trail.{Entry, machine_after}
 use Rattle.merge_core.proofs.Standings.{set_here}
 use Rattle.merge_site.specs.Booking.{IsBooked, done_by, groups_of, is_over, parts_of, settled_by, wishes_at}
-use Rattle.merge_site.specs.Site.{Account}
+use Rattle.merge_site.specs.Site.{SiteValue}
 use Rattle.group_run.specs.Working.{AreInTurn, IsInTurn, Works, group_of_event, standing_at}
 
 -- what some events of a group made done: nothing, or the group, which wasn't done before
@@ -89,28 +89,28 @@ groups_then f [] fs = refl
 groups_then f (e ∷ es) fs = ap (λ (l : List ℕ). f e.0 e.1 ++ l) (groups_then f es fs) ∙ sym (append_assoc (f e.0 e.1) (groups_of f es) (groups_of f fs))
 
 -- what a stretch of a group made done
-over_works : {T S : Type 0} (g : ℕ) (a b : Account T S) (works : Works g a b) → Over g (machine_of a.keeping) (machine_of b.keeping) (groups_of done_by works.events)
+over_works : {T S : Type 0} (g : ℕ) (a b : SiteValue T S) (works : Works g a b) → Over g (machine_of a.keeping) (machine_of b.keeping) (groups_of done_by works.events)
 over_works g a b works =
     subst (λ (m : Machine). Over g (machine_of a.keeping) m (groups_of done_by works.events)) works.stretch.leads (over_along g (machine_of a.keeping) works.events works.stretch.mine works.stretch.turns)
 
 -- ---- owners
 
-settled_same : (f h : ℕ → Parts) (gs : List ℕ) (q : List ℕ) (o : Option OwnerKey) → ((g : ℕ) → Has gs g → f g ≡ h g) → settled_by f gs q o ≡ settled_by h gs q o
+settled_same : (f h : ℕ → ClaimValue) (gs : List ℕ) (q : List ℕ) (o : Option OwnerKey) → ((g : ℕ) → Has gs g → f g ≡ h g) → settled_by f gs q o ≡ settled_by h gs q o
 settled_same f h [] q o same = refl
 settled_same f h (g ∷ gs) q o same =
-    ap (λ (p : Parts). settled_by f gs q (settled_owner p q o)) (same g (inl refl)) ∙ settled_same f h gs q (settled_owner (h g) q o) (λ k has. same k (inr has))
+    ap (λ (p : ClaimValue). settled_by f gs q (settled_owner p q o)) (same g (inl refl)) ∙ settled_same f h gs q (settled_owner (h g) q o) (λ k has. same k (inr has))
 
-settled_then : (f : ℕ → Parts) (gs hs : List ℕ) (q : List ℕ) (o : Option OwnerKey) → settled_by f (gs ++ hs) q o ≡ settled_by f hs q (settled_by f gs q o)
+settled_then : (f : ℕ → ClaimValue) (gs hs : List ℕ) (q : List ℕ) (o : Option OwnerKey) → settled_by f (gs ++ hs) q o ≡ settled_by f hs q (settled_by f gs q o)
 settled_then f [] hs q o = refl
 settled_then f (g ∷ gs) hs q o = settled_then f gs hs q (settled_owner (f g) q o)
 
-parts_same : {T S : Type 0} (g h : ℕ) (a b : Account T S) → Works g a b → (h ≡ g → ⊥) → parts_of b.keeping b.wishes h ≡ parts_of a.keeping a.wishes h
+parts_same : {T S : Type 0} (g h : ℕ) (a b : SiteValue T S) → Works g a b → (h ≡ g → ⊥) → parts_of b.keeping b.wishes h ≡ parts_of a.keeping a.wishes h
 parts_same g h a b works ne =
     ap (λ (l : List Wish). record { placed = l; removed = (standing_at b h).removals }) (works.wishes.others h ne)
     ∙ ap (λ (s : Standing). record { placed = wishes_at a.wishes h; removed = s.removals }) (works.others h ne)
 
 -- the owners behind a stretch: those from before, and what is done since is settled over them
-owners_on : {T S : Type 0} (g : ℕ) (a b : Account T S) (works : Works g a b) → IsBooked a.keeping a.events a.wishes a.opened_book a.book → IsBooked b.keeping b.events b.wishes b.opened_book b.book → is_over (standing_at a g).phase ≡ false
+owners_on : {T S : Type 0} (g : ℕ) (a b : SiteValue T S) (works : Works g a b) → IsBooked a.keeping a.events a.wishes a.opened_book a.book → IsBooked b.keeping b.events b.wishes b.opened_book b.book → is_over (standing_at a g).phase ≡ false
     → (q : List ℕ) → owner_in b.book.owned q ≡ settled_by (parts_of b.keeping b.wishes) (groups_of done_by works.events) q (owner_in a.book.owned q)
 owners_on g a b works old new not q =
     let before = groups_of done_by a.events in
@@ -125,20 +125,20 @@ owners_on g a b works old new not q =
     (λ h has. parts_same g h a b works (λ same. cc (ap (λ (n : ℕ). is_over (standing_at a n).phase) same, old.over h has, not)))
     ∙ sym (old.owners q)))))
 
-none_done : {T S : Type 0} (g : ℕ) (a b : Account T S) (works : Works g a b) → is_over (standing_at b g).phase ≡ false → groups_of done_by works.events ≡ []
+none_done : {T S : Type 0} (g : ℕ) (a b : SiteValue T S) (works : Works g a b) → is_over (standing_at b g).phase ≡ false → groups_of done_by works.events ≡ []
 none_done g a b works still = elim (over_works g a b works) [ inl none ↦ none.0 | inr done ↦ absurd (cc (done.2, still)) ]
 
-one_done : {T S : Type 0} (g : ℕ) (a b : Account T S) (works : Works g a b) → is_over (standing_at a g).phase ≡ false → is_over (standing_at b g).phase ≡ true → groups_of done_by works.events ≡ g ∷ []
+one_done : {T S : Type 0} (g : ℕ) (a b : SiteValue T S) (works : Works g a b) → is_over (standing_at a g).phase ≡ false → is_over (standing_at b g).phase ≡ true → groups_of done_by works.events ≡ g ∷ []
 one_done g a b works not done = elim (over_works g a b works) [ inl none ↦ absurd (cc (none.1, not, done)) | inr is ↦ is.0 ]
 
 -- a group that isn't done owns nothing new
-pub owners_same : {T S : Type 0} (g : ℕ) (a b : Account T S) → Works g a b → IsBooked a.keeping a.events a.wishes a.opened_book a.book → IsBooked b.keeping b.events b.wishes b.opened_book b.book
+pub owners_same : {T S : Type 0} (g : ℕ) (a b : SiteValue T S) → Works g a b → IsBooked a.keeping a.events a.wishes a.opened_book a.book → IsBooked b.keeping b.events b.wishes b.opened_book b.book
     → is_over (standing_at a g).phase ≡ false → is_over (standing_at b g).phase ≡ false → HasOwnersOf a.book b.book
 owners_same g a b works old new not still q =
     owners_on g a b works old new not q ∙ ap (λ (l : List ℕ). settled_by (parts_of b.keeping b.wishes) l q (owner_in a.book.owned q)) (none_done g a b works still)
 
 -- one that is done by then has its claim settled
-pub owners_settled : {T S : Type 0} (g : ℕ) (a b : Account T S) (ws : List Wish) (rs : List (List ℕ)) → Works g a b → IsBooked a.keeping a.events a.wishes a.opened_book a.book → IsBooked b.keeping b.events b.wishes b.opened_book b.book
+pub owners_settled : {T S : Type 0} (g : ℕ) (a b : SiteValue T S) (ws : List Wish) (rs : List (List ℕ)) → Works g a b → IsBooked a.keeping a.events a.wishes a.opened_book a.book → IsBooked b.keeping b.events b.wishes b.opened_book b.book
     → is_over (standing_at a g).phase ≡ false → is_over (standing_at b g).phase ≡ true → wishes_at b.wishes g ≡ ws → (standing_at b g).removals ≡ rs → HasSettled a.book b.book (record { placed = ws; removed = rs })
 owners_settled g a b ws rs works old new not done wished gone q =
     owners_on g a b works old new not q

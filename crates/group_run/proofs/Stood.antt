@@ -5,8 +5,8 @@ use Rattle.std.proofs.lemmas.Bool.{cases_eq, cond-false, cond-true}
 use Rattle.basics.specs.Members.{Has}
 use Rattle.basics.proofs.Membership.{has-append_right, has-filter_back}
 use Rattle.file_tree.specs.Disk.{Map}
+use Rattle.journal.specs.Names.{gate_path}
 use Rattle.journal.specs.Open.{IsRising, open_groups}
-use Rattle.journal.specs.Recovered.{IsRecovered}
 use Rattle.journal.proofs.Opened.{open_groups_rise}
 use Rattle.journal.specs.Group.{Group, applied, groups}
 use Rattle.journal.proofs.Forms.{has_groups}
@@ -16,7 +16,12 @@ use Rattle.merge_core.specs.Roll.{Machine, Roll, Standing, RecoversCommitted, co
 use Rattle.merge_core.specs.Trail.{Entry, machine_after}
 use Rattle.merge_core.proofs.Standings.{set_here}
 use Rattle.merge_site.specs.Site.{StoodDuring}
-use Rattle.group_run.specs.Working.{AreInTurn, IsInTurn, group_of_event}
+use Rattle.group_run.specs.Working.{AreInTurn, IsInTurn, group_of_event, is_shut}
+use Rattle.recovery.specs.Found.{HasTooManyGates}
+use Rattle.recovery.specs.Promise.{RecoversTo}
+use Rattle.recovery.proofs.Gates.{gates_within}
+use Rattle.basics.proofs.Tests.{none_is_not_some}
+use Rattle.group_run.proofs.Rest.{shut_owed}
 use Rattle.merge_core.proofs.Images.{settled_opened}
 use Rattle.merge_core.proofs.Stays.{Stays, stays_then}
 use Rattle.group_run.proofs.Went.{begun_stays, stays_along}
@@ -50,9 +55,36 @@ kept_one test g (k ∷ ns) rising only = kept_step test g k ns (test k) refl ris
 
 -- ---- what is committed of a roll
 
--- no gate of another group was opened unless that is settled
+-- no gate of another group stands
 abbrev pub Rests : ℕ → Roll → Type 0
-Rests g r = (h : ℕ) → (h ≡ g → ⊥) → was_opened (phase_at r h) ≡ true → is_settled (phase_at r h) ≡ true
+Rests g r = (h : ℕ) → (h ≡ g → ⊥) → is_shut (phase_at r h) ≡ true
+
+-- a group that was opened and whose gate doesn't stand is settled
+shut_settled : (p : Phase) → is_shut p ≡ true → was_opened p ≡ true → is_settled p ≡ true
+shut_settled Idle e o = absurd (cc o)
+shut_settled Building e o = absurd (cc o)
+shut_settled Recorded e o = absurd (cc o)
+shut_settled Marked e o = absurd (cc o)
+shut_settled Sealed e o = absurd (cc o)
+shut_settled Claimed e o = absurd (cc o)
+shut_settled GatePut e o = absurd (cc e)
+shut_settled Open e o = absurd (cc e)
+shut_settled Placed e o = absurd (cc e)
+shut_settled GateTaken e o = absurd (cc e)
+shut_settled Done e o = refl
+shut_settled Told e o = refl
+shut_settled Abandoned e o = absurd (cc o)
+shut_settled Redo e o = absurd (cc e)
+shut_settled Redone e o = absurd (cc e)
+shut_settled Odd e o = absurd (cc o)
+shut_settled Emptied e o = absurd (cc e)
+
+-- recovery takes what a crash leaves where one gate stands at most
+pub one_gate : (opening : Map) (g : ℕ) (r : Roll) (c : Map) → Rests g r → RecoversCommitted opening r c → HasTooManyGates c → ⊥
+one_gate opening g r c rests stands = gates_within c (g ∷ []) (λ h none. absurd none, tt) (omega arith) (λ h small some. elim (cases_eq h g) [
+  | inl same ↦ inl (sym same)
+  | inr other ↦ absurd (none_is_not_some (c (gate_path h)) (stands.gates h small (shut_owed (opening (gate_path h)) (phase_at r h) (rests h other))) some)
+])
 
 -- the order is this, or the group is settled and has come behind it
 abbrev pub Grew : List Group → ℕ → Roll → Type 0
@@ -77,7 +109,7 @@ others_one : (opening : Map) (g : ℕ) (r : Roll) (c : Map) → Rests g r → Re
 others_one opening g r c rests stands =
     kept_one (λ h. not (is_settled (phase_at r h))) g (open_groups c) (open_groups_rise c) (λ n has. elim (cases_eq n g) [
       | inl same ↦ same
-      | inr other ↦ absurd (cc (rests n other (open_opened opening r c n stands has), open_unsettled r c n has))
+      | inr other ↦ absurd (cc (shut_settled (phase_at r n) (rests n other) (open_opened opening r c n stands has), open_unsettled r c n has))
     ])
 
 -- a crash commits the order from before, or the group behind it
@@ -98,13 +130,13 @@ committed_next opening xs g r c rests grew stands = elim (others_one opening g r
       ])
 ]
 
--- where no gate is open but of settled groups, a crash commits the order
+-- where no gate stands, a crash commits the order
 pub committed_rests : (opening : Map) (r : Roll) (c : Map) → ((g : ℕ) → Rests g r) → RecoversCommitted opening r c → committed r c ≡ r.order
 committed_rests opening r c rests stands = elim (others_one opening 0 r c (rests 0) stands) [
   | inl none ↦ (ap (λ (l : List ℕ). r.order ++ groups (group_at r) l) none ∙ append-nil r.order)
   | inr one ↦
       (let there : Has (others r c) 0 = subst (λ (l : List ℕ). Has l 0) (sym one) (inl refl) in
-      absurd (cc (rests 1 0 (λ e. cc e) (open_opened opening r c 0 stands there), open_unsettled r c 0 there)))
+      absurd (cc (shut_settled (phase_at r 0) (rests 1 0 (λ e. cc e)) (open_opened opening r c 0 stands there), open_unsettled r c 0 there)))
 ]
 
 -- ---- along the events of a group
@@ -190,8 +222,7 @@ grew_answered xs m e true a h = grew_done xs m e a h
 grew_answered xs m e false a h = grew_begun xs m e a h
 
 rests_on : (g : ℕ) (r r' : Roll) → ((h : ℕ) → (h ≡ g → ⊥) → r'.standing h ≡ r.standing h) → Rests g r → Rests g r'
-rests_on g r r' same rests h other opened =
-    ap (λ (s : Standing). is_settled s.phase) (same h other) ∙ rests h other (ap (λ (s : Standing). was_opened s.phase) (sym (same h other)) ∙ opened)
+rests_on g r r' same rests h other = ap (λ (s : Standing). is_shut s.phase) (same h other) ∙ rests h other
 
 -- the group of an event that has come so far
 abbrev Come : List Group → ℕ → Machine → Type 0
@@ -213,9 +244,9 @@ come_along xs g m (e ∷ es) mine turns rests grew =
     let next = come_answered xs g m e.0 e.1 mine.0 turns.0 (rests, grew) in
     come_along xs g (answered m e.0 e.1) es mine.1 turns.1 next.0 next.1
 
--- what recovers to the opening with these groups, or these and one that is open in the end
+-- that of which recovery makes the opening with these groups, or these and one that is open in the end
 abbrev pub RecoversNext : Map → List Group → ℕ → Roll → Map → Type 0
-RecoversNext opening xs g end c = (ys : List Group) × IsNext xs g end ys × IsRecovered c (applied opening ys)
+RecoversNext opening xs g end c = (ys : List Group) × IsNext xs g end ys × RecoversTo c (applied opening ys)
 
 next_stays : (xs : List Group) (g : ℕ) (r end : Roll) (ys : List Group) → Stays r end → IsNext xs g r ys → IsNext xs g end ys
 next_stays xs g r end ys stays (inl before) = inl before
@@ -224,7 +255,7 @@ next_stays xs g r end ys stays (inr behind) =
     inr (k.0, behind.1 ∙ ap (λ (x : Group). xs ++ x ∷ []) (sym k.1))
 
 stands_next : (opening : Map) (xs : List Group) (g : ℕ) (r end : Roll) (c : Map) → Stays r end → Rests g r → Grew xs g r → RecoversCommitted opening r c → RecoversNext opening xs g end c
-stands_next opening xs g r end c stays rests grew stands = (committed r c, next_stays xs g r end (committed r c) stays (committed_next opening xs g r c rests grew stands), stands.recovers)
+stands_next opening xs g r end c stays rests grew stands = (committed r c, next_stays xs g r end (committed r c) stays (committed_next opening xs g r c rests grew stands), (stands.recovers, one_gate opening g r c rests stands))
 
 -- a crash while a group goes its way
 pub during_next : (opening : Map) (xs : List Group) (g : ℕ) (m : Machine) (es : List Entry) (c : Map) → AllByRecursion (λ (e : Entry). group_of_event e.0 ≡ g) es → AreInTurn m es → Rests g m.roll → Grew xs g m.roll → StoodDuring opening m es c

@@ -8,7 +8,7 @@ use Rattle.basics.proofs.Membership.{has-append_cases, has-append_left, has-appe
 use Rattle.file_tree.specs.Disk.{Map}
 use Rattle.journal.specs.Group.{Group, groups, with_groups}
 use Rattle.owner_book.specs.Book.{Book, HasOwnersOf, HasSettled}
-use Rattle.merge_core.specs.Keeping.{machine_of}
+use Rattle.merge_core.specs.CoreValue.{machine_of}
 use Rattle.merge_core.specs.Payloads.{IsAt}
 use Rattle.merge_core.specs.Phase.{Phase, Idle, Told, is_live, is_settled, was_opened}
 use Rattle.merge_core.specs.Roll.{Machine, Roll, Standing, committed, group_at, idle, others, phase_at, resting}
@@ -16,7 +16,7 @@ use Rattle.merge_core.specs.Steps.{IsTaken}
 use Rattle.merge_core.specs.Trail.{Entry}
 use Rattle.merge_core.specs.declared.phase.Phase.TheVariants as phases
 use Rattle.merge_core.specs.declared.step.Step.TheVariants as steps
-use Rattle.merge_site.specs.Site.{Account, StoodDuring}
+use Rattle.merge_site.specs.Site.{SiteValue, StoodDuring}
 use Rattle.merge_site.specs.declared.group.SiteGroup.{SiteGroup}
 use Rattle.file_tree.specs.declared.fault.TreeFault.TheVariants as trees
 use Rattle.group_run.specs.Applied.{RecoversWith, number}
@@ -30,7 +30,7 @@ use Rattle.group_run.specs.declared.stop.Stop.TheVariants as stops
 use Rattle.group_run.specs.declared.turn.Turn.{Turn}
 use Rattle.group_run.proofs.Granted.{may_same, stops_same}
 use Rattle.group_run.proofs.Left.{first_more, groups_push, has_or_not, has_take, left_all, left_outside, let_in_push, numbers_of, numbers_then, of_group_or_not, owners_push, parts_in, plain_behind, stops_behind}
-use Rattle.group_run.proofs.Stood.{Grew, IsNext, Rests, come_along, committed_next, committed_rests, during_next, during_split}
+use Rattle.group_run.proofs.Stood.{Grew, IsNext, Rests, come_along, committed_next, committed_rests, during_next, during_split, one_gate}
 use Rattle.merge_core.proofs.Images.{settled_opened}
 use Rattle.group_run.proofs.Worked.{run_on}
 
@@ -39,7 +39,7 @@ recovers_weaker P Q m among c so h = record { groups = h.groups; of = so h.group
 
 -- ---- a site that is through with some turns
 
-module _ {T S : Type 0} (tells : Bool) (opening : Map) (ts : List Turn) (a : Account T S) (through : IsThrough tells opening ts a) where
+module _ {T S : Type 0} (tells : Bool) (opening : Map) (ts : List Turn) (a : SiteValue T S) (through : IsThrough tells opening ts a) where
   -- each group is told, or rests
   calm : (f : Phase → Bool) (b : Bool) → f Told ≡ b → f Idle ≡ b → (h : ℕ) → f (standing_at a h).phase ≡ b
   calm f b told rest h = elim (has_or_not (numbers ts) h) [
@@ -54,10 +54,7 @@ module _ {T S : Type 0} (tells : Bool) (opening : Map) (ts : List Turn) (a : Acc
   shut_now = calm is_shut true refl refl
 
   pub rests_now : (g : ℕ) → Rests g (machine_of a.keeping).roll
-  rests_now g h other opened = elim (has_or_not (numbers ts) h) [
-    | inl has ↦ ap is_settled (through.told h has)
-    | inr not ↦ absurd (cc (ap (λ (s : Standing). was_opened s.phase) (through.rest h not), opened))
-  ]
+  rests_now g h other = shut_now h
 
   pub taken_now : (g : ℕ) → g < length a.keeping.standings → (Has (numbers ts) g → ⊥) → IsTaken a.keeping g steps.Begin
   taken_now g there new = record { comes = (there, inl through.going); phase = ap (λ (s : Standing). s.phase) (through.rest g new); due = tt }
@@ -81,7 +78,7 @@ module _ {T S : Type 0} (tells : Bool) (opening : Map) (ts : List Turn) (a : Acc
           groups = committed (machine_of a.keeping).roll c;
           of = first_now tl (committed (machine_of a.keeping).roll c) is;
           has = λ n there. subst (λ (l : List Group). Has (map number l) n) (sym is) there;
-          is = stands.recovers;
+          is = (stands.recovers, one_gate opening 0 (machine_of a.keeping).roll c (rests_now 0) stands);
         };
     order = λ tl. first_now tl a.keeping.order refl;
     shut = λ healthy. shut_now;
@@ -89,7 +86,7 @@ module _ {T S : Type 0} (tells : Bool) (opening : Map) (ts : List Turn) (a : Acc
 
 -- ---- one turn more
 
-module _ {T S : Type 0} (tells : Bool) (opening : Map) (ts us : List Turn) (t : Turn) (a b : Account T S) (through : IsThrough tells opening ts a) (new : Has (numbers ts) t.group → ⊥) (works : Works t.group a b)
+module _ {T S : Type 0} (tells : Bool) (opening : Map) (ts us : List Turn) (t : Turn) (a b : SiteValue T S) (through : IsThrough tells opening ts a) (new : Has (numbers ts) t.group → ⊥) (works : Works t.group a b)
     (let_in : IsTrue tells → was_opened (standing_at b t.group).phase ≡ true → IsAdmitted (stood_at opening a) a.book a.groups (changes_of t) t.group (group_in b t.group)) where
   abbrev g : ℕ
   g = t.group
@@ -155,7 +152,7 @@ module _ {T S : Type 0} (tells : Bool) (opening : Map) (ts us : List Turn) (t : 
       of = next_first tl (committed r c) (committed_next opening a.keeping.order g r c come.0 come.1 stands);
       has = λ n there.
           subst (λ (l : List ℕ). Has l n) (sym (map-append number r.order (groups (group_at r) (others r c)))) (has-append_left (map number r.order) (map number (groups (group_at r) (others r c))) n there);
-      is = stands.recovers;
+      is = (stands.recovers, one_gate opening g r c come.0 stands);
     };
     order = order_on;
     shut = λ healthy h. elim (cases_eq h g) [
@@ -194,7 +191,7 @@ module _ {T S : Type 0} (tells : Bool) (opening : Map) (ts us : List Turn) (t : 
   ]
 
 -- the site is through with one turn more
-module _ {T S : Type 0} (tells : Bool) (opening : Map) (ts : List Turn) (t : Turn) (a b : Account T S) (through : IsThrough tells opening ts a) (new : Has (numbers ts) t.group → ⊥) (works : Works t.group a b)
+module _ {T S : Type 0} (tells : Bool) (opening : Map) (ts : List Turn) (t : Turn) (a b : SiteValue T S) (through : IsThrough tells opening ts a) (new : Has (numbers ts) t.group → ⊥) (works : Works t.group a b)
     (let_in : IsTrue tells → was_opened (standing_at b t.group).phase ≡ true → IsAdmitted (stood_at opening a) a.book a.groups (changes_of t) t.group (group_in b t.group))
     (at : IsAt b.keeping t.group phases.Told) (group : group_in b t.group ≡ group_for t) (settled : HasSettled a.book b.book (parts_in (changes_of t))) where
   order_through : b.keeping.order ≡ map group_for (ts ++ t ∷ [])

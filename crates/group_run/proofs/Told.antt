@@ -5,12 +5,12 @@ use Rattle.std.specs.Prelude.{slice_get, ⊤}
 use Rattle.std.proofs.lemmas.Grind.{flat_map-append}
 use Rattle.std.proofs.lemmas.List.{length-append}
 use Rattle.merge_core.specs.Event.{Acknowledge, answered}
-use Rattle.merge_core.specs.Keeping.{machine_of}
+use Rattle.merge_core.specs.CoreValue.{machine_of}
 use Rattle.merge_core.specs.Payloads.{IsAt}
 use Rattle.merge_core.specs.Roll.{Machine, Standing}
 use Rattle.merge_core.specs.declared.phase.Phase.TheVariants as phases
 use Rattle.merge_core.proofs.Standings.{set_here}
-use Rattle.merge_site.specs.Site.{Account, Adds, Writes}
+use Rattle.merge_site.specs.Site.{SiteValue, Adds, Writes}
 use Rattle.merge_site.specs.declared.group.SiteGroup.{SiteGroup}
 use Rattle.group_run.specs.Lines.{AreLines, Wrote, line_in, line_or_none}
 use Rattle.group_run.specs.Working.{is_shut, standing_at}
@@ -32,14 +32,14 @@ part_written xs g ok old new lt writes =
     let p = writes.part k.0 k.1 in
     (p.0, p.1 ∙ ap (λ x. old ++ take p.0 (line_or_none x)) (sym k.1))
 
-pub told_at : {T S : Type 0} (old new : Account T S) (g : ℕ) → IsAt old.keeping g phases.Done → Adds old new (Acknowledge g) true → IsAt new.keeping g phases.Told
+pub told_at : {T S : Type 0} (old new : SiteValue T S) (g : ℕ) → IsAt old.keeping g phases.Done → Adds old new (Acknowledge g) true → IsAt new.keeping g phases.Told
 told_at old new g at adds = at_after old new g (Acknowledge g) phases.Told _ adds at.running refl (set_here (machine_of old.keeping).roll g _) refl
 
 told_answered : (m : Machine) (g : ℕ) (ok : Bool) → is_shut (m.roll.standing g).phase ≡ true → is_shut ((answered m (Acknowledge g) ok).roll.standing g).phase ≡ true
 told_answered m g true shut = ap (λ (s : Standing). is_shut s.phase) (set_here m.roll g _)
 told_answered m g false shut = shut
 
-pub told_shut : {T S : Type 0} (old new : Account T S) (g : ℕ) (ok : Bool) → IsAt old.keeping g phases.Done → Adds old new (Acknowledge g) ok → is_shut (standing_at new g).phase ≡ true
+pub told_shut : {T S : Type 0} (old new : SiteValue T S) (g : ℕ) (ok : Bool) → IsAt old.keeping g phases.Done → Adds old new (Acknowledge g) ok → is_shut (standing_at new g).phase ≡ true
 told_shut old new g ok at adds = ap (λ (m : Machine). is_shut (m.roll.standing g).phase) adds.machine ∙ told_answered (machine_of old.keeping) g ok (ap is_shut at.phase)
 
 -- where nothing was told nothing was written

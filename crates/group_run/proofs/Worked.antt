@@ -2,12 +2,12 @@
 use Rattle.std.proofs.Common.{◌≡◌, ◌<◌, ◌++◌, inl, inr, ℕ, Bool, true, false, List, [], ◌∷◌, refl, sym, ap, subst, ◌∙◌, length, append-nil, append_assoc}
 use Rattle.std.specs.List.{AllByRecursion}
 use Rattle.std.proofs.lemmas.List.{get_or-set_other, length-set}
-use Rattle.file_tree.specs.Thing.{Thing}
+use Rattle.file_tree.specs.ObjectValue.{ObjectValue}
 use Rattle.merge_record.specs.declared.record.Placement.{Placement}
 use Rattle.owner_book.specs.declared.wish.Wish.{Wish}
 use Rattle.merge_core.specs.Core.{standing_in}
 use Rattle.merge_core.specs.Event.{Abandon, Acknowledge, Begin, Claim, CloseGate, Event, OpenGate, PlacePath, PutRecord, PutStage, PutToken, RemovePath, SyncClosed, SyncGate, SyncPlaced, SyncSealed, answered, begun, done}
-use Rattle.merge_core.specs.Keeping.{Keeping, machine_of}
+use Rattle.merge_core.specs.CoreValue.{CoreValue, machine_of}
 use Rattle.merge_core.specs.Steps.{IsDueFor, IsPhaseFor, IsTaken, event_of}
 use Rattle.merge_core.specs.declared.step.Step.{Step}
 use Rattle.merge_core.specs.declared.step.Step.TheVariants as steps
@@ -20,7 +20,7 @@ use Rattle.merge_core.specs.Trail.{Entry, machine_after}
 use Rattle.merge_core.specs.declared.phase.Phase.{Phase}
 use Rattle.merge_core.proofs.Standings.{by_group, set_here}
 use Rattle.merge_site.specs.Booking.{wishes_at, with_wish}
-use Rattle.merge_site.specs.Site.{Account, Adds, KeepsHistory, is_stage}
+use Rattle.merge_site.specs.Site.{SiteValue, Adds, KeepsHistory, is_stage}
 use Rattle.group_run.specs.Working.{AreInTurn, IsInTurn, IsRun, KeepsWishes, Stretch, Works, group_in, group_of_event, is_staged, standing_at}
 
 apart : (r : Roll) (g : ℕ) (s : Standing) (h : ℕ) → (h ≡ g → ⊥) → (set r g s).standing h ≡ r.standing h
@@ -125,7 +125,7 @@ staged_answered m e true a k = staged_done m e a k
 staged_answered m e false a k = staged_begun m e k
 
 -- an event that leaves the wishes as they are
-wishes_kept : {T S : Type 0} (old new : Account T S) (e : Event) (ok : Bool) → Adds old new e ok → IsInTurn (machine_of old.keeping) e → new.wishes ≡ old.wishes → KeepsWishes (group_of_event e) old new
+wishes_kept : {T S : Type 0} (old new : SiteValue T S) (e : Event) (ok : Bool) → Adds old new e ok → IsInTurn (machine_of old.keeping) e → new.wishes ≡ old.wishes → KeepsWishes (group_of_event e) old new
 wishes_kept old new e ok adds admits same = record {
   rows = ap length same;
   others = λ h ne. ap (λ (l : List (List Wish)). wishes_at l h) same;
@@ -133,7 +133,7 @@ wishes_kept old new e ok adds admits same = record {
 }
 
 -- one wish more of a group that is being built
-wishes_more : {T S : Type 0} (old new : Account T S) (g : ℕ) (w : Wish) → is_staged (standing_at old g).phase ≡ false → new.wishes ≡ with_wish old.wishes g w → KeepsWishes g old new
+wishes_more : {T S : Type 0} (old new : SiteValue T S) (g : ℕ) (w : Wish) → is_staged (standing_at old g).phase ≡ false → new.wishes ≡ with_wish old.wishes g w → KeepsWishes g old new
 wishes_more old new g w none is = record {
   rows = ap length is ∙ length-set old.wishes g (wishes_at old.wishes g ++ w ∷ []);
   others = λ h ne. ap (λ (l : List (List Wish)). wishes_at l h) is ∙ get_or-set_other old.wishes g h (wishes_at old.wishes g ++ w ∷ []) [] ne;
@@ -141,7 +141,7 @@ wishes_more old new g w none is = record {
 }
 
 -- an event of a group is a stretch of it
-stretched : {T S : Type 0} (old new : Account T S) (e : Event) (ok : Bool) → Adds old new e ok → IsInTurn (machine_of old.keeping) e → KeepsWishes (group_of_event e) old new → Works (group_of_event e) old new
+stretched : {T S : Type 0} (old new : SiteValue T S) (e : Event) (ok : Bool) → Adds old new e ok → IsInTurn (machine_of old.keeping) e → KeepsWishes (group_of_event e) old new → Works (group_of_event e) old new
 stretched old new e ok adds admits wishes = record {
   events = (e, ok) ∷ [];
   adds = adds.events;
@@ -154,25 +154,25 @@ stretched old new e ok adds admits wishes = record {
   opened = adds.opened;
 }
 
-pub worked : {T S : Type 0} (old new : Account T S) (e : Event) (ok : Bool) → Adds old new e ok → IsInTurn (machine_of old.keeping) e → is_stage e ≡ false → Works (group_of_event e) old new
+pub worked : {T S : Type 0} (old new : SiteValue T S) (e : Event) (ok : Bool) → Adds old new e ok → IsInTurn (machine_of old.keeping) e → is_stage e ≡ false → Works (group_of_event e) old new
 worked old new e ok adds admits other = stretched old new e ok adds admits (wishes_kept old new e ok adds admits (adds.wishes other))
 
 -- .. and so is a stage, with the wish that comes with it
-pub worked_stage : {T S : Type 0} (old new : Account T S) (g : ℕ) (p : Placement) (o : Thing) (w : Wish) → Adds old new (PutStage g p o) true → IsInTurn (machine_of old.keeping) (PutStage g p o) → new.wishes ≡ with_wish old.wishes g w
+pub worked_stage : {T S : Type 0} (old new : SiteValue T S) (g : ℕ) (p : Placement) (o : ObjectValue) (w : Wish) → Adds old new (PutStage g p o) true → IsInTurn (machine_of old.keeping) (PutStage g p o) → new.wishes ≡ with_wish old.wishes g w
     → Works g old new
 worked_stage old new g p o w adds admits is = stretched old new (PutStage g p o) true adds admits (wishes_more old new g w (ap is_staged admits) is)
 
-pub worked_failed : {T S : Type 0} (old new : Account T S) (g : ℕ) (p : Placement) (o : Thing) → Adds old new (PutStage g p o) false → IsInTurn (machine_of old.keeping) (PutStage g p o) → new.wishes ≡ old.wishes → Works g old new
+pub worked_failed : {T S : Type 0} (old new : SiteValue T S) (g : ℕ) (p : Placement) (o : ObjectValue) → Adds old new (PutStage g p o) false → IsInTurn (machine_of old.keeping) (PutStage g p o) → new.wishes ≡ old.wishes → Works g old new
 worked_failed old new g p o adds admits same = stretched old new (PutStage g p o) false adds admits (wishes_kept old new (PutStage g p o) false adds admits same)
 
-same_wishes : {T S : Type 0} (g : ℕ) (old new : Account T S) → new.wishes ≡ old.wishes → new.keeping ≡ old.keeping → KeepsWishes g old new
+same_wishes : {T S : Type 0} (g : ℕ) (old new : SiteValue T S) → new.wishes ≡ old.wishes → new.keeping ≡ old.keeping → KeepsWishes g old new
 same_wishes g old new same still = record {
   rows = ap length same;
   others = λ h ne. ap (λ (l : List (List Wish)). wishes_at l h) same;
-  mine = λ k. (ap (λ (x : Keeping). is_staged (standing_in x.standings g).phase) still ∙ k, ap (λ (l : List (List Wish)). wishes_at l g) same);
+  mine = λ k. (ap (λ (x : CoreValue). is_staged (standing_in x.standings g).phase) still ∙ k, ap (λ (l : List (List Wish)). wishes_at l g) same);
 }
 
-pub works_same : {T S : Type 0} (g : ℕ) (old new : Account T S) → KeepsHistory old new → Works g old new
+pub works_same : {T S : Type 0} (g : ℕ) (old new : SiteValue T S) → KeepsHistory old new → Works g old new
 works_same g old new kept = record {
   events = [];
   adds = kept.events ∙ sym (append-nil old.events);
@@ -185,7 +185,7 @@ works_same g old new kept = record {
   opened = kept.opened;
 }
 
-pub works_start : {T S : Type 0} (g : ℕ) (a : Account T S) → Works g a a
+pub works_start : {T S : Type 0} (g : ℕ) (a : SiteValue T S) → Works g a a
 works_start g a = record {
   events = [];
   adds = sym (append-nil a.events);
@@ -198,14 +198,14 @@ works_start g a = record {
   opened = refl;
 }
 
-wishes_then : {T S : Type 0} (g : ℕ) (a b c : Account T S) → KeepsWishes g a b → KeepsWishes g b c → KeepsWishes g a c
+wishes_then : {T S : Type 0} (g : ℕ) (a b c : SiteValue T S) → KeepsWishes g a b → KeepsWishes g b c → KeepsWishes g a c
 wishes_then g a b c first second = record {
   rows = second.rows ∙ first.rows;
   others = λ h ne. second.others h ne ∙ first.others h ne;
   mine = λ k. let one = first.mine k in let two = second.mine one.0 in (two.0, two.1 ∙ one.1);
 }
 
-pub works_then : {T S : Type 0} (g : ℕ) (a b c : Account T S) → Works g a b → Works g b c → Works g a c
+pub works_then : {T S : Type 0} (g : ℕ) (a b c : SiteValue T S) → Works g a b → Works g b c → Works g a c
 works_then g a b c first second = record {
   events = first.events ++ second.events;
   adds = second.adds ∙ (ap (λ (l : List Entry). l ++ second.events) first.adds ∙ append_assoc a.events first.events second.events);
@@ -219,18 +219,18 @@ works_then g a b c first second = record {
 }
 
 -- a stretch goes on where a run is
-pub run_on : {T S : Type 0} (g : ℕ) (a b : Account T S) → Works g a b → IsRun a → IsRun b
+pub run_on : {T S : Type 0} (g : ℕ) (a b : SiteValue T S) → Works g a b → IsRun a → IsRun b
 run_on g a b works r = record {
   leads = ap (machine_after idle) works.adds ∙ (after_then idle a.events works.events ∙ (ap (λ (m : Machine). machine_after m works.events) r.leads ∙ works.stretch.leads));
   turns = subst (λ (l : List Entry). AreInTurn idle l) (sym works.adds) (turns_then idle a.events works.events r.turns (subst (λ (m : Machine). AreInTurn m works.events) (sym r.leads) works.stretch.turns));
 }
 
 -- the standing of a group behind an event that answered Ok
-pub standing_after : {T S : Type 0} (old new : Account T S) (g : ℕ) (e : Event) (s : Standing) → Adds old new e true → (done (machine_of old.keeping) e).roll.standing g ≡ s → standing_at new g ≡ s
+pub standing_after : {T S : Type 0} (old new : SiteValue T S) (g : ℕ) (e : Event) (s : Standing) → Adds old new e true → (done (machine_of old.keeping) e).roll.standing g ≡ s → standing_at new g ≡ s
 standing_after old new g e s adds is = ap (λ (m : Machine). m.roll.standing g) adds.machine ∙ is
 
 -- the group is in another phase behind the event
-pub at_after : {T S : Type 0} (old new : Account T S) (g : ℕ) (e : Event) (p : Phase) (s : Standing) → Adds old new e true → IsRunning old.keeping g → (done (machine_of old.keeping) e).stopped ≡ old.keeping.stopped
+pub at_after : {T S : Type 0} (old new : SiteValue T S) (g : ℕ) (e : Event) (p : Phase) (s : Standing) → Adds old new e true → IsRunning old.keeping g → (done (machine_of old.keeping) e).stopped ≡ old.keeping.stopped
     → (done (machine_of old.keeping) e).roll.standing g ≡ s → s.phase ≡ phase_of p → IsAt new.keeping g p
 at_after old new g e p s adds running going is phase = record {
   running = (subst (λ (n : ℕ). g < n) (sym adds.count) running.0, ap (λ (m : Machine). m.stopped) adds.machine ∙ (going ∙ running.1));
@@ -284,7 +284,7 @@ pub same_answered : (m : Machine) (e : Event) (ok : Bool) → keeps_group e ≡ 
 same_answered m e true k = same_done m e k
 same_answered m e false k = same_begun m e
 
-pub group_kept : {T S : Type 0} (old new : Account T S) (e : Event) (ok : Bool) → Adds old new e ok → keeps_group e ≡ true → group_in new (group_of_event e) ≡ group_in old (group_of_event e)
+pub group_kept : {T S : Type 0} (old new : SiteValue T S) (e : Event) (ok : Bool) → Adds old new e ok → keeps_group e ≡ true → group_in new (group_of_event e) ≡ group_in old (group_of_event e)
 group_kept old new e ok adds k = ap (λ (m : Machine). group_of (group_of_event e) (m.roll.standing (group_of_event e))) adds.machine ∙ same_answered (machine_of old.keeping) e ok k
 
 -- the event brings its group into the order, where it answers Ok
@@ -330,7 +330,7 @@ pub order_answered : (m : Machine) (e : Event) (ok : Bool) → settles e ≡ fal
 order_answered m e true k = order_done m e k
 order_answered m e false k = order_begun m e
 
-pub order_kept : {T S : Type 0} (old new : Account T S) (e : Event) (ok : Bool) → Adds old new e ok → settles e ≡ false → new.keeping.order ≡ old.keeping.order
+pub order_kept : {T S : Type 0} (old new : SiteValue T S) (e : Event) (ok : Bool) → Adds old new e ok → settles e ≡ false → new.keeping.order ≡ old.keeping.order
 order_kept old new e ok adds k = ap (λ (m : Machine). m.roll.order) adds.machine ∙ order_answered (machine_of old.keeping) e ok k
 
 -- ---- until a group is sealed it may end
@@ -367,13 +367,13 @@ early_answered m (SyncClosed g) ok a k = absurd (cc k)
 early_answered m (Acknowledge g) ok a k = absurd (cc k)
 early_answered m (Abandon g) ok a k = absurd (cc k)
 
-pub early_on : {T S : Type 0} (old new : Account T S) (e : Event) (ok : Bool) → Adds old new e ok → IsInTurn (machine_of old.keeping) e → is_early e ≡ true → may_end (standing_at new (group_of_event e)).phase ≡ true
+pub early_on : {T S : Type 0} (old new : SiteValue T S) (e : Event) (ok : Bool) → Adds old new e ok → IsInTurn (machine_of old.keeping) e → is_early e ≡ true → may_end (standing_at new (group_of_event e)).phase ≡ true
 early_on old new e ok adds admits k = ap (λ (m : Machine). may_end (phase_here m (group_of_event e))) adds.machine ∙ early_answered (machine_of old.keeping) e ok admits k
 
 -- ---- the events of a group by what each makes of its standing
 
 -- a step that is taken is a stretch of its group
-pub step_worked : {T S : Type 0} (old new : Account T S) (g : ℕ) (s : Step) (ok : Bool) → IsTaken old.keeping g s → Adds old new (event_of g s) ok → Works g old new
+pub step_worked : {T S : Type 0} (old new : SiteValue T S) (g : ℕ) (s : Step) (ok : Bool) → IsTaken old.keeping g s → Adds old new (event_of g s) ok → Works g old new
 step_worked old new g steps.Begin ok taken adds = worked old new (Begin g) ok adds taken.phase refl
 step_worked old new g steps.PutToken ok taken adds = worked old new (PutToken g) ok adds taken.phase refl
 step_worked old new g steps.SyncSealed ok taken adds = worked old new (SyncSealed g) ok adds taken.phase refl
@@ -388,7 +388,7 @@ step_worked old new g steps.Acknowledge ok taken adds = worked old new (Acknowle
 step_worked old new g steps.Abandon ok taken adds = worked old new (Abandon g) ok adds taken.phase refl
 
 -- a group that stands at a phase may take the step that asks for it
-pub taken_at : (k : Keeping) (g : ℕ) (s : Step) (p : Phase) → IsAt k g p → IsPhaseFor s (phase_of p) → IsDueFor s (standing_in k.standings g) → IsTaken k g s
+pub taken_at : (k : CoreValue) (g : ℕ) (s : Step) (p : Phase) → IsAt k g p → IsPhaseFor s (phase_of p) → IsDueFor s (standing_in k.standings g) → IsTaken k g s
 taken_at k g s p at phase due = record {
   comes = (at.running.0, inl at.running.1);
   phase = subst (λ (x : pure.Phase). IsPhaseFor s x) (sym at.phase) phase;
@@ -396,5 +396,5 @@ taken_at k g s p at phase due = record {
 }
 
 -- a group that may begin runs
-pub runs_if_taken : (k : Keeping) (g : ℕ) → IsTaken k g steps.Begin → IsRunning k g
+pub runs_if_taken : (k : CoreValue) (g : ℕ) → IsTaken k g steps.Begin → IsRunning k g
 runs_if_taken k g taken = (taken.comes.0, elim taken.comes.1 [ inl e ↦ e | inr a ↦ absurd (cc a) ])

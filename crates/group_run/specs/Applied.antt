@@ -4,7 +4,7 @@ use Rattle.basics.specs.Members.{Has}
 use Rattle.file_tree.specs.Disk.{Disk, IsUntouched, Map}
 use Rattle.file_tree.specs.Moments.{Leaves}
 use Rattle.journal.specs.Group.{Group, applied}
-use Rattle.journal.specs.Recovered.{IsRecovered}
+use Rattle.recovery.specs.Promise.{RecoversTo}
 
 -- the number under which a group is merged
 abbrev pub number : Group → ℕ
@@ -14,21 +14,23 @@ number g = g.content.group
 abbrev pub AreOf : (Group → Type 0) → List Group → Type 0
 AreOf Of groups = (x : Group) → Has groups x → Of x
 
--- a map recovers to m with the groups of such a run applied, those with these numbers among them
+-- recovery makes m of a map, with the groups of such a run applied, those with these numbers among
+-- them
 pub record RecoversWith (Run : List Group → Type 0) (m : Map) (among : List ℕ) (c : Map) :
     Type 0 where
   pub groups : List Group
   pub of : Run groups
   pub has : (n : ℕ) → Has among n → Has (map number groups) n
-  pub is : IsRecovered c (applied m groups)
+  pub is : RecoversTo c (applied m groups)
 
--- a crash leaves what recovers to m with just the groups of the history applied, in this order
+-- a crash leaves what recovery makes m of, with just the groups of the history applied, in this
+-- order
 pub record LeavesWith (Run : List Group → Type 0) (m : Map) (history : List ℕ) (d : Disk) :
     Type 0 where
   pub groups : List Group
   pub of : Run groups
   pub are : map number groups ≡ history
-  pub each : Leaves (λ c. IsRecovered c (applied m groups)) d
+  pub each : Leaves (λ c. RecoversTo c (applied m groups)) d
 
 -- the disk reads as m with just the groups of the history applied, in this order, with nothing
 -- below the journal's folder, and a crash leaves just that

@@ -12,7 +12,7 @@ use Rattle.owner_book.specs.Book.{Book, HasOwnersOf, claim_in, owner_in}
 use Rattle.owner_book.specs.declared.wish.Wish.{Wish}
 use Rattle.merge_site.specs.Booking.{dying_at, wish_for, wishes_at}
 use Rattle.merge_site.specs.Claiming.{IsClearFor, MayClaim}
-use Rattle.merge_site.specs.Site.{Account}
+use Rattle.merge_site.specs.Site.{SiteValue}
 use Rattle.merge_site.specs.declared.group.SiteGroup.{SiteGroup}
 use Rattle.group_run.specs.Working.{Changes, IsAlone, all_of, changing, group_in}
 use Rattle.group_run.specs.declared.files.Files.{Files}
@@ -64,7 +64,7 @@ IsAdmitted opening opened groups c g x =
 
 -- a group of a site has put its record of these changes and all that it wishes, its files may be
 -- placed, and no other group is under way
-pub record HasBuilt {T S : Type 0} (c : Changes) (g : ℕ) (a : Account T S) : Type 0 where
+pub record HasBuilt {T S : Type 0} (c : Changes) (g : ℕ) (a : SiteValue T S) : Type 0 where
   pub changed : group_in a g ≡ changing g c
   pub wished : wishes_at a.wishes g ≡ c.wishes
   pub good : AreGood c.files

@@ -3,7 +3,7 @@ use Rattle.std.specs.Prelude.{◌≡◌, ℕ, length}
 use Rattle.merge_core.specs.Roll.{Standing}
 use Rattle.merge_core.specs.declared.step.Step.{Step}
 use Rattle.merge_core.specs.declared.step.Step.TheVariants as steps
-use Rattle.merge_site.specs.Site.{Account}
+use Rattle.merge_site.specs.Site.{SiteValue}
 use Rattle.group_run.specs.Working.{Works, group_in, standing_at}
 use Rattle.group_run.specs.declared.opening.PathChange.{PathChange}
 use Rattle.group_run.specs.declared.opening.PathChange.TheVariants as changes
@@ -30,7 +30,7 @@ due_in s changes.Remove = length s.removals
 
 -- a group changed only such paths: of the others just as many are changed as before, and all that
 -- it has, and the groups in the tree, are the same
-pub record ChangesPaths {T S : Type 0} (c : PathChange) (g : ℕ) (old new : Account T S) : Type 0
+pub record ChangesPaths {T S : Type 0} (c : PathChange) (g : ℕ) (old new : SiteValue T S) : Type 0
   where
     pub works : Works g old new
     pub order : new.keeping.order ≡ old.keeping.order

@@ -4,7 +4,7 @@ use Rattle.std.specs.Prelude.{Err, IfErr, OnOk, Result, length, take, ⊤}
 use Rattle.basics.specs.Members.{Has}
 use Rattle.file_tree.specs.Disk.{Map}
 use Rattle.merge_core.specs.Roll.{resting}
-use Rattle.merge_site.specs.Site.{Account}
+use Rattle.merge_site.specs.Site.{SiteValue}
 use Rattle.group_run.specs.Applied.{number}
 use Rattle.group_run.specs.Causes.{IsOfGroup}
 use Rattle.group_run.specs.Lines.{AreTold, IsBeginning}
@@ -16,7 +16,7 @@ use Rattle.group_run.specs.declared.turn.Turn.{Turn}
 
 -- the groups of just these turns are in the tree for good, in this order, and all of them are told
 pub record IsUnderWay {T S : Type 0} (tells : Bool) (opening : Map) (turns : List Turn)
-    (history acknowledged : List ℕ) (a : Account T S) : Type 0 where
+    (history acknowledged : List ℕ) (a : SiteValue T S) : Type 0 where
   pub through : IsThrough tells opening turns a
   pub count : length a.groups ≡ length a.keeping.standings
   pub merged : history ≡ numbers turns
@@ -30,7 +30,7 @@ IsNew turns t = ¬ Has (numbers turns) t.group
 -- no group behind the next one has begun; of the history all groups are told or all but its last,
 -- and all where a group was stopped for what it has; a stop is that of the group behind the history
 pub record IsOver {A T S : Type 0} (tells : Bool) (opening : Map) (turns : List Turn)
-    (history acknowledged : List ℕ) (end : Result A Stop) (a : Account T S) : Type 0 where
+    (history acknowledged : List ℕ) (end : Result A Stop) (a : SiteValue T S) : Type 0 where
   pub ended : HasEnded tells opening turns a end
   pub order : history ≡ map number a.keeping.order
   pub rest : (h : ℕ) → ¬ Has (take (suc (length history)) (numbers turns)) h →
@@ -43,7 +43,7 @@ pub record IsOver {A T S : Type 0} (tells : Bool) (opening : Map) (turns : List 
   pub cause : IfErr end (StopsBehind tells opening a.opened_book a.groups turns (length history))
 
 -- .. with this stop
-abbrev pub EndsAt : {T S : Type 0} → Bool → Map → List Turn → List ℕ → List ℕ → Account T S → Stop →
-    Type 0
+abbrev pub EndsAt : {T S : Type 0} → Bool → Map → List Turn → List ℕ → List ℕ → SiteValue T S →
+    Stop → Type 0
 EndsAt tells opening turns history acknowledged a e =
     IsOver {A = ⊤} tells opening turns history acknowledged (Err e) a

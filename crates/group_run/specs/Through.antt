@@ -6,11 +6,11 @@ use Rattle.std.specs.Global.{Global}
 use Rattle.basics.specs.Members.{Has}
 use Rattle.file_tree.specs.Disk.{Map}
 use Rattle.owner_book.specs.Book.{Book, HasOwnersOf}
-use Rattle.merge_core.specs.Keeping.{machine_of}
+use Rattle.merge_core.specs.CoreValue.{machine_of}
 use Rattle.merge_core.specs.Phase.{Told}
 use Rattle.merge_core.specs.Roll.{RecoversCommitted, idle, resting}
 use Rattle.merge_site.specs.Booking.{wishes_at}
-use Rattle.merge_site.specs.Site.{Account, StoodDuring}
+use Rattle.merge_site.specs.Site.{SiteValue, StoodDuring}
 use Rattle.group_run.specs.Applied.{RecoversWith, number}
 use Rattle.group_run.specs.Turns.{AreFirst, AreLetIn, changes_of, group_for, numbers, settled}
 use Rattle.group_run.specs.Working.{IsRun, is_shut, standing_at}
@@ -28,14 +28,14 @@ settled_all [] b = b
 settled_all (t ∷ ts) b = settled_all ts (settled (changes_of t) b)
 
 -- each crash image since the opening recovers to it with the groups of some first turns applied
-abbrev pub HasStood : {T S : Type 0} → Map → List Turn → Account T S → Type 0
+abbrev pub HasStood : {T S : Type 0} → Map → List Turn → SiteValue T S → Type 0
 HasStood opening turns a = (c : Map) → StoodDuring opening idle a.events c →
     RecoversWith (AreFirst opening a.opened_book a.groups turns) opening [] c
 
 -- just the groups of these turns are in the tree for good, in this order, each let in, owned and
 -- told, and no other group has begun
 pub record IsThrough {T S : Type 0} (tells : Bool) (opening : Map) (turns : List Turn)
-    (a : Account T S) : Type 0 where
+    (a : SiteValue T S) : Type 0 where
   pub run : IsRun a
   pub going : a.keeping.stopped ≡ false
   pub order : a.keeping.order ≡ map group_for turns
@@ -49,7 +49,7 @@ pub record IsThrough {T S : Type 0} (tells : Bool) (opening : Map) (turns : List
 -- a run of these turns ended so: a crash leaves some first ones, with the order among them, and the
 -- order is some first ones, which no gate is open over unless the device failed
 pub record HasEnded {A T S : Type 0} (tells : Bool) (opening : Map) (turns : List Turn)
-    (a : Account T S) (end : Result A Stop) : Type 0 where
+    (a : SiteValue T S) (end : Result A Stop) : Type 0 where
   pub stood : IsTrue tells → HasStood opening turns a
   pub crash : IsTrue tells → (c : Map) → RecoversCommitted opening (machine_of a.keeping).roll c →
       RecoversWith (AreFirst opening a.opened_book a.groups turns) opening

@@ -6,7 +6,7 @@ use Rattle.file_tree.specs.declared.fault.TreeFault.TheVariants as trees
 use Rattle.journal.specs.Group.{Group, applied}
 use Rattle.journal.specs.Judging.{is_in}
 use Rattle.owner_book.specs.Book.{Book}
-use Rattle.merge_core.specs.Keeping.{Keeping}
+use Rattle.merge_core.specs.CoreValue.{CoreValue}
 use Rattle.merge_site.specs.declared.group.SiteGroup.{SiteGroup}
 use Rattle.group_run.specs.Causes.{IsOfGroup, StopsChanges}
 use Rattle.group_run.specs.Granted.{MayChange, changes_in}
@@ -61,7 +61,7 @@ StopsBehind tells m b groups (t ∷ ts) (suc n) e =
     StopsBehind tells (applied m (group_for t ∷ [])) (settled (changes_of t) b) groups ts n e
 
 -- where no site was opened, it is for want of memory
-abbrev pub HaveCause : Bool → Map → Book → List SiteGroup → List Turn → ℕ → Option Keeping →
+abbrev pub HaveCause : Bool → Map → Book → List SiteGroup → List Turn → ℕ → Option CoreValue →
     Stop → Type 0
 HaveCause tells m b groups turns n (Some k) e = StopsBehind tells m b groups turns n e
 HaveCause tells m b groups turns n None e = e ≡ stops.Tree trees.Memory

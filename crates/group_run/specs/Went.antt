@@ -6,7 +6,7 @@ use Rattle.file_tree.specs.Moments.{Leaves, Since}
 use Rattle.file_tree.specs.declared.fault.TreeFault.TheVariants as trees
 use Rattle.journal.specs.Group.{Group, with_groups}
 use Rattle.merge_core.specs.Core.{standing_in}
-use Rattle.merge_core.specs.Keeping.{Keeping}
+use Rattle.merge_core.specs.CoreValue.{CoreValue}
 use Rattle.merge_core.specs.Roll.{resting}
 use Rattle.recovery.specs.Phases.{IsShut}
 use Rattle.group_run.specs.Applied.{AreOf, LeavesWith, ReadsWith, RecoversWith, number}
@@ -30,7 +30,7 @@ Went Of = WentWith (AreOf Of)
 
 -- the machine of so many groups with this history: of these it has begun only those of the history
 -- and the next one, and no other
-pub record HaveRun (gs : List ℕ) (n : ℕ) (history : List ℕ) (k : Keeping) : Type 0 where
+pub record HaveRun (gs : List ℕ) (n : ℕ) (history : List ℕ) (k : CoreValue) : Type 0 where
   pub order : history ≡ map number k.order
   pub count : length k.standings ≡ n
   pub rest : (h : ℕ) → ¬ Has (take (suc (length history)) gs) h →

@@ -2,14 +2,14 @@
 use Rattle.std.specs.Prelude.{◌≡◌, ◌++◌, ℕ, Bool, true, false, List, [], ◌∷◌, length, map, ⊤}
 use Rattle.std.specs.List.{AllByRecursion, flat_map}
 use Rattle.file_tree.specs.Disk.{Map}
-use Rattle.file_tree.specs.Thing.{Thing}
+use Rattle.file_tree.specs.ObjectValue.{ObjectValue}
 use Rattle.file_tree.specs.declared.objects.Entry.{Entry}
 use Rattle.journal.specs.Group.{Group}
 use Rattle.merge_core.specs.Core.{standing_in}
 use Rattle.merge_core.specs.Event.{Abandon, Acknowledge, Begin, Claim, CloseGate, Event, OpenGate}
 use Rattle.merge_core.specs.Event.{PlacePath, PutRecord, PutStage, PutToken, RemovePath}
 use Rattle.merge_core.specs.Event.{SyncClosed, SyncGate, SyncPlaced, SyncSealed, answered}
-use Rattle.merge_core.specs.Keeping.{machine_of}
+use Rattle.merge_core.specs.CoreValue.{machine_of}
 use Rattle.merge_core.specs.Phase.{Phase, Building, Claimed, Done, Emptied, GatePut, GateTaken}
 use Rattle.merge_core.specs.Phase.{Idle, Marked, Odd, Open, Placed, Recorded, Redo, Redone, Sealed}
 use Rattle.merge_core.specs.Phase.{is_live, may_end, was_opened}
@@ -19,7 +19,7 @@ use Rattle.merge_core.specs.Trail.{machine_after}
 use Rattle.group_run.specs.declared.files.Files.{Files}
 use Rattle.owner_book.specs.declared.wish.Wish.{Wish}
 use Rattle.merge_site.specs.Booking.{wishes_at}
-use Rattle.merge_site.specs.Site.{Account}
+use Rattle.merge_site.specs.Site.{SiteValue}
 use Rattle.merge_site.specs.Staging.{placement_of}
 
 -- the group of an event
@@ -64,7 +64,7 @@ AreInTurn m [] = ⊤
 AreInTurn m (e ∷ es) = IsInTurn m e.0 × AreInTurn (answered m e.0 e.1) es
 
 -- the events of a site led to its machine, each in its group's turn
-pub record IsRun {T S : Type 0} (a : Account T S) : Type 0 where
+pub record IsRun {T S : Type 0} (a : SiteValue T S) : Type 0 where
   pub leads : machine_after idle a.events ≡ machine_of a.keeping
   pub turns : AreInTurn idle a.events
 
@@ -75,15 +75,15 @@ is_staged Building = false
 is_staged p = true
 
 -- how far a group of a site has come
-abbrev pub standing_at : {T S : Type 0} → Account T S → ℕ → Standing
+abbrev pub standing_at : {T S : Type 0} → SiteValue T S → ℕ → Standing
 standing_at a g = standing_in a.keeping.standings g
 
 -- no other group of the site is under way from its claim until its closed gate is durable
-abbrev pub IsAlone : {T S : Type 0} → ℕ → Account T S → Type 0
+abbrev pub IsAlone : {T S : Type 0} → ℕ → SiteValue T S → Type 0
 IsAlone g a = (h : ℕ) → ¬ (h ≡ g) → is_live (standing_at a h).phase ≡ false
 
 -- the map with the groups of a site that are in the tree for good
-abbrev pub stood_at : {T S : Type 0} → Map → Account T S → Map
+abbrev pub stood_at : {T S : Type 0} → Map → SiteValue T S → Map
 stood_at opening a = stood opening (machine_of a.keeping).roll
 
 -- events of one group, each in its turn, led from one machine to the other
@@ -93,7 +93,7 @@ pub record Stretch (g : ℕ) (old : Machine) (es : List trail.Entry) (new : Mach
   pub leads : machine_after old es ≡ new
 
 -- no other group wishes anything new, nor does this one once its record is put
-pub record KeepsWishes {T S : Type 0} (g : ℕ) (old new : Account T S) : Type 0 where
+pub record KeepsWishes {T S : Type 0} (g : ℕ) (old new : SiteValue T S) : Type 0 where
   pub rows : length new.wishes ≡ length old.wishes
   pub others : (h : ℕ) → ¬ (h ≡ g) → wishes_at new.wishes h ≡ wishes_at old.wishes h
   pub mine : is_staged (standing_at old g).phase ≡ true →
@@ -101,7 +101,7 @@ pub record KeepsWishes {T S : Type 0} (g : ℕ) (old new : Account T S) : Type 0
       (wishes_at new.wishes g ≡ wishes_at old.wishes g)
 
 -- a stretch of events of one group of a site
-pub record Works {T S : Type 0} (g : ℕ) (old new : Account T S) : Type 0 where
+pub record Works {T S : Type 0} (g : ℕ) (old new : SiteValue T S) : Type 0 where
   pub events : List trail.Entry
   pub adds : new.events ≡ old.events ++ events
   pub stretch : Stretch g (machine_of old.keeping) events (machine_of new.keeping)
@@ -112,7 +112,7 @@ pub record Works {T S : Type 0} (g : ℕ) (old new : Account T S) : Type 0 where
   pub opened_book : new.opened_book ≡ old.opened_book
   pub opened : new.opened ≡ old.opened
 
-abbrev pub object_of : Entry → Thing
+abbrev pub object_of : Entry → ObjectValue
 object_of e = e.object
 
 -- what a group is to change: the paths that go, the files that come, and who is to own each of them
@@ -155,7 +155,7 @@ pub record HasStaged (files : List Entry) (s : Standing) : Type 0 where
   pub objects : s.objects ≡ map object_of files
 
 -- what the group of a site does so far
-abbrev pub group_in : {T S : Type 0} → Account T S → ℕ → Group
+abbrev pub group_in : {T S : Type 0} → SiteValue T S → ℕ → Group
 group_in a g = group_of g (standing_at a g)
 
 -- no gate of a group in this phase may hold anything, and none of its paths is being changed
@@ -172,7 +172,7 @@ is_shut p = true
 
 -- a group asked for its claim, and was granted it or not: all that it has, and the groups in the
 -- tree, are the same, and its gate was never opened
-pub record Claims {T S : Type 0} (g : ℕ) (old new : Account T S) : Type 0 where
+pub record Claims {T S : Type 0} (g : ℕ) (old new : SiteValue T S) : Type 0 where
   pub works : Works g old new
   pub order : new.keeping.order ≡ old.keeping.order
   pub group : group_in new g ≡ group_in old g

@@ -3,7 +3,7 @@ ghost use Rattle.std.specs.Prelude.{Err, IfErr, IsErrOf, IsOk, IsTrue, OnOk};
 ghost use Rattle.file_tree.specs.Disk.{IsUntouched, Map, Rose};
 ghost use Rattle.file_tree.specs.Faults.{IsOfMachine};
 ghost use Rattle.file_tree.specs.Moments.{Since};
-ghost use Rattle.journal.specs.Recovered.{IsRecovered};
+ghost use Rattle.recovery.specs.Promise.{RecoversTo};
 ghost use Rattle.recovery.specs.Phases.{IsShut, cleared};
 
 use crate::stop::Stop;
@@ -18,7 +18,7 @@ pub(crate) fn clear<T: Tree>(alloc: Global, tree: &mut T, end: Result<(), Stop>)
         T.story tree.new ≡ T.story tree.old }
     ensures moments { IsTrue T.tells → (¬ IsErrOf end (Stop.Tree TreeFault.Failed)) → (m : Map) →
         IsShut m (T.story tree.old).now →
-        Since (λ c. IsRecovered c (cleared m)) (T.story tree.old) (T.story tree.new) }
+        Since (λ c. RecoversTo c (cleared m)) (T.story tree.old) (T.story tree.new) }
     ensures cleared { IsTrue T.tells → (¬ IsErrOf result (Stop.Tree TreeFault.Failed)) →
         (¬ IsErrOf result (Stop.Tree TreeFault.Memory)) → (m : Map) →
         IsShut m (T.story tree.old).now → (q : List ℕ) →

@@ -2,11 +2,11 @@
 use Rattle.std.proofs.Common.{◌≡◌, ◌<◌, ◌∙◌, ℕ, Bool, true, Ok, Err, Result, length, sym, subst, arith}
 use Rattle.std.specs.Prelude.{is_ok, IsErrOf, OnOk, ⊤}
 use Rattle.merge_core.specs.Event.{Abandon, Acknowledge, Begin, Claim, CloseGate, Event, OpenGate, PlacePath, PutRecord, PutStage, PutToken, RemovePath, SyncClosed, SyncGate, SyncPlaced, SyncSealed, done}
-use Rattle.merge_core.specs.Keeping.{machine_of}
+use Rattle.merge_core.specs.CoreValue.{machine_of}
 use Rattle.merge_core.specs.Phase.{Building}
 use Rattle.merge_core.specs.Roll.{Machine, phase_at}
 use Rattle.merge_core.proofs.Standings.{by_group}
-use Rattle.merge_site.specs.Site.{Account, Adds}
+use Rattle.merge_site.specs.Site.{SiteValue, Adds}
 use Rattle.groups_in_memory.specs.Three.{AreThree, IsWithin}
 
 -- what an event needs, so that its group stays within its record
@@ -34,14 +34,14 @@ within_done m (Acknowledge g) turn all h = by_group (λ i x. IsWithin x) m.roll 
 within_done m (Abandon g) turn all h = by_group (λ i x. IsWithin x) m.roll g _ (λ e. absurd (cc e)) (λ i ne. all i) h
 
 -- three groups are behind an event what they were before it
-pub three_on : {T S : Type 0} (old new : Account T S) (e : Event) → AreThree old.keeping → Turn (machine_of old.keeping) e → Adds old new e true → AreThree new.keeping
+pub three_on : {T S : Type 0} (old new : SiteValue T S) (e : Event) → AreThree old.keeping → Turn (machine_of old.keeping) e → Adds old new e true → AreThree new.keeping
 three_on old new e three turn adds = record {
   three = adds.count ∙ three.three;
   within = λ h. subst (λ (m : Machine). IsWithin (m.roll.standing h)) (sym adds.machine) (within_done (machine_of old.keeping) e turn three.within h);
 }
 
 -- the same, by whether the event answered Ok
-pub three_if : {T S : Type 0} (old new : Account T S) (e : Event) (ok : Bool) → AreThree old.keeping → Turn (machine_of old.keeping) e → Adds old new e ok → ok ≡ true → AreThree new.keeping
+pub three_if : {T S : Type 0} (old new : SiteValue T S) (e : Event) (ok : Bool) → AreThree old.keeping → Turn (machine_of old.keeping) e → Adds old new e ok → ok ≡ true → AreThree new.keeping
 three_if old new e ok three turn adds is = three_on old new e three turn (subst (λ (b : Bool). Adds old new e b) is adds)
 
 -- what holds of an answer of Ok, where it is one

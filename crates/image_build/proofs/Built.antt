@@ -8,7 +8,7 @@ use Rattle.std.proofs.lemmas.Option.{get_or_from_slice_get, slice_get-get_or, sl
 use Rattle.std.proofs.Math.Seq.{get_or-append_seam, take-length}
 use Rattle.std.proofs.lemmas.List.Elements.{Contains-append_left, Contains-push, Contains-push_cases}
 use Rattle.file_tree.specs.Disk.{Rose}
-use Rattle.build_pool.specs.Pool.{IfLastOf, IsLastOf, Kept, LeavesLastOf, PoolRose, faults_of}
+use Rattle.build_pool.specs.Pool.{IfLastOf, IsLastOf, PoolValue, LeavesLastOf, PoolRose, faults_of}
 use Rattle.build_pool.specs.declared.pools.Away.{Away}
 use Rattle.build_pool.specs.declared.orders.Order.{Order}
 use Rattle.file_tree.specs.declared.objects.Entry.{Entry}
@@ -58,7 +58,7 @@ if_put_last lent mid w n P is known p i a last =
     subst P (sym put.1) p
 
 -- a builder that failed while it was lent makes the pool's count rise
-pub pool_rose : {B : Type 0} (number faults : B → ℕ) (old mid new : Kept B) (lent : List Away) (b b' : B)
+pub pool_rose : {B : Type 0} (number faults : B → ℕ) (old mid new : PoolValue B) (lent : List Away) (b b' : B)
     → mid.lent ≡ lent ++ record { number = number b; faults = faults b } ∷ [] → number b' ≡ number b
     → faults_of faults mid ≡ faults_of faults old → new.resting ≡ mid.resting ++ b' ∷ []
     → (IfLastOf (number b') mid.lent (λ a. a.faults < faults b') → faults_of faults mid < faults_of faults new)

@@ -7,16 +7,16 @@ use Rattle.basics.specs.Members.{AreDistinct, Has}
 use Rattle.basics.proofs.Membership.{has-append_cases}
 use Rattle.md5.specs.Md5.{md5}
 use Rattle.file_tree.specs.Disk.{Map}
-use Rattle.file_tree.specs.Thing.{Thing}
+use Rattle.file_tree.specs.ObjectValue.{ObjectValue}
 use Rattle.file_tree.specs.declared.objects.Kind.{Kind}
 use Rattle.file_tree.specs.declared.objects.Kind.TheVariants.{Plain, Exec, Link}
-use Rattle.merge_record.specs.Content.{Content}
+use Rattle.merge_record.specs.RecordValue.{RecordValue}
 use Rattle.journal.specs.Judging.{◌>>=◌, AreApplicable, IsGroupInForm, IsStaged, are_free, footprint, is_free, is_in, is_staged, judged, meets_jobs, paths_judged, record_in, record_read, stages_judged}
 use Rattle.journal.specs.Names.{record_path, stage_path}
 use Rattle.merge_record.specs.Spelling.{byte_of}
 use Rattle.journal.specs.declared.fault.JudgeFault.{JudgeFault}
 use Rattle.journal.specs.declared.fault.JudgeFault.TheVariants as faults
-use Rattle.merge_record.specs.declared.fault.RecordFault.{RecordFault}
+use Rattle.merge_record.specs.declared.fault.DecodeFault.{DecodeFault}
 use Rattle.merge_record.specs.declared.record.Placement.{Placement}
 use Rattle.journal.proofs.Verdicts.{fine, judged_ok, paths_pass}
 
@@ -92,7 +92,7 @@ same_kind Link Plain e = absurd (omega arith)
 same_kind Link Exec e = absurd (omega arith)
 same_kind Link Link e = refl
 
-pub is_staged-words : (x : Option Thing) (p : Placement) → is_staged x p ≡ true → IsStaged x p
+pub is_staged-words : (x : Option ObjectValue) (p : Placement) → is_staged x p ≡ true → IsStaged x p
 unfolding is_staged
 is_staged-words None p h = absurd cc
 is_staged-words (Some o) p h =
@@ -100,7 +100,7 @@ is_staged-words (Some o) p h =
     let b = and_parts (eqb (length o.bytes) p.length) (bytes_eq (md5 o.bytes) p.md5) a.1 in
     record { object = o; there = refl; kind = same_kind o.kind p.kind (eqb-true _ _ a.0); size = eqb-true _ _ b.0; digest = (bytes_eq-Decides (md5 o.bytes) p.md5).0 b.1 }
 
-pub is_staged-if : (x : Option Thing) (p : Placement) → IsStaged x p → is_staged x p ≡ true
+pub is_staged-if : (x : Option ObjectValue) (p : Placement) → IsStaged x p → is_staged x p ≡ true
 unfolding is_staged
 is_staged-if x p h =
     let o = h.object in
@@ -140,19 +140,19 @@ pub bind_ok : {A B : Type 0} (r : Result A JudgeFault) (f : A → Result B Judge
 bind_ok (Ok x) f y e = (x, refl, e)
 bind_ok (Err d) f y e = absurd cc
 
-abbrev read_good : Content → Result Content RecordFault
+abbrev read_good : RecordValue → Result RecordValue DecodeFault
 read_good r = Ok r
 
-abbrev judged_good : Content → Result Content JudgeFault
+abbrev judged_good : RecordValue → Result RecordValue JudgeFault
 judged_good r = Ok r
 
-same_content : (x y : Content) → judged_good x ≡ judged_good y → x ≡ y
+same_content : (x y : RecordValue) → judged_good x ≡ judged_good y → x ≡ y
 same_content x y e = cc
 
 zero_plus : (i : ℕ) → 0 + i ≡ i
 zero_plus i = omega arith
 
-read_ok : (g : ℕ) (read : Result Content RecordFault) (r : Content) → record_read g read ≡ Ok r → read ≡ Ok r
+read_ok : (g : ℕ) (read : Result RecordValue DecodeFault) (r : RecordValue) → record_read g read ≡ Ok r → read ≡ Ok r
 unfolding record_read
 read_ok g (Ok x) r h = let same : x ≡ r = cc in ap read_good same
 read_ok g (Err e) r h = absurd cc
@@ -160,7 +160,7 @@ read_ok g (Err e) r h = absurd cc
 unit_ok : (r : Result (Unit {0}) JudgeFault) (x : Unit {0}) → r ≡ Ok x → r ≡ fine
 unit_ok r x h = h
 
-pub judged_words : (c : Map) (taken : List (List ℕ)) (g : ℕ) (r : Content) → judged c taken g ≡ Ok r → IsGroupInForm c taken g r
+pub judged_words : (c : Map) (taken : List (List ℕ)) (g : ℕ) (r : RecordValue) → judged c taken g ≡ Ok r → IsGroupInForm c taken g r
 unfolding judged paths_judged
 judged_words c taken g r h =
     let a = bind_ok (record_read g (record_in (c (record_path g)))) (λ x. paths_judged taken g x >>= λ free. stages_judged c g 0 x.placements >>= λ staged. Ok x) r h in
@@ -170,7 +170,7 @@ judged_words c taken g r h =
     let p = chosen_ok (eqb a.0.group g && are_free taken (footprint a.0)) (Ok tt) (faults.BadRecord g) b.0 b.1 in
     let q = and_parts (eqb a.0.group g) (are_free taken (footprint a.0)) p.0 in
     let free = are_free-words taken (footprint a.0) q.1 in
-    subst (λ (x : Content). IsGroupInForm c taken g x) same (record {
+    subst (λ (x : RecordValue). IsGroupInForm c taken g x) same (record {
       reads = read_ok g (record_in (c (record_path g))) a.0 a.1;
       number = eqb-true _ _ q.0;
       distinct = free.distinct;
@@ -180,13 +180,13 @@ judged_words c taken g r h =
     })
 
 -- a footprint that passed is free
-pub free_if_passed : (taken : List (List ℕ)) (g : ℕ) (r : Content) → paths_judged taken g r ≡ fine → are_free taken (footprint r) ≡ true
+pub free_if_passed : (taken : List (List ℕ)) (g : ℕ) (r : RecordValue) → paths_judged taken g r ≡ fine → are_free taken (footprint r) ≡ true
 unfolding paths_judged
 free_if_passed taken g r h =
     let p = chosen_ok (eqb r.group g && are_free taken (footprint r)) fine (faults.BadRecord g) tt h in
     (and_parts (eqb r.group g) (are_free taken (footprint r)) p.0).1
 
-pub judged_if : (c : Map) (taken : List (List ℕ)) (g : ℕ) (r : Content) → IsGroupInForm c taken g r → judged c taken g ≡ Ok r
+pub judged_if : (c : Map) (taken : List (List ℕ)) (g : ℕ) (r : RecordValue) → IsGroupInForm c taken g r → judged c taken g ≡ Ok r
 unfolding record_read
 judged_if c taken g r h =
     let read : record_read g (record_in (c (record_path g))) ≡ Ok r = ap (record_read g) h.reads in
@@ -203,7 +203,7 @@ pub judged_alike : (c d : Map) (taken : List (List ℕ)) (g : ℕ) → c (record
 unfolding judged
 judged_alike c d taken g same stages = rw same (go (record_read g (record_in (d (record_path g)))))
   where
-    go : (read : Result Content JudgeFault) → (read >>= λ x. paths_judged taken g x >>= λ free. stages_judged c g 0 x.placements >>= λ staged. Ok x) ≡ (read >>= λ x. paths_judged taken g x >>= λ free. stages_judged d g 0 x.placements >>= λ staged. Ok x)
+    go : (read : Result RecordValue JudgeFault) → (read >>= λ x. paths_judged taken g x >>= λ free. stages_judged c g 0 x.placements >>= λ staged. Ok x) ≡ (read >>= λ x. paths_judged taken g x >>= λ free. stages_judged d g 0 x.placements >>= λ staged. Ok x)
     go (Ok x) = rw (stages_alike c d g 0 x.placements stages) refl
     go (Err e) = refl
 
@@ -214,11 +214,11 @@ free_alone taken paths free =
     let k = are_free-words taken paths free in
     are_free-if [] paths (record { distinct = k.distinct; outside = k.outside; apart = λ q has none. none })
 
-pub applicable_more : (rs : List Content) (r : Content) (taken : List (List ℕ)) → AreApplicable rs → are_free taken (footprint r) ≡ true → length r.placements < 2 ^ 32 → AreApplicable (rs ++ r ∷ [])
+pub applicable_more : (rs : List RecordValue) (r : RecordValue) (taken : List (List ℕ)) → AreApplicable rs → are_free taken (footprint r) ≡ true → length r.placements < 2 ^ 32 → AreApplicable (rs ++ r ∷ [])
 applicable_more rs r taken all free few x has = elim (has-append_cases rs (r ∷ []) x has) [
   | inl had ↦ all x had
   | inr last ↦ elim last [
-    | inl e ↦ subst (λ (y : Content). (are_free [] (footprint y) ≡ true) × (length y.placements < 2 ^ 32)) e (free_alone taken (footprint r) free, few)
+    | inl e ↦ subst (λ (y : RecordValue). (are_free [] (footprint y) ≡ true) × (length y.placements < 2 ^ 32)) e (free_alone taken (footprint r) free, few)
     | inr none ↦ absurd none
   ]
 ]

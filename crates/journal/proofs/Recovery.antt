@@ -1,4 +1,4 @@
--- What recovery makes of an image is one map, and it is the map of the records.
+-- What recovery makes of a crash image is one map, and it is the map of the records.
 use Rattle.std.proofs.Common.{◌≡◌, ◌⊎◌, ◌+◌, ◌||◌, ℕ, zero, suc, Bool, true, false, cond, map, List, [], ◌∷◌, ◌++◌, Option, Some, None, Ok, refl, sym, ap, subst, ◌∙◌, inl, inr, arith}
 use Rattle.std.specs.Prelude.{bytes_eq, slice_get}
 use Rattle.std.proofs.lemmas.Slice.Eq.{bytes_eq-Decides}
@@ -6,8 +6,8 @@ use Rattle.basics.specs.Members.{AreDistinct, Has}
 use Rattle.basics.proofs.Membership.{has-append_cases, has-append_left, has-append_right}
 use Rattle.file_tree.specs.Disk.{Map}
 use Rattle.file_tree.specs.Paths.{is_below}
-use Rattle.file_tree.specs.Thing.{Thing}
-use Rattle.merge_record.specs.Content.{Content}
+use Rattle.file_tree.specs.ObjectValue.{ObjectValue}
+use Rattle.merge_record.specs.RecordValue.{RecordValue}
 use Rattle.journal.specs.Judging.{◌>>=◌, footprint, is_in, judged, judged_all, judged_open, path_of}
 use Rattle.journal.specs.Names.{jobs, stage_path}
 use Rattle.journal.specs.Open.{open_groups}
@@ -19,46 +19,46 @@ use Rattle.journal.proofs.Verdicts.{ok_all}
 -- ---- the map that the records make of an image, straight from its stages
 
 -- what placing makes of what stands at a path, from an index on
-abbrev pub placed_at : Map → ℕ → ℕ → List Placement → List ℕ → Option Thing → Option Thing
+abbrev pub placed_at : Map → ℕ → ℕ → List Placement → List ℕ → Option ObjectValue → Option ObjectValue
 placed_at c g i [] q x = x
 placed_at c g i (p ∷ ps) q x =
     placed_at c g (suc i) ps q (cond (bytes_eq q p.path) (c (stage_path g i)) x)
 
 -- what a record makes of what stands at a path: first the removals, then the placements
-abbrev pub remade : Map → Content → List ℕ → Option Thing → Option Thing
+abbrev pub remade : Map → RecordValue → List ℕ → Option ObjectValue → Option ObjectValue
 remade c r q x = placed_at c r.group 0 r.placements q (cond (is_in r.removals q) None x)
 
-abbrev pub rebuilt : Map → List Content → List ℕ → Option Thing → Option Thing
+abbrev pub rebuilt : Map → List RecordValue → List ℕ → Option ObjectValue → Option ObjectValue
 rebuilt c [] q x = x
 rebuilt c (r ∷ rs) q x = rebuilt c rs q (remade c r q x)
 
 -- the map that the records make of an image
-abbrev pub recovered_by : Map → List Content → Map
+abbrev pub recovered_by : Map → List RecordValue → Map
 recovered_by c records q = cond (is_below jobs q) None (rebuilt c records q (c q))
 
 -- ---- records whose paths are apart
 
-abbrev pub AreApart : List (List ℕ) → List Content → Type 0
+abbrev pub AreApart : List (List ℕ) → List RecordValue → Type 0
 AreApart taken [] = Unit {0}
 AreApart taken (r ∷ rs) = AreFree taken (footprint r) × AreApart (taken ++ footprint r) rs
 
-same_records : (xs ys : List Content) → ok_all xs ≡ ok_all ys → xs ≡ ys
+same_records : (xs ys : List RecordValue) → ok_all xs ≡ ok_all ys → xs ≡ ys
 same_records xs ys e = cc
 
-pub apart_of : (c : Map) (taken : List (List ℕ)) (gs : List ℕ) (rs : List Content) → judged_all c taken gs ≡ Ok rs → AreApart taken rs
+pub apart_of : (c : Map) (taken : List (List ℕ)) (gs : List ℕ) (rs : List RecordValue) → judged_all c taken gs ≡ Ok rs → AreApart taken rs
 unfolding judged_all
-apart_of c taken [] rs h = subst (λ (xs : List Content). AreApart taken xs) (same_records [] rs h) tt
+apart_of c taken [] rs h = subst (λ (xs : List RecordValue). AreApart taken xs) (same_records [] rs h) tt
 apart_of c taken (g ∷ gs) rs h =
     let a = bind_ok (judged c taken g) (λ r. judged_all c (taken ++ footprint r) gs >>= λ xs. Ok (r ∷ xs)) rs h in
     let b = bind_ok (judged_all c (taken ++ footprint a.0) gs) (λ xs. Ok (a.0 ∷ xs)) rs a.2 in
     let form = judged_words c taken g a.0 a.1 in
     let free : AreFree taken (footprint a.0) = record { distinct = form.distinct; outside = form.outside; apart = form.free } in
-    subst (λ (xs : List Content). AreApart taken xs) (same_records (a.0 ∷ b.0) rs b.2) (free, apart_of c (taken ++ footprint a.0) gs b.0 b.1)
+    subst (λ (xs : List RecordValue). AreApart taken xs) (same_records (a.0 ∷ b.0) rs b.2) (free, apart_of c (taken ++ footprint a.0) gs b.0 b.1)
 
 -- what is taken is in no later footprint
-later_free : (taken : List (List ℕ)) (rs : List Content) (q : List ℕ) → AreApart taken rs → Has taken q → (r : Content) → Has rs r → Has (footprint r) q → ⊥
+later_free : (taken : List (List ℕ)) (rs : List RecordValue) (q : List ℕ) → AreApart taken rs → Has taken q → (r : RecordValue) → Has rs r → Has (footprint r) q → ⊥
 later_free taken [] q apart was r has mine = has
-later_free taken (x ∷ rs) q apart was r (inl e) mine = apart.0.apart q (subst (λ (y : Content). Has (footprint y) q) (sym e) mine) was
+later_free taken (x ∷ rs) q apart was r (inl e) mine = apart.0.apart q (subst (λ (y : RecordValue). Has (footprint y) q) (sym e) mine) was
 later_free taken (x ∷ rs) q apart was r (inr k) mine = later_free (taken ++ footprint x) rs q apart.1 (has-append_left taken (footprint x) q was) r k mine
 
 nor_right : (a b d : Bool) → (a || (b || d)) ≡ false → b ≡ false
@@ -66,9 +66,9 @@ nor_right true b d h = absurd cc
 nor_right false true d h = absurd cc
 nor_right false false d h = refl
 
-outside : (taken : List (List ℕ)) (rs : List Content) (q : List ℕ) → AreApart taken rs → (r : Content) → Has rs r → Has (footprint r) q → is_below jobs q ≡ false
+outside : (taken : List (List ℕ)) (rs : List RecordValue) (q : List ℕ) → AreApart taken rs → (r : RecordValue) → Has rs r → Has (footprint r) q → is_below jobs q ≡ false
 outside taken [] q apart r has mine = absurd has
-outside taken (x ∷ rs) q apart r (inl e) mine = nor_right (bytes_eq q jobs) (is_below jobs q) (is_below q jobs) (apart.0.outside q (subst (λ (y : Content). Has (footprint y) q) (sym e) mine))
+outside taken (x ∷ rs) q apart r (inl e) mine = nor_right (bytes_eq q jobs) (is_below jobs q) (is_below q jobs) (apart.0.outside q (subst (λ (y : RecordValue). Has (footprint y) q) (sym e) mine))
 outside taken (x ∷ rs) q apart r (inr k) mine = outside (taken ++ footprint x) rs q apart.1 r k mine
 
 -- ---- one record at a path
@@ -77,13 +77,13 @@ not_equal : (q p : List ℕ) (b : Bool) → bytes_eq q p ≡ b → (p ≡ q → 
 not_equal q p true e h = absurd (h (sym ((bytes_eq-Decides q p).0 e)))
 not_equal q p false e h = e
 
-placed_other : (c : Map) (g i : ℕ) (ps : List Placement) (q : List ℕ) (x : Option Thing) → (Has (map path_of ps) q → ⊥) → placed_at c g i ps q x ≡ x
+placed_other : (c : Map) (g i : ℕ) (ps : List Placement) (q : List ℕ) (x : Option ObjectValue) → (Has (map path_of ps) q → ⊥) → placed_at c g i ps q x ≡ x
 placed_other c g i [] q x h = refl
 placed_other c g i (p ∷ ps) q x h =
     let no = not_equal q p.path (bytes_eq q p.path) refl (λ e. h (inl e)) in
     ap (λ (b : Bool). placed_at c g (suc i) ps q (cond b (c (stage_path g i)) x)) no ∙ placed_other c g (suc i) ps q x (λ k. h (inr k))
 
-placed_hit : (c : Map) (g i : ℕ) (ps : List Placement) (j : ℕ) (p : Placement) (x : Option Thing) → AreDistinct (map path_of ps) → slice_get ps j ≡ Some p → placed_at c g i ps p.path x ≡ c (stage_path g (i + j))
+placed_hit : (c : Map) (g i : ℕ) (ps : List Placement) (j : ℕ) (p : Placement) (x : Option ObjectValue) → AreDistinct (map path_of ps) → slice_get ps j ≡ Some p → placed_at c g i ps p.path x ≡ c (stage_path g (i + j))
 placed_hit c g i [] j p x apart at = absurd cc
 placed_hit c g i (y ∷ ps) zero p x apart at =
     let same : y ≡ p = cc in
@@ -111,54 +111,54 @@ distinct_parts (x ∷ xs) ys h =
     let rest = distinct_parts xs ys h.1 in
     (λ q has mine. elim has [ inl e ↦ h.0 (has-append_right xs ys x (subst (λ (z : List ℕ). Has ys z) (sym e) mine)) | inr k ↦ rest.0 q k mine ], rest.1)
 
-remade_other : (c : Map) (r : Content) (q : List ℕ) (x : Option Thing) → (Has (footprint r) q → ⊥) → remade c r q x ≡ x
+remade_other : (c : Map) (r : RecordValue) (q : List ℕ) (x : Option ObjectValue) → (Has (footprint r) q → ⊥) → remade c r q x ≡ x
 remade_other c r q x h =
     let no = false_if_absent r.removals q (is_in r.removals q) refl (λ k. h (has-append_left r.removals (map path_of r.placements) q k)) in
     ap (λ (b : Bool). placed_at c r.group 0 r.placements q (cond b None x)) no ∙ placed_other c r.group 0 r.placements q x (λ k. h (has-append_right r.removals (map path_of r.placements) q k))
 
-remade_removed : (c : Map) (r : Content) (q : List ℕ) (x : Option Thing) → AreDistinct (footprint r) → Has r.removals q → remade c r q x ≡ None
+remade_removed : (c : Map) (r : RecordValue) (q : List ℕ) (x : Option ObjectValue) → AreDistinct (footprint r) → Has r.removals q → remade c r q x ≡ None
 remade_removed c r q x apart has =
     ap (λ (b : Bool). placed_at c r.group 0 r.placements q (cond b None x)) (in_if_has r.removals q has)
     ∙ placed_other c r.group 0 r.placements q None (λ k. (distinct_parts r.removals (map path_of r.placements) apart).0 q has k)
 
-remade_placed : (c : Map) (r : Content) (j : ℕ) (p : Placement) (x : Option Thing) → AreDistinct (footprint r) → slice_get r.placements j ≡ Some p → remade c r p.path x ≡ c (stage_path r.group j)
+remade_placed : (c : Map) (r : RecordValue) (j : ℕ) (p : Placement) (x : Option ObjectValue) → AreDistinct (footprint r) → slice_get r.placements j ≡ Some p → remade c r p.path x ≡ c (stage_path r.group j)
 remade_placed c r j p x apart at =
     let plus : 0 + j ≡ j = omega arith in
     placed_hit c r.group 0 r.placements j p (cond (is_in r.removals p.path) None x) (distinct_parts r.removals (map path_of r.placements) apart).1 at ∙ ap (λ (k : ℕ). c (stage_path r.group k)) plus
 
 -- ---- all records at a path
 
-rebuilt_other : (c : Map) (rs : List Content) (q : List ℕ) (x : Option Thing) → ((r : Content) → Has rs r → Has (footprint r) q → ⊥) → rebuilt c rs q x ≡ x
+rebuilt_other : (c : Map) (rs : List RecordValue) (q : List ℕ) (x : Option ObjectValue) → ((r : RecordValue) → Has rs r → Has (footprint r) q → ⊥) → rebuilt c rs q x ≡ x
 rebuilt_other c [] q x h = refl
 rebuilt_other c (r ∷ rs) q x h = ap (rebuilt c rs q) (remade_other c r q x (h r (inl refl))) ∙ rebuilt_other c rs q x (λ s k. h s (inr k))
 
 -- at a path of one record, it is what that record makes
-rebuilt_mine : (c : Map) (taken : List (List ℕ)) (rs : List Content) (q : List ℕ) (x y : Option Thing) → AreApart taken rs → (r : Content) → Has rs r → Has (footprint r) q
-    → ((z : Option Thing) → remade c r q z ≡ y) → rebuilt c rs q x ≡ y
+rebuilt_mine : (c : Map) (taken : List (List ℕ)) (rs : List RecordValue) (q : List ℕ) (x y : Option ObjectValue) → AreApart taken rs → (r : RecordValue) → Has rs r → Has (footprint r) q
+    → ((z : Option ObjectValue) → remade c r q z ≡ y) → rebuilt c rs q x ≡ y
 rebuilt_mine c taken [] q x y apart r has mine makes = absurd has
 rebuilt_mine c taken (s ∷ rs) q x y apart r (inl e) mine makes =
-    let here : Has (taken ++ footprint s) q = has-append_right taken (footprint s) q (subst (λ (z : Content). Has (footprint z) q) (sym e) mine) in
-    ap (rebuilt c rs q) (ap (λ (z : Content). remade c z q x) e ∙ makes x) ∙ rebuilt_other c rs q y (later_free (taken ++ footprint s) rs q apart.1 here)
+    let here : Has (taken ++ footprint s) q = has-append_right taken (footprint s) q (subst (λ (z : RecordValue). Has (footprint z) q) (sym e) mine) in
+    ap (rebuilt c rs q) (ap (λ (z : RecordValue). remade c z q x) e ∙ makes x) ∙ rebuilt_other c rs q y (later_free (taken ++ footprint s) rs q apart.1 here)
 rebuilt_mine c taken (s ∷ rs) q x y apart r (inr k) mine makes = rebuilt_mine c (taken ++ footprint s) rs q (remade c s q x) y apart.1 r k mine makes
 
-distinct_of : (taken : List (List ℕ)) (rs : List Content) → AreApart taken rs → (r : Content) → Has rs r → AreDistinct (footprint r)
+distinct_of : (taken : List (List ℕ)) (rs : List RecordValue) → AreApart taken rs → (r : RecordValue) → Has rs r → AreDistinct (footprint r)
 distinct_of taken [] apart r has = absurd has
-distinct_of taken (s ∷ rs) apart r (inl e) = subst (λ (z : Content). AreDistinct (footprint z)) e apart.0.distinct
+distinct_of taken (s ∷ rs) apart r (inl e) = subst (λ (z : RecordValue). AreDistinct (footprint z)) e apart.0.distinct
 distinct_of taken (s ∷ rs) apart r (inr k) = distinct_of (taken ++ footprint s) rs apart.1 r k
 
-at_removed : (c : Map) (rs : List Content) (q : List ℕ) → AreApart [] rs → (r : Content) → Has rs r → Has r.removals q → rebuilt c rs q (c q) ≡ None
+at_removed : (c : Map) (rs : List RecordValue) (q : List ℕ) → AreApart [] rs → (r : RecordValue) → Has rs r → Has r.removals q → rebuilt c rs q (c q) ≡ None
 at_removed c rs q apart r has mine =
     rebuilt_mine c [] rs q (c q) None apart r has (has-append_left r.removals (map path_of r.placements) q mine) (λ z. remade_removed c r q z (distinct_of [] rs apart r has) mine)
 
-at_placed : (c : Map) (rs : List Content) → AreApart [] rs → (r : Content) → Has rs r → (j : ℕ) (p : Placement) → slice_get r.placements j ≡ Some p → rebuilt c rs p.path (c p.path) ≡ c (stage_path r.group j)
+at_placed : (c : Map) (rs : List RecordValue) → AreApart [] rs → (r : RecordValue) → Has rs r → (j : ℕ) (p : Placement) → slice_get r.placements j ≡ Some p → rebuilt c rs p.path (c p.path) ≡ c (stage_path r.group j)
 at_placed c rs apart r has j p at =
     rebuilt_mine c [] rs p.path (c p.path) (c (stage_path r.group j)) apart r has (has-append_right r.removals (map path_of r.placements) p.path (has_placed r.placements j p at)) (λ z. remade_placed c r j p z (distinct_of [] rs apart r has) at)
 
-outer : (c : Map) (rs : List Content) (q : List ℕ) (y : Option Thing) → is_below jobs q ≡ false → rebuilt c rs q (c q) ≡ y → recovered_by c rs q ≡ y
+outer : (c : Map) (rs : List RecordValue) (q : List ℕ) (y : Option ObjectValue) → is_below jobs q ≡ false → rebuilt c rs q (c q) ≡ y → recovered_by c rs q ≡ y
 outer c rs q y over e = ap (λ (b : Bool). cond b None (rebuilt c rs q (c q))) over ∙ e
 
 -- the map of the records is what recovery makes
-pub recovered_is : (c : Map) (rs : List Content) → judged_open c ≡ Ok rs → IsRecovered c (recovered_by c rs)
+pub recovered_is : (c : Map) (rs : List RecordValue) → judged_open c ≡ Ok rs → IsRecovered c (recovered_by c rs)
 unfolding judged_open
 recovered_is c rs h =
     let apart = apart_of c [] (open_groups c) rs h in
@@ -172,18 +172,18 @@ recovered_is c rs h =
     }
 
 -- whether a path is of some record
-whose : (rs : List Content) (q : List ℕ) → ((r : Content) × Has rs r × Has (footprint r) q) ⊎ ((r : Content) → Has rs r → Has (footprint r) q → ⊥)
+whose : (rs : List RecordValue) (q : List ℕ) → ((r : RecordValue) × Has rs r × Has (footprint r) q) ⊎ ((r : RecordValue) → Has rs r → Has (footprint r) q → ⊥)
 whose [] q = inr (λ r has mine. has)
 whose (s ∷ rs) q = pick (is_in (footprint s) q) refl (whose rs q)
   where
     not_here : is_in (footprint s) q ≡ false → Has (footprint s) q → ⊥
     not_here e has = let t = in_if_has (footprint s) q has in cc
 
-    pick : (b : Bool) → is_in (footprint s) q ≡ b → (((r : Content) × Has rs r × Has (footprint r) q) ⊎ ((r : Content) → Has rs r → Has (footprint r) q → ⊥))
-        → ((r : Content) × Has (s ∷ rs) r × Has (footprint r) q) ⊎ ((r : Content) → Has (s ∷ rs) r → Has (footprint r) q → ⊥)
+    pick : (b : Bool) → is_in (footprint s) q ≡ b → (((r : RecordValue) × Has rs r × Has (footprint r) q) ⊎ ((r : RecordValue) → Has rs r → Has (footprint r) q → ⊥))
+        → ((r : RecordValue) × Has (s ∷ rs) r × Has (footprint r) q) ⊎ ((r : RecordValue) → Has (s ∷ rs) r → Has (footprint r) q → ⊥)
     pick true e rest = inl (s, inl refl, has_if_in (footprint s) q e)
     pick false e (inl k) = inl (k.0, inr k.1, k.2)
-    pick false e (inr none) = inr (λ r has mine. elim has [ inl same ↦ not_here e (subst (λ (z : Content). Has (footprint z) q) (sym same) mine) | inr k ↦ none r k mine ])
+    pick false e (inr none) = inr (λ r has mine. elim has [ inl same ↦ not_here e (subst (λ (z : RecordValue). Has (footprint z) q) (sym same) mine) | inr k ↦ none r k mine ])
 
 -- each map that recovery may make is that of the records
 pub is_recovered : (c m : Map) (h : IsRecovered c m) (q : List ℕ) → m q ≡ recovered_by c h.records q
@@ -193,7 +193,7 @@ is_recovered c m h q = go (is_below jobs q) refl
     apart : AreApart [] h.records
     apart = apart_of c [] (open_groups c) h.records h.form
 
-    mine : (r : Content) → Has h.records r → (Has r.removals q ⊎ Has (map path_of r.placements) q) → m q ≡ rebuilt c h.records q (c q)
+    mine : (r : RecordValue) → Has h.records r → (Has r.removals q ⊎ Has (map path_of r.placements) q) → m q ≡ rebuilt c h.records q (c q)
     mine r has (inl k) = h.removed r has q k ∙ sym (at_removed c h.records q apart r has k)
     mine r has (inr k) =
         let at = placed_has r.placements q k in
@@ -207,10 +207,10 @@ is_recovered c m h q = go (is_below jobs q) refl
     go true e = h.cleared q e ∙ sym (ap (λ (b : Bool). cond b None (rebuilt c h.records q (c q))) e)
     go false e = there e ∙ sym (ap (λ (b : Bool). cond b None (rebuilt c h.records q (c q))) e)
 
-pub some_recovered : (c : Map) (rs : List Content) → judged_open c ≡ Ok rs → (m : Map) × IsRecovered c m
+pub some_recovered : (c : Map) (rs : List RecordValue) → judged_open c ≡ Ok rs → (m : Map) × IsRecovered c m
 some_recovered c rs h = (recovered_by c rs, recovered_is c rs h)
 
 pub recovered_once : (c m n : Map) → IsRecovered c m → IsRecovered c n → (q : List ℕ) → m q ≡ n q
 recovered_once c m n h k q =
     let same : h.records ≡ k.records = same_records h.records k.records (sym h.form ∙ k.form) in
-    is_recovered c m h q ∙ ap (λ (rs : List Content). recovered_by c rs q) same ∙ sym (is_recovered c n k q)
+    is_recovered c m h q ∙ ap (λ (rs : List RecordValue). recovered_by c rs q) same ∙ sym (is_recovered c n k q)

@@ -1,20 +1,20 @@
--- When the open groups of an image are in form, and the first that isn't.
+-- When the open groups of a crash image are in form, and the first that isn't.
 use Rattle.std.specs.Prelude.{◌≡◌, ◌==◌, ◌<◌, ◌^◌, ◌&&◌, ◌||◌, ◌++◌, ℕ, suc, Bool, true, false, not, length, map, List, [], ◌∷◌, Option, Some, None, Result, Ok, Err, bytes_eq, slice_get, if◌then◌else◌, ⊤}
 use Rattle.std.specs.List.{list_any}
 use Rattle.basics.specs.Members.{AreDistinct, Has}
 use Rattle.file_tree.specs.Disk.{Map}
 use Rattle.file_tree.specs.Paths.{is_below}
-use Rattle.file_tree.specs.Thing.{Thing}
+use Rattle.file_tree.specs.ObjectValue.{ObjectValue}
 use Rattle.md5.specs.Md5.{md5}
-use Rattle.merge_record.specs.Content.{Content}
+use Rattle.merge_record.specs.RecordValue.{RecordValue}
 use Rattle.journal.specs.Names.{jobs, record_path, stage_path}
 use Rattle.journal.specs.Open.{open_groups}
 use Rattle.merge_record.specs.Reading.{record_of}
 use Rattle.merge_record.specs.Spelling.{byte_of}
 use Rattle.journal.specs.declared.fault.JudgeFault.{JudgeFault}
 use Rattle.journal.specs.declared.fault.JudgeFault.TheVariants as faults
-use Rattle.merge_record.specs.declared.fault.RecordFault.{RecordFault}
-use Rattle.merge_record.specs.declared.fault.RecordFault.TheVariants as record_faults
+use Rattle.merge_record.specs.declared.fault.DecodeFault.{DecodeFault}
+use Rattle.merge_record.specs.declared.fault.DecodeFault.TheVariants as record_faults
 use Rattle.merge_record.specs.declared.record.Placement.{Placement}
 
 infixl 10 ◌>>=◌
@@ -38,7 +38,7 @@ abbrev pub path_of : Placement → List ℕ
 path_of p = p.path
 
 -- the paths of a record, its removals and then its placements
-abbrev pub footprint : Content → List (List ℕ)
+abbrev pub footprint : RecordValue → List (List ℕ)
 footprint r = r.removals ++ map path_of r.placements
 
 -- a path that neither meets the journal nor is taken
@@ -51,23 +51,23 @@ are_free taken [] = true
 are_free taken (p ∷ ps) = is_free taken p && are_free (p ∷ taken) ps
 
 -- an object of the recorded kind, length and digest
-unfoldable pub is_staged : Option Thing → Placement → Bool
+unfoldable pub is_staged : Option ObjectValue → Placement → Bool
 is_staged None p = false
 is_staged (Some o) p = (byte_of o.kind == byte_of p.kind) &&
     ((length o.bytes == p.length) && bytes_eq (md5 o.bytes) p.md5)
 
 -- the record that an object is; whatever object stands there, its bytes are read
-unfoldable pub record_in : Option Thing → Result Content RecordFault
+unfoldable pub record_in : Option ObjectValue → Result RecordValue DecodeFault
 record_in None = Err record_faults.Short
 record_in (Some o) = record_of o.bytes
 
 -- what was read, as the verdict on a group
-unfoldable pub record_read : ℕ → Result Content RecordFault → Result Content JudgeFault
+unfoldable pub record_read : ℕ → Result RecordValue DecodeFault → Result RecordValue JudgeFault
 record_read g (Ok r) = Ok r
 record_read g (Err e) = Err (faults.BadRecord g)
 
 -- the record is the group's, and its paths are free
-unfoldable pub paths_judged : List (List ℕ) → ℕ → Content → Result ⊤ JudgeFault
+unfoldable pub paths_judged : List (List ℕ) → ℕ → RecordValue → Result ⊤ JudgeFault
 paths_judged taken g r =
     if (r.group == g) && are_free taken (footprint r) then Ok tt else Err (faults.BadRecord g)
 
@@ -79,7 +79,7 @@ stages_judged c g i (p ∷ ps) = if is_staged (c (stage_path g i)) p then stages
 
 -- the record of an open group that is in form, or why it isn't, where these paths are taken by
 -- lower groups
-unfoldable pub judged : Map → List (List ℕ) → ℕ → Result Content JudgeFault
+unfoldable pub judged : Map → List (List ℕ) → ℕ → Result RecordValue JudgeFault
 judged c taken g = do
   r ← record_read g (record_in (c (record_path g)))
   free ← paths_judged taken g r
@@ -87,7 +87,7 @@ judged c taken g = do
   Ok r
 
 -- the records of these groups, or the first fault
-unfoldable pub judged_all : Map → List (List ℕ) → List ℕ → Result (List Content) JudgeFault
+unfoldable pub judged_all : Map → List (List ℕ) → List ℕ → Result (List RecordValue) JudgeFault
 judged_all c taken [] = Ok []
 judged_all c taken (g ∷ gs) = do
   r ← judged c taken g
@@ -95,12 +95,12 @@ judged_all c taken (g ∷ gs) = do
   Ok (r ∷ rs)
 
 -- the records of the open groups, or the first fault
-unfoldable pub judged_open : Map → Result (List Content) JudgeFault
+unfoldable pub judged_open : Map → Result (List RecordValue) JudgeFault
 judged_open c = judged_all c [] (open_groups c)
 
 -- the paths of each record are apart and outside the journal, and its stages have numbers
-abbrev pub AreApplicable : List Content → Type 0
-AreApplicable rs = (r : Content) → Has rs r →
+abbrev pub AreApplicable : List RecordValue → Type 0
+AreApplicable rs = (r : RecordValue) → Has rs r →
     (are_free [] (footprint r) ≡ true) × (length r.placements < 2 ^ 32)
 
 -- what a call answered, seen by view, is the verdict, unless the device failed or memory ran out
@@ -114,8 +114,8 @@ Agrees view (Ok x) verdict = verdict ≡ Ok (view x)
 Agrees view (Err e) verdict = Misses e verdict
 
 -- an object as a placement tells it
-pub record IsStaged (x : Option Thing) (p : Placement) : Type 0 where
-  pub object : Thing
+pub record IsStaged (x : Option ObjectValue) (p : Placement) : Type 0 where
+  pub object : ObjectValue
   pub there : x ≡ Some object
   pub kind : object.kind ≡ p.kind
   pub size : length object.bytes ≡ p.length
@@ -123,7 +123,7 @@ pub record IsStaged (x : Option Thing) (p : Placement) : Type 0 where
 
 -- a group whose gate is open is in form, with this record, where these paths are taken by lower
 -- groups
-pub record IsGroupInForm (c : Map) (taken : List (List ℕ)) (g : ℕ) (r : Content) : Type 0 where
+pub record IsGroupInForm (c : Map) (taken : List (List ℕ)) (g : ℕ) (r : RecordValue) : Type 0 where
   pub reads : record_in (c (record_path g)) ≡ Ok r
   pub number : r.group ≡ g
   pub distinct : AreDistinct (footprint r)

@@ -1,13 +1,13 @@
--- Which groups an image of the disk has open.
+-- Which groups a crash image of the disk has open.
 use Rattle.std.specs.Prelude.{◌==◌, ◌<◌, ◌&&◌, ◌++◌, ◌^◌, ℕ, zero, suc, Bool, false, List, [], ◌∷◌, Option, Some, None, bytes_eq, ⊤, if◌then◌else◌}
 use Rattle.basics.specs.Members.{Has}
 use Rattle.file_tree.specs.Disk.{Map}
-use Rattle.file_tree.specs.Thing.{Thing}
+use Rattle.file_tree.specs.ObjectValue.{ObjectValue}
 use Rattle.journal.specs.Names.{gate_path}
 use Rattle.merge_record.specs.Spelling.{byte_of}
 
 -- a plain file of just the byte 1
-abbrev pub is_open : Option Thing → Bool
+abbrev pub is_open : Option ObjectValue → Bool
 is_open None = false
 is_open (Some o) = (byte_of o.kind == 0) && bytes_eq o.bytes (1 ∷ [])
 

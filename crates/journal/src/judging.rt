@@ -12,7 +12,7 @@ use crate::fault::JudgeFault;
 use crate::names::{jobs_folder, record_path, stage_path};
 use crate::taken::TakenPaths;
 use file_tree::{Object, Path, Tree, TreeFault};
-use merge_record::{Placement, Record, RecordFault, byte_of, decode, digest_of};
+use merge_record::{DecodeFault, Placement, Record, byte_of, decode, digest_of};
 use std::alloc::{AllocError, Global};
 
 #[tactic(auto, unfolding(crate::specs::Judging::record_read))]
@@ -23,7 +23,7 @@ fn record_from(alloc: Global, group: u32, bytes: &[u8]) -> Result<Record, JudgeF
 {
     match decode(alloc, bytes) {
         Ok(value) => Ok(value),
-        Err(RecordFault::Memory) => Err(JudgeFault::Tree(TreeFault::Memory)),
+        Err(DecodeFault::Memory) => Err(JudgeFault::Tree(TreeFault::Memory)),
         Err(_) => Err(JudgeFault::BadRecord { group }),
     }
 }

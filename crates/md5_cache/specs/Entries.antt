@@ -14,7 +14,7 @@ use Rattle.pkg_state.specs.Package.{Package}
 use Rattle.md5_cache.specs.Fields.{value_under}
 use Rattle.md5_cache.specs.declared.pair.Pair.{Pair}
 
-pub record Entry : Type 0 where
+pub record CacheEntryValue : Type 0 where
   pub package_is : Package
   pub on : List (List ℕ)
   pub keywords : List (List ℕ)
@@ -52,7 +52,7 @@ pub record TellsNeeds (pairs : List Pair) (p : Package) : Type 0 where
   pub required : expressions.Writes (value_of pairs (codes "REQUIRED_USE")) p.required
 
 -- the pairs tell this entry of the package with this id
-pub record Tells (pairs : List Pair) (id : PackageId) (e : Entry) : Type 0 where
+pub record Tells (pairs : List Pair) (id : PackageId) (e : CacheEntryValue) : Type 0 where
   pub facts : TellsFacts pairs id e.package_is.facts
   pub needs : TellsNeeds pairs e.package_is
   pub on : HasJust e.on (last_is_on (items_of pairs))

@@ -29,9 +29,9 @@ pub struct CacheEntry {
 impl Model for CacheEntry {
     ghost use Rattle.std.specs.Coded.{codes};
     ghost use Rattle.pkg_state.specs.Codes.{trees_code};
-    ghost use Rattle.md5_cache.specs.Entries.{Entry};
+    ghost use Rattle.md5_cache.specs.Entries.{CacheEntryValue};
 
-    ghost Value = { Entry };
+    ghost Value = { CacheEntryValue };
 
     ghost coded = { Prim.hlevel (codes, trees_code) };
 

@@ -9,7 +9,7 @@ use Rattle.merge_core.specs.declared.step.Step.{Step}
 use Rattle.merge_core.specs.declared.step.Step.TheVariants as steps
 use Rattle.merge_core.specs.Core.{standing_in}
 use Rattle.merge_core.specs.Event.{answered}
-use Rattle.merge_core.specs.Keeping.{Keeping, machine_of}
+use Rattle.merge_core.specs.CoreValue.{CoreValue, machine_of}
 use Rattle.merge_core.specs.Phase as pure
 use Rattle.merge_core.specs.Roll.{Machine, Roll, Standing, resting, set, syncs_behind}
 use Rattle.merge_core.specs.Steps.{after, event_of, moved, order_after, syncs_after}
@@ -55,7 +55,7 @@ unset : (xs : List Standing) (order : List Group) (g : ℕ) → g < length xs �
 unset xs order g lt = sym (list_set xs order g (standing_in xs g) lt) ∙ ap (λ ys. roll_by order (standing_in ys)) (set-get_or xs g resting)
 
 -- what is kept is the machine that the event makes
-pub kept : (k : Keeping) (g : ℕ) (s : Step) (ok : Bool) → g < length k.standings → machine_of (after k g s ok) ≡ answered (machine_of k) (event_of g s) ok
+pub kept : (k : CoreValue) (g : ℕ) (s : Step) (ok : Bool) → g < length k.standings → machine_of (after k g s ok) ≡ answered (machine_of k) (event_of g s) ok
 kept k g s ok lt = go s ok where
   sets : (s : Step) (ok : Bool) → machine_of (after k g s ok) ≡ machine_by (syncs_after k g s ok) (not ok || k.stopped) (set (roll_by (order_after k g s ok) (standing_in k.standings)) g (moved s ok k.syncs (standing_in k.standings g)))
   sets s ok = ap (machine_by (syncs_after k g s ok) (not ok || k.stopped)) (list_set k.standings (order_after k g s ok) g (moved s ok k.syncs (standing_in k.standings g)) lt)

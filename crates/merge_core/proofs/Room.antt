@@ -9,7 +9,7 @@ use Rattle.std.specs.Prelude.{slice_set}
 use Rattle.merge_core.specs.declared.step.Step.{Step}
 use Rattle.merge_core.specs.declared.step.Step.TheVariants as steps
 use Rattle.merge_core.specs.Core.{standing_in}
-use Rattle.merge_core.specs.Keeping.{IsCounted}
+use Rattle.merge_core.specs.CoreValue.{IsCounted}
 use Rattle.merge_core.specs.Phase as pure
 use Rattle.merge_core.specs.Roll.{Standing, resting, settled_behind, syncs_behind}
 use Rattle.merge_core.specs.Steps.{IsPhaseFor, enters, is_sync, moved}

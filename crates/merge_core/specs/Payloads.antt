@@ -1,7 +1,7 @@
 -- Steps that bring something: a stage with its object, a record with its removals, and a claim.
 use Rattle.std.specs.Prelude.{◌≡◌, ◌<◌, ◌≤◌, ◌^◌, ◌++◌, ◌||◌, ℕ, Bool, true, false, not, length}
 use Rattle.std.specs.Prelude.{List, [], ◌∷◌, slice_set}
-use Rattle.file_tree.specs.Thing.{Thing, plain}
+use Rattle.file_tree.specs.ObjectValue.{ObjectValue, plain}
 use Rattle.journal.specs.Group.{covers}
 use Rattle.journal.specs.Judging.{are_free, footprint}
 use Rattle.merge_record.specs.Spelling.{spelling}
@@ -10,22 +10,22 @@ use Rattle.merge_core.specs.declared.phase.Phase.{Phase}
 use Rattle.merge_core.specs.declared.refusal.Refusal.{Refusal}
 use Rattle.merge_core.specs.declared.refusal.Refusal.TheVariants as refusals
 use Rattle.merge_core.specs.Core.{standing_in}
-use Rattle.merge_core.specs.Keeping.{Keeping}
+use Rattle.merge_core.specs.CoreValue.{CoreValue}
 use Rattle.merge_core.specs.Phase as pure
 use Rattle.merge_core.specs.Phases.{phase_of}
 use Rattle.merge_core.specs.Roll.{Roll, Standing, group_at, phase_at}
 
 -- there is such a group, and the machine isn't stopped
-abbrev pub IsRunning : Keeping → ℕ → Type 0
+abbrev pub IsRunning : CoreValue → ℕ → Type 0
 IsRunning k g = (g < length k.standings) × (k.stopped ≡ false)
 
 -- the group is there, in this phase, and the machine isn't stopped
-pub record IsAt (k : Keeping) (g : ℕ) (asked : Phase) : Type 0 where
+pub record IsAt (k : CoreValue) (g : ℕ) (asked : Phase) : Type 0 where
   pub running : IsRunning k g
   pub phase : (standing_in k.standings g).phase ≡ phase_of asked
 
 -- why a step that asks for one phase may not come now, where limit says that too much was brought
-abbrev pub IsRefusedAt : Keeping → ℕ → Phase → Type 0 → Refusal → Type 0
+abbrev pub IsRefusedAt : CoreValue → ℕ → Phase → Type 0 → Refusal → Type 0
 IsRefusedAt k g asked limit refusals.OutOfRange = ¬ IsRunning k g
 IsRefusedAt k g asked limit (refusals.WrongPhase has wanted) = IsRunning k g
     × ((standing_in k.standings g).phase ≡ phase_of has) × (wanted ≡ asked)
@@ -35,7 +35,7 @@ IsRefusedAt k g asked limit refusals.Limit = IsAt k g asked × limit
 IsRefusedAt k g asked limit refusals.Memory = IsAt k g asked
 
 -- what is kept with another standing of one group, once a call that makes no sync was answered
-abbrev pub with_answer : Keeping → ℕ → Standing → Bool → Keeping
+abbrev pub with_answer : CoreValue → ℕ → Standing → Bool → CoreValue
 with_answer k g x ok = record {
   standings = slice_set k.standings g x;
   order = k.order;
@@ -44,7 +44,7 @@ with_answer k g x ok = record {
 }
 
 -- the group once the object was handed to its next stage
-abbrev pub with_stage : Bool → ℕ → Placement → Thing → Standing → Standing
+abbrev pub with_stage : Bool → ℕ → Placement → ObjectValue → Standing → Standing
 with_stage true n p o x = record x {
   placements = x.placements ++ p ∷ [];
   objects = x.objects ++ o ∷ [];

@@ -12,7 +12,7 @@ use Rattle.merge_core.specs.declared.step.Step.TheVariants as steps
 use Rattle.merge_core.specs.Event as events
 use Rattle.merge_core.specs.Core.{standing_in}
 use Rattle.merge_core.specs.Event.{Event, MayFollow}
-use Rattle.merge_core.specs.Keeping.{Keeping, machine_of}
+use Rattle.merge_core.specs.CoreValue.{CoreValue, machine_of}
 use Rattle.merge_core.specs.Phase as pure
 use Rattle.merge_core.specs.Phases.{phase_of}
 use Rattle.merge_core.specs.Roll.{Standing, group_of, resting}
@@ -109,19 +109,19 @@ moved s true n x = finished s n x
 moved s false n x = started s n x
 
 -- the count of syncs once the step's call was answered
-abbrev pub syncs_after : Keeping → ℕ → Step → Bool → ℕ
+abbrev pub syncs_after : CoreValue → ℕ → Step → Bool → ℕ
 syncs_after k g s ok =
     if ok && (is_sync s && ((standing_in k.standings g).stamp == k.syncs))
     then suc k.syncs
     else k.syncs
 
 -- the groups in the tree once the step's call was answered
-abbrev pub order_after : Keeping → ℕ → Step → Bool → List Group
+abbrev pub order_after : CoreValue → ℕ → Step → Bool → List Group
 order_after k g steps.SyncPlaced true = k.order ++ group_of g (standing_in k.standings g) ∷ []
 order_after k g s ok = k.order
 
 -- what is kept once the step's call was answered
-abbrev pub after : Keeping → ℕ → Step → Bool → Keeping
+abbrev pub after : CoreValue → ℕ → Step → Bool → CoreValue
 after k g s ok = record {
   standings = slice_set k.standings g (moved s ok k.syncs (standing_in k.standings g));
   order = order_after k g s ok;
@@ -130,17 +130,17 @@ after k g s ok = record {
 }
 
 -- there is such a group, and the machine isn't stopped, or the step is an abandon
-abbrev pub CanCome : Keeping → ℕ → Step → Type 0
+abbrev pub CanCome : CoreValue → ℕ → Step → Type 0
 CanCome k g s = (g < length k.standings) × MayFollow (machine_of k) (event_of g s)
 
 -- the step may come now
-pub record IsTaken (k : Keeping) (g : ℕ) (s : Step) : Type 0 where
+pub record IsTaken (k : CoreValue) (g : ℕ) (s : Step) : Type 0 where
   pub comes : CanCome k g s
   pub phase : IsPhaseFor s (standing_in k.standings g).phase
   pub due : IsDueFor s (standing_in k.standings g)
 
 -- why it may not
-abbrev pub IsRefused : Keeping → ℕ → Step → Refusal → Type 0
+abbrev pub IsRefused : CoreValue → ℕ → Step → Refusal → Type 0
 IsRefused k g s refusals.OutOfRange = ¬ CanCome k g s
 IsRefused k g s (refusals.WrongPhase has asked) = CanCome k g s
     × ((standing_in k.standings g).phase ≡ phase_of has) × (asked ≡ wanted s)

@@ -2,7 +2,7 @@ ghost use Rattle.std.specs.Prelude.{◌≡◌, ◌<◌, ◌≤◌, false, length
 ghost use Rattle.std.specs.Prelude.{◌+◌, ◌++◌, ◌∷◌, [], IsOk, MatchOption, OnErr, OnOk};
 ghost use Rattle.std.specs.Prelude.{vec_capacity, vec_len, if◌then◌else◌};
 ghost use Rattle.merge_core.specs.Event.{Admits, answered, needs_sync};
-ghost use Rattle.merge_core.specs.Keeping.{at_rest, machine_of};
+ghost use Rattle.merge_core.specs.CoreValue.{at_rest, machine_of};
 ghost use Rattle.merge_core.specs.Roll.{idle, phase_at, resting};
 ghost use Rattle.merge_core.specs.Phases.{phase_of};
 ghost use Rattle.merge_core.specs.Steps.{CanCome, IsRefused, IsTaken, after, event_of};
@@ -35,10 +35,10 @@ pub struct Core {
 
 impl Model for Core {
     ghost use Rattle.std.specs.Prelude.{map, vec_capacity, vec_len};
-    ghost use Rattle.merge_core.specs.Keeping.{IsCounted, Keeping};
+    ghost use Rattle.merge_core.specs.CoreValue.{IsCounted, CoreValue};
     ghost use Rattle.merge_core.specs.Roll.{group_of};
 
-    ghost Value = { Keeping };
+    ghost Value = { CoreValue };
 
     ghost invariant = { λ c. IsCounted c.standings.items c.syncs (vec_len c.order)
         (vec_capacity c.order) };

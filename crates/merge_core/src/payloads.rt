@@ -5,7 +5,7 @@ ghost use Rattle.merge_record.specs.Spelling.{IsSpellable, PassesLimit};
 ghost use Rattle.merge_core.specs.Core.{standing_in};
 ghost use Rattle.merge_core.specs.Event.{Admits, Claim, PutRecord, PutStage, answered, in_phase};
 ghost use Rattle.merge_core.specs.Event.{put_content};
-ghost use Rattle.merge_core.specs.Keeping.{machine_of};
+ghost use Rattle.merge_core.specs.CoreValue.{machine_of};
 ghost use Rattle.merge_core.specs.Payloads.{IsApart, IsAt, IsFull, IsRefusedAt, IsRunning};
 ghost use Rattle.merge_core.specs.Payloads.{with_answer, with_claim, with_record, with_stage};
 ghost use Rattle.merge_core.specs.Phase as pure;

@@ -1,16 +1,16 @@
 ghost use Rattle.std.specs.Prelude.{◌≡◌, ◌⊎◌, length, IfErr, IfOk, IsErrOf};
-ghost use Rattle.file_tree.specs.Thing.{plain};
+ghost use Rattle.file_tree.specs.ObjectValue.{plain};
 ghost use Rattle.merge_record.specs.Spelling.{IsSpellable, PassesLimit, spelling};
 ghost use Rattle.merge_core.specs.Core.{standing_in};
 ghost use Rattle.merge_core.specs.Event.{Admits, PutRecord, answered, put_content};
-ghost use Rattle.merge_core.specs.Keeping.{machine_of};
+ghost use Rattle.merge_core.specs.CoreValue.{machine_of};
 ghost use Rattle.merge_core.specs.Payloads.{IsAt, with_answer, with_record};
 
 use crate::machine::Core;
 use crate::phase::Phase;
 use crate::refusal::Refusal;
 use file_tree::{Kind, Object, Path};
-use merge_record::RecordFault;
+use merge_record::DecodeFault;
 use std::alloc::Global;
 
 impl Core {
@@ -39,7 +39,7 @@ impl Core {
                 let kind = Kind::Plain;
                 Ok((removals, Object { kind, bytes }))
             }
-            Err(RecordFault::Limit) => Err(Refusal::Limit),
+            Err(DecodeFault::Limit) => Err(Refusal::Limit),
             Err(_) => Err(Refusal::Memory),
         }
     }

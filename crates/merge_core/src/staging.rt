@@ -5,7 +5,7 @@ ghost use Rattle.file_tree.specs.Disk.{CountsFault};
 ghost use Rattle.journal.specs.Judging.{IsStaged};
 ghost use Rattle.merge_core.specs.Core.{standing_in};
 ghost use Rattle.merge_core.specs.Event.{Admits, Answers, Asks, PutStage, answered};
-ghost use Rattle.merge_core.specs.Keeping.{machine_of};
+ghost use Rattle.merge_core.specs.CoreValue.{machine_of};
 ghost use Rattle.merge_core.specs.Payloads.{IsAt, IsFull, with_answer, with_stage};
 
 use crate::machine::Core;

@@ -6,7 +6,7 @@ use crate::phase::Phase;
 use crate::refusal::Refusal;
 use crate::step::Step;
 use file_tree::{Kind, Object, Path};
-use merge_record::{Placement, Record, RecordFault, encode};
+use merge_record::{DecodeFault, Placement, Record, encode};
 use std::alloc::{AllocError, Global};
 use std::marker::Model;
 use std::mem;
@@ -188,17 +188,17 @@ impl Standing {
         alloc: Global,
         group: u32,
         removals: Vec<Path>,
-    ) -> Result<(Vec<Path>, Vec<u8>), RecordFault>
+    ) -> Result<(Vec<Path>, Vec<u8>), DecodeFault>
         ensures kept { self.new ≡ self.old }
         ensures ok { IfOk result (λ r. (r.0.items ≡ removals.items) ×
             IsSpellable (record
             { group = group; removals = removals.items; placements = self.old.placements }) ×
             (r.1.items ≡ spelling
             (record { group = group; removals = removals.items; placements = self.old.placements }))) }
-        ensures limit { IsErrOf result RecordFault.Limit →
+        ensures limit { IsErrOf result DecodeFault.Limit →
             PassesLimit (record
             { group = group; removals = removals.items; placements = self.old.placements }) }
-        ensures only { IfErr result (λ e. (e ≡ RecordFault.Limit) ⊎ (e ≡ RecordFault.Memory)) }
+        ensures only { IfErr result (λ e. (e ≡ DecodeFault.Limit) ⊎ (e ≡ DecodeFault.Memory)) }
     {
         let placements = mem::replace(&mut self.placements, Vec::new(alloc));
         let record = Record {
@@ -239,7 +239,7 @@ impl Standing {
     {
         let (removals, bytes) = match self.spell(alloc, group, removals) {
             Ok(spelled) => spelled,
-            Err(RecordFault::Limit) => return Err(Refusal::Limit),
+            Err(DecodeFault::Limit) => return Err(Refusal::Limit),
             Err(_) => return Err(Refusal::Memory),
         };
         self.stamp = syncs;

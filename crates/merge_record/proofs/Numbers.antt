@@ -6,7 +6,7 @@ use Rattle.std.proofs.lemmas.List.{append-nil, drop_at, take-append-drop, length
 use Rattle.std.specs.Int.{byte_at}
 use Rattle.byteorder.specs.Endian.{big_from, big_number, big_bytes}
 use Rattle.byteorder.specs.Numbers.{big_from-cons, big_from-lt, big_from-take, big_number-reads_back, length-bytes_high_first}
-use Rattle.merge_record.specs.declared.fault.RecordFault.TheVariants as faults
+use Rattle.merge_record.specs.declared.fault.DecodeFault.TheVariants as faults
 use Rattle.merge_record.specs.Reading.{number_at}
 use Rattle.merge_record.specs.Spelling.{number_text}
 use Rattle.merge_record.proofs.Steps.{IsBytes, IsBytes-drop, IsBytes-take, IsBytes-rest, guard_ok, Takes}

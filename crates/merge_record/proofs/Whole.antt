@@ -10,11 +10,11 @@ use Rattle.file_tree.specs.Paths.{is_path}
 use Rattle.file_tree.specs.declared.limits.TheConstants.{MOST_PATH_BYTES}
 use Rattle.file_tree.specs.declared.objects.Kind.{Kind}
 use Rattle.file_tree.specs.declared.objects.Kind.TheVariants.{Plain, Exec, Link}
-use Rattle.merge_record.specs.Content.{Content}
+use Rattle.merge_record.specs.RecordValue.{RecordValue}
 use Rattle.merge_record.specs.Spelling.{IsPathText, IsPlacement, IsSpellable, byte_of, counted, lead, number_text, path_text, placement_text, spelling}
 use Rattle.merge_record.specs.Reading.{◌>>=◌, Gives, byte_at, bytes_at, count_at, counted_at, fields_at, kind_at, lead_at, many_at, number_at, path_at, placement_at, record_of, size_at}
-use Rattle.merge_record.specs.declared.fault.RecordFault.{RecordFault}
-use Rattle.merge_record.specs.declared.fault.RecordFault.TheVariants as faults
+use Rattle.merge_record.specs.declared.fault.DecodeFault.{DecodeFault}
+use Rattle.merge_record.specs.declared.fault.DecodeFault.TheVariants as faults
 use Rattle.merge_record.specs.declared.limits.TheConstants.{MOST_FILE_BYTES, MOST_GROUP_PATHS, MOST_RECORD_BYTES}
 use Rattle.merge_record.specs.declared.record.Placement.{Placement}
 use Rattle.merge_record.proofs.Numbers.{number_takes, number_again}
@@ -161,7 +161,7 @@ placement_reads n = record { takes = placement_takes n; again = placement_again 
 
 -- ---- many fields behind a count
 
-module _ {A : Type 0} (one : List ℕ → Result (A × List ℕ) RecordFault) (text : A → List ℕ) (Good : A → Type 0) (reads : Reads one text Good) where
+module _ {A : Type 0} (one : List ℕ → Result (A × List ℕ) DecodeFault) (text : A → List ℕ) (Good : A → Type 0) (reads : Reads one text Good) where
   many_takes : (k : ℕ) (bytes : List ℕ) (x : List A × List ℕ) → IsBytes bytes → many_at one k bytes ≡ Ok x → Takes bytes (flat_map text x.0) x.1 × (length x.0 ≡ k) × AllByRecursion Good x.0
   unfolding many_at
   many_takes zero bytes x fits e =
@@ -211,13 +211,13 @@ module _ {A : Type 0} (one : List ℕ → Result (A × List ℕ) RecordFault) (t
 -- ---- the whole
 
 -- what is good of the fields, whatever size they have together
-pub record AreFields (r : Content) : Type 0 where
+pub record AreFields (r : RecordValue) : Type 0 where
   pub group : r.group < 2 ^ 32
   pub removals : AllByRecursion IsPathText r.removals
   pub placements : AllByRecursion IsPlacement r.placements
   pub paths : length r.removals + length r.placements ≤ MOST_GROUP_PATHS
 
-fields_take : (n : ℕ) (bytes : List ℕ) (x : Content × List ℕ) → IsBytes bytes → fields_at n bytes ≡ Ok x → Takes bytes (spelling x.0) x.1 × AreFields x.0
+fields_take : (n : ℕ) (bytes : List ℕ) (x : RecordValue × List ℕ) → IsBytes bytes → fields_at n bytes ≡ Ok x → Takes bytes (spelling x.0) x.1 × AreFields x.0
 unfolding fields_at
 fields_take n bytes x fits e =
     let a = bind_ok (lead_at n lead bytes) (λ rest. number_at 4 rest >>= λ group. counted_at 0 (path_at n) group.1 >>= λ removals. counted_at (length removals.0) (placement_at n) removals.1 >>= λ placements. Ok (record { group = group.0; removals = removals.0; placements = placements.0 }, placements.1)) x e in
@@ -231,10 +231,10 @@ fields_take n bytes x fits e =
     let e2 = Takes-then g.0.1 (counted path_text r.0.0) r.0.1 (counted placement_text p.0.0) p.0.1 t2.0 t3.0 in
     let e1 = Takes-then a.0 (number_text 4 g.0.0) g.0.1 (counted path_text r.0.0 ++ counted placement_text p.0.0) p.0.1 t1.0 e2 in
     let e0 = Takes-then bytes lead a.0 (number_text 4 g.0.0 ++ (counted path_text r.0.0 ++ counted placement_text p.0.0)) p.0.1 t0 e1 in
-    let made : Content × List ℕ = (record { group = g.0.0; removals = r.0.0; placements = p.0.0 }, p.0.1) in
-    subst (λ (y : Content × List ℕ). Takes bytes (spelling y.0) y.1 × AreFields y.0) (ok_is made x p.2) (e0, record { group = t1.1; removals = t2.2; placements = t3.2; paths = t3.1 })
+    let made : RecordValue × List ℕ = (record { group = g.0.0; removals = r.0.0; placements = p.0.0 }, p.0.1) in
+    subst (λ (y : RecordValue × List ℕ). Takes bytes (spelling y.0) y.1 × AreFields y.0) (ok_is made x p.2) (e0, record { group = t1.1; removals = t2.2; placements = t3.2; paths = t3.1 })
 
-fields_again : (n : ℕ) (r : Content) → AreFields r → fields_at n (spelling r) ≡ Ok (r, [])
+fields_again : (n : ℕ) (r : RecordValue) → AreFields r → fields_at n (spelling r) ≡ Ok (r, [])
 unfolding fields_at
 fields_again n r fits =
     let last = counted placement_text r.placements in
@@ -246,11 +246,11 @@ fields_again n r fits =
     ∙ bind_is (counted_at 0 (path_at n) mid) (r.removals, last) (λ removals. counted_at (length removals.0) (placement_at n) removals.1 >>= λ placements. Ok (record { group = r.group; removals = removals.0; placements = placements.0 }, placements.1)) (counted_again (path_at n) path_text IsPathText (path_reads n) 0 r.removals last paths fits.removals)
     ∙ bind_is (counted_at (length r.removals) (placement_at n) last) (r.placements, []) (λ placements. Ok (record { group = r.group; removals = r.removals; placements = placements.0 }, placements.1)) placed
 
-unless_ok : {A : Type 0} (b : Bool) (e : RecordFault) (r : Result A RecordFault) (x : A) → cond b (Err e) r ≡ Ok x → (b ≡ false) × (r ≡ Ok x)
+unless_ok : {A : Type 0} (b : Bool) (e : DecodeFault) (r : Result A DecodeFault) (x : A) → cond b (Err e) r ≡ Ok x → (b ≡ false) × (r ≡ Ok x)
 unless_ok true e r x h = absurd cc
 unless_ok false e r x h = (refl, h)
 
-pub record_takes : (bytes : List ℕ) (r : Content) → IsBytes bytes → record_of bytes ≡ Ok r → IsSpellable r × (bytes ≡ spelling r)
+pub record_takes : (bytes : List ℕ) (r : RecordValue) → IsBytes bytes → record_of bytes ≡ Ok r → IsSpellable r × (bytes ≡ spelling r)
 unfolding record_of
 record_takes bytes r fits e =
     let u = unless_ok (ltb MOST_RECORD_BYTES (length bytes)) faults.Limit (fields_at (length bytes) bytes >>= λ all. cond (eqb (length all.1) 0) (Ok all.0) (Err faults.Trailing)) r e in
@@ -262,24 +262,24 @@ record_takes bytes r fits e =
     let small : length bytes ≤ MOST_RECORD_BYTES = ltb-false _ _ u.0 in
     let size : length (spelling a.0.0) ≤ MOST_RECORD_BYTES = subst (λ (b : List ℕ). length b ≤ MOST_RECORD_BYTES) whole small in
     let good : IsSpellable a.0.0 = record { group = t.1.group; removals = t.1.removals; placements = t.1.placements; paths = t.1.paths; bytes = size } in
-    subst (λ (y : Content). IsSpellable y × (bytes ≡ spelling y)) p.1 (good, whole)
+    subst (λ (y : RecordValue). IsSpellable y × (bytes ≡ spelling y)) p.1 (good, whole)
 
-pub record_again : (r : Content) → IsSpellable r → record_of (spelling r) ≡ Ok r
+pub record_again : (r : RecordValue) → IsSpellable r → record_of (spelling r) ≡ Ok r
 unfolding record_of
 record_again r fits =
     let within : ltb MOST_RECORD_BYTES (length (spelling r)) ≡ false = le-ltb _ _ fits.bytes in
     let fields = fields_again (length (spelling r)) r (record { group = fits.group; removals = fits.removals; placements = fits.placements; paths = fits.paths }) in
     rw within (bind_is (fields_at (length (spelling r)) (spelling r)) (r, []) (λ all. cond (eqb (length all.1) 0) (Ok all.0) (Err faults.Trailing)) fields)
 
-pub is_found : (bytes : List ℕ) (r : Result Content RecordFault) → IsBytes bytes → Gives (λ x. x) r (record_of bytes) → IfOk r (λ x. IsSpellable x × (bytes ≡ spelling x))
+pub is_found : (bytes : List ℕ) (r : Result RecordValue DecodeFault) → IsBytes bytes → Gives (λ x. x) r (record_of bytes) → IfOk r (λ x. IsSpellable x × (bytes ≡ spelling x))
 is_found bytes (Ok x) fits given = record_takes bytes x fits given
 is_found bytes (Err e) fits given = tt
 
-abbrev read_as : Content → Result Content RecordFault
+abbrev read_as : RecordValue → Result RecordValue DecodeFault
 read_as r = Ok r
 
-same_content : (r s : Content) → read_as r ≡ read_as s → r ≡ s
+same_content : (r s : RecordValue) → read_as r ≡ read_as s → r ≡ s
 same_content r s e = cc
 
-pub spelling-injective : (r s : Content) → IsSpellable r → IsSpellable s → spelling r ≡ spelling s → r ≡ s
+pub spelling-injective : (r s : RecordValue) → IsSpellable r → IsSpellable s → spelling r ≡ spelling s → r ≡ s
 spelling-injective r s fr fs e = same_content r s (sym (record_again r fr) ∙ ap record_of e ∙ record_again s fs)

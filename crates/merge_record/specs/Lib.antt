@@ -1,3 +1,3 @@
-pub mod Content
 pub mod Reading
+pub mod RecordValue
 pub mod Spelling

@@ -6,7 +6,7 @@ use Rattle.byteorder.specs.Endian.{big_bytes}
 use Rattle.file_tree.specs.Paths.{is_path}
 use Rattle.file_tree.specs.declared.objects.Kind.{Kind}
 use Rattle.file_tree.specs.declared.objects.Kind.TheVariants.{Plain, Exec, Link}
-use Rattle.merge_record.specs.Content.{Content}
+use Rattle.merge_record.specs.RecordValue.{RecordValue}
 use Rattle.merge_record.specs.declared.record.Placement.{Placement}
 use Rattle.merge_record.specs.declared.limits.TheConstants.{MOST_FILE_BYTES, MOST_GROUP_PATHS, MOST_RECORD_BYTES}
 
@@ -36,7 +36,7 @@ abbrev pub counted : {A : Type 0} → (A → List ℕ) → List A → List ℕ
 counted text xs = number_text 4 (length xs) ++ flat_map text xs
 
 -- the fixed bytes, the group, the removals and the placements
-abbrev pub spelling : Content → List ℕ
+abbrev pub spelling : RecordValue → List ℕ
 spelling r = lead ++
     (number_text 4 r.group ++ (counted path_text r.removals ++ counted placement_text r.placements))
 
@@ -50,7 +50,7 @@ pub record IsPlacement (p : Placement) : Type 0 where
   pub digest : length p.md5 ≡ 16
 
 -- what has a spelling
-pub record IsSpellable (r : Content) : Type 0 where
+pub record IsSpellable (r : RecordValue) : Type 0 where
   pub group : r.group < 2 ^ 32
   pub removals : AllByRecursion IsPathText r.removals
   pub placements : AllByRecursion IsPlacement r.placements
@@ -58,7 +58,7 @@ pub record IsSpellable (r : Content) : Type 0 where
   pub bytes : length (spelling r) ≤ MOST_RECORD_BYTES
 
 -- too many bytes, too many paths, or a file that is too long
-abbrev pub PassesLimit : Content → Type 0
+abbrev pub PassesLimit : RecordValue → Type 0
 PassesLimit r =
     (MOST_RECORD_BYTES < length (spelling r)) ⊎
     ((MOST_GROUP_PATHS < length r.removals + length r.placements) ⊎

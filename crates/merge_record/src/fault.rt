@@ -4,7 +4,7 @@ use thiserror::Error;
 /// Why bytes are no record, the first fault from the left. A place is counted from 0. `encode`
 /// answers `Limit` and `Memory` alone.
 #[derive(Debug, Drop, Error)]
-pub enum RecordFault {
+pub enum DecodeFault {
     #[error("the record ends early")]
     Short,
     #[error("a byte that no record has, at {at}")]
@@ -20,24 +20,24 @@ pub enum RecordFault {
     Memory,
 }
 
-impl From<AllocError> for RecordFault {
+impl From<AllocError> for DecodeFault {
     ghost use Rattle.std.specs.Prelude.{◌≡◌};
-    ghost use Rattle.merge_record.specs.declared.fault.RecordFault.TheVariants as faults;
+    ghost use Rattle.merge_record.specs.declared.fault.DecodeFault.TheVariants as faults;
 
     ghost from_gives = { λ _ e. e ≡ faults.Memory };
 
-    fn from(_: AllocError) -> RecordFault {
-        RecordFault::Memory
+    fn from(_: AllocError) -> DecodeFault {
+        DecodeFault::Memory
     }
 }
 
-impl<T: Drop> From<AllocFailed<T>> for RecordFault {
+impl<T: Drop> From<AllocFailed<T>> for DecodeFault {
     ghost use Rattle.std.specs.Prelude.{◌≡◌};
-    ghost use Rattle.merge_record.specs.declared.fault.RecordFault.TheVariants as faults;
+    ghost use Rattle.merge_record.specs.declared.fault.DecodeFault.TheVariants as faults;
 
     ghost from_gives = { λ _ e. e ≡ faults.Memory };
 
-    fn from(_: AllocFailed<T>) -> RecordFault {
-        RecordFault::Memory
+    fn from(_: AllocFailed<T>) -> DecodeFault {
+        DecodeFault::Memory
     }
 }

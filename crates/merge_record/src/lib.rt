@@ -23,7 +23,7 @@ mod record;
 mod writing;
 
 pub use digest::digest_of;
-pub use fault::RecordFault;
+pub use fault::DecodeFault;
 pub use laws::one_spelling;
 pub use limits::{MOST_FILE_BYTES, MOST_GROUP_PATHS, MOST_RECORD_BYTES};
 pub use reading::{decode, path_from};

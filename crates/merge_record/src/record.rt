@@ -27,9 +27,9 @@ pub struct Record {
 }
 
 impl Model for Record {
-    ghost use Rattle.merge_record.specs.Content.{Content};
+    ghost use Rattle.merge_record.specs.RecordValue.{RecordValue};
 
-    ghost Value = { Content };
+    ghost Value = { RecordValue };
 
     ghost view = { λ r. record
         { group = r.group; removals = r.removals.items; placements = r.placements.items } };

@@ -5,7 +5,7 @@ ghost use Rattle.merge_record.specs.Spelling.{IsSpellable, IsPathText, PassesLim
 ghost use Rattle.merge_record.specs.Spelling.{lead, number_text, path_text, placement_text};
 ghost use Rattle.merge_record.specs.Spelling.{spelling};
 
-use crate::fault::RecordFault;
+use crate::fault::DecodeFault;
 use crate::limits::{LEAD, MOST_FILE_BYTES, MOST_GROUP_PATHS, MOST_RECORD_BYTES};
 use crate::reading::decode;
 use crate::record::{Placement, Record};
@@ -128,31 +128,31 @@ fn has_long(placements: &[Placement]) -> bool
 }
 
 /// The one spelling of the record. It is spelled before its size is known.
-pub fn encode(alloc: Global, value: &Record) -> Result<Vec<u8>, RecordFault>
+pub fn encode(alloc: Global, value: &Record) -> Result<Vec<u8>, DecodeFault>
     ensures ok { IfOk result (λ v. (v.items ≡ spelling value.now) × IsSpellable value.now) }
-    ensures limit { IsErrOf result RecordFault.Limit → PassesLimit value.now }
-    ensures only { IfErr result (λ e. (e ≡ RecordFault.Limit) ⊎ (e ≡ RecordFault.Memory)) }
+    ensures limit { IsErrOf result DecodeFault.Limit → PassesLimit value.now }
+    ensures only { IfErr result (λ e. (e ≡ DecodeFault.Limit) ⊎ (e ≡ DecodeFault.Memory)) }
 {
     let removals = value.removals.as_slice();
     let placements = value.placements.as_slice();
     if removals.len().saturating_add(placements.len()) > MOST_GROUP_PATHS {
-        return Err(RecordFault::Limit);
+        return Err(DecodeFault::Limit);
     }
     if has_long(placements) {
-        return Err(RecordFault::Limit);
+        return Err(DecodeFault::Limit);
     }
     let out = spelled(alloc, value.group, removals, placements)?;
     if out.len() > MOST_RECORD_BYTES {
-        return Err(RecordFault::Limit);
+        return Err(DecodeFault::Limit);
     }
     Ok(out)
 }
 
 /// A record that is spelled and read is the same record.
-pub fn decode_encode(alloc: Global, value: &Record) -> Result<Record, RecordFault>
+pub fn decode_encode(alloc: Global, value: &Record) -> Result<Record, DecodeFault>
     ensures same { IfOk result (λ r. r ≡ value.now) }
-    ensures limit { IsErrOf result RecordFault.Limit → PassesLimit value.now }
-    ensures only { IfErr result (λ e. (e ≡ RecordFault.Limit) ⊎ (e ≡ RecordFault.Memory)) }
+    ensures limit { IsErrOf result DecodeFault.Limit → PassesLimit value.now }
+    ensures only { IfErr result (λ e. (e ≡ DecodeFault.Limit) ⊎ (e ≡ DecodeFault.Memory)) }
 {
     let bytes = encode(alloc, value)?;
     decode(alloc, &bytes)

@@ -5,18 +5,18 @@ use Rattle.std.proofs.lemmas.List.{get_or-set_same, map_push}
 use Rattle.std.proofs.lemmas.Bool.{cases_Bool, cases_eq, cond-false, cond-true, eq-eqb, false≢true, ne_eqb, or_left, or_parts, or_right}
 use Rattle.std.proofs.Math.Bool.{or_comm}
 use Rattle.basics.specs.Members.{Has}
-use Rattle.file_tree.specs.Thing.{Thing}
+use Rattle.file_tree.specs.ObjectValue.{ObjectValue}
 use Rattle.journal.specs.Judging.{are_free, is_in, path_of}
 use Rattle.merge_record.specs.declared.record.OwnerKey.{OwnerKey}
 use Rattle.merge_record.specs.declared.record.Placement.{Placement}
 use Rattle.journal.proofs.Free.{is_in-append}
 use Rattle.owner_book.specs.Book as books
-use Rattle.owner_book.specs.Book.{AreDisjoint, Book, ChangesClaim, HasOwnersOf, HasSettled, IsClaimedBy, Parts, claim_in, has, is_wished, key_in, owner_in, settled_owner}
+use Rattle.owner_book.specs.Book.{AreDisjoint, Book, ChangesClaim, HasOwnersOf, HasSettled, IsClaimedBy, ClaimValue, claim_in, has, is_wished, key_in, owner_in, settled_owner}
 use Rattle.owner_book.specs.declared.wish.Wish.{Wish}
 use Rattle.journal.specs.Group.{covers}
 use Rattle.merge_core.specs.Core.{standing_in}
 use Rattle.merge_core.specs.Event.{Abandon, Acknowledge, Admits, Begin, Claim, CloseGate, Event, OpenGate, PlacePath, PutRecord, PutStage, PutToken, RemovePath, SyncClosed, SyncGate, SyncPlaced, SyncSealed, answered}
-use Rattle.merge_core.specs.Keeping.{Keeping, at_rest, machine_of}
+use Rattle.merge_core.specs.CoreValue.{CoreValue, at_rest, machine_of}
 use Rattle.merge_core.specs.Payloads.{IsApart}
 use Rattle.merge_core.specs.Phase.{Phase, Idle, Building, Recorded, Marked, Sealed, Claimed, GatePut, Open, Placed, GateTaken, Done, Told, Abandoned, Redo, Redone, Odd, Emptied, is_live, may_end}
 use Rattle.merge_core.specs.Roll.{Machine, Roll, Standing, group_at, phase_at, resting, set}
@@ -152,28 +152,28 @@ done_same es e ok none = groups_push done_by es e ok ∙ (ap (λ (l : List ℕ).
 
 -- ---- settled claims
 
-settled_same : (f f' : ℕ → Parts) (gs : List ℕ) (q : List ℕ) (o : Option OwnerKey) → ((g : ℕ) → Has gs g → f' g ≡ f g) → settled_by f' gs q o ≡ settled_by f gs q o
+settled_same : (f f' : ℕ → ClaimValue) (gs : List ℕ) (q : List ℕ) (o : Option OwnerKey) → ((g : ℕ) → Has gs g → f' g ≡ f g) → settled_by f' gs q o ≡ settled_by f gs q o
 settled_same f f' [] q o same = refl
 settled_same f f' (g ∷ gs) q o same =
-    settled_same f f' gs q (settled_owner (f' g) q o) (λ h has. same h (inr has)) ∙ ap (λ (c : Parts). settled_by f gs q (settled_owner c q o)) (same g (inl refl))
+    settled_same f f' gs q (settled_owner (f' g) q o) (λ h has. same h (inr has)) ∙ ap (λ (c : ClaimValue). settled_by f gs q (settled_owner c q o)) (same g (inl refl))
 
-settled_push : (f : ℕ → Parts) (gs : List ℕ) (g : ℕ) (q : List ℕ) (o : Option OwnerKey) → settled_by f (gs ++ g ∷ []) q o ≡ settled_owner (f g) q (settled_by f gs q o)
+settled_push : (f : ℕ → ClaimValue) (gs : List ℕ) (g : ℕ) (q : List ℕ) (o : Option OwnerKey) → settled_by f (gs ++ g ∷ []) q o ≡ settled_owner (f g) q (settled_by f gs q o)
 settled_push f [] g q o = refl
 settled_push f (h ∷ gs) g q o = settled_push f gs g q (settled_owner (f h) q o)
 
 -- ---- one event more
 
-abbrev parts_with : List Wish → List (List ℕ) → Parts
+abbrev parts_with : List Wish → List (List ℕ) → ClaimValue
 parts_with w rs = record { placed = w; removed = rs }
 
-abbrev some_parts : List Wish → List (List ℕ) → Option Parts
+abbrev some_parts : List Wish → List (List ℕ) → Option ClaimValue
 some_parts w rs = Some (parts_with w rs)
 
-abbrev with_parts : List (List Wish) → ℕ → List (List ℕ) → Parts
+abbrev with_parts : List (List Wish) → ℕ → List (List ℕ) → ClaimValue
 with_parts ws g removals = record { placed = wishes_at ws g; removed = removals }
 
 -- an event that moves no claim
-pub booked_on : (k k' : Keeping) (es es' : List trails.Entry) (ws : List (List Wish)) (o b : Book) (e : Event) (ok : Bool) → keeps_book e ok ≡ true → AreFresh k → IsBooked k es ws o b → Admits (machine_of k) e
+pub booked_on : (k k' : CoreValue) (es es' : List trails.Entry) (ws : List (List Wish)) (o b : Book) (e : Event) (ok : Bool) → keeps_book e ok ≡ true → AreFresh k → IsBooked k es ws o b → Admits (machine_of k) e
     → machine_of k' ≡ answered (machine_of k) e ok → length k'.standings ≡ length k.standings → es' ≡ es ++ (e, ok) ∷ [] → IsBooked k' es' ws o b
 booked_on k k' es es' ws o b e ok keeps fresh booked admits goes count log =
     let each : (h : ℕ) → IsBookedAs (machine_of k).roll h (standing_in k'.standings h) = each_kept k k' e ok (IsBookedAs (machine_of k).roll) goes (booked_same (machine_of k) fresh e ok admits keeps) in
@@ -210,18 +210,18 @@ set_count (x ∷ ws) zero w = refl
 set_count (x ∷ ws) (suc g) w = ap suc (set_count ws g w)
 
 -- what the standings of a stage are to the book: those of other groups are as they were
-pub record IsStagedAs (k : Keeping) (g : ℕ) (p : Placement) (h : ℕ) (x : Standing) : Type 0 where
+pub record IsStagedAs (k : CoreValue) (g : ℕ) (p : Placement) (h : ℕ) (x : Standing) : Type 0 where
   pub here : h ≡ g → (x.phase ≡ Building) × (x.placements ≡ (standing_in k.standings g).placements ++ p ∷ [])
   pub there : (h ≡ g → ⊥) → x ≡ standing_in k.standings h
 
-pub staged_as : (k k' : Keeping) (g : ℕ) (p : Placement) (o : Thing) → (standing_in k.standings g).phase ≡ Building → machine_of k' ≡ answered (machine_of k) (PutStage g p o) true → (h : ℕ) → IsStagedAs k g p h (standing_in k'.standings h)
+pub staged_as : (k k' : CoreValue) (g : ℕ) (p : Placement) (o : ObjectValue) → (standing_in k.standings g).phase ≡ Building → machine_of k' ≡ answered (machine_of k) (PutStage g p o) true → (h : ℕ) → IsStagedAs k g p h (standing_in k'.standings h)
 staged_as k k' g p o building goes =
     each_kept k k' (PutStage g p o) true (IsStagedAs k g p) goes
     (by_group (IsStagedAs k g p) (machine_of k).roll g _
     (record { here = λ e. (building, refl); there = λ other. absurd (other refl) })
     (λ h other. record { here = λ e. absurd (other e); there = λ e. refl }))
 
-pub booked_stage : (k k' : Keeping) (es es' : List trails.Entry) (ws : List (List Wish)) (o b : Book) (g : ℕ) (p : Placement) (t : Thing) (w : Wish) → w.path ≡ p.path → IsBooked k es ws o b → g < length k.standings
+pub booked_stage : (k k' : CoreValue) (es es' : List trails.Entry) (ws : List (List Wish)) (o b : Book) (g : ℕ) (p : Placement) (t : ObjectValue) (w : Wish) → w.path ≡ p.path → IsBooked k es ws o b → g < length k.standings
     → (standing_in k.standings g).phase ≡ Building → machine_of k' ≡ answered (machine_of k) (PutStage g p t) true → length k'.standings ≡ length k.standings → es' ≡ es ++ (PutStage g p t, true) ∷ [] → IsBooked k' es' (with_wish ws g w) o b
 booked_stage k k' es es' ws o b g p t w path booked lt building goes count log =
     let each = staged_as k k' g p t building goes in
@@ -272,13 +272,13 @@ booked_stage k k' es es' ws o b g p t w path booked lt building goes count log =
 -- ---- a claim, and its end
 
 -- the standings of a claim or of its end: one group is in another phase
-pub record IsMovedAs (k : Keeping) (g : ℕ) (p : Phase) (h : ℕ) (x : Standing) : Type 0 where
+pub record IsMovedAs (k : CoreValue) (g : ℕ) (p : Phase) (h : ℕ) (x : Standing) : Type 0 where
   pub placements : x.placements ≡ (standing_in k.standings h).placements
   pub removals : x.removals ≡ (standing_in k.standings h).removals
   pub here : h ≡ g → x.phase ≡ p
   pub there : (h ≡ g → ⊥) → x.phase ≡ (standing_in k.standings h).phase
 
-moved_as : (k k' : Keeping) (g : ℕ) (e : Event) (p : Phase) (s : Standing) → machine_of k' ≡ answered (machine_of k) e true → (answered (machine_of k) e true).roll.standing ≡ (set (machine_of k).roll g s).standing
+moved_as : (k k' : CoreValue) (g : ℕ) (e : Event) (p : Phase) (s : Standing) → machine_of k' ≡ answered (machine_of k) e true → (answered (machine_of k) e true).roll.standing ≡ (set (machine_of k).roll g s).standing
     → s.phase ≡ p → s.placements ≡ (standing_in k.standings g).placements → s.removals ≡ (standing_in k.standings g).removals → (h : ℕ) → IsMovedAs k g p h (standing_in k'.standings h)
 moved_as k k' g e p s goes is phase placements removals =
     each_kept k k' e true (IsMovedAs k g p) goes (λ h. subst (λ (f : ℕ → Standing). IsMovedAs k g p h (f h)) (sym is)
@@ -286,27 +286,27 @@ moved_as k k' g e p s goes is phase placements removals =
     (record { placements = placements; removals = removals; here = λ e. phase; there = λ other. absurd (other refl) })
     (λ i other. record { placements = refl; removals = refl; here = λ e. absurd (other e); there = λ e. refl }) h))
 
-parts_same : (k k' : Keeping) (ws : List (List Wish)) (g : ℕ) (p : Phase) → ((h : ℕ) → IsMovedAs k g p h (standing_in k'.standings h)) → (h : ℕ) → parts_of k' ws h ≡ parts_of k ws h
+parts_same : (k k' : CoreValue) (ws : List (List Wish)) (g : ℕ) (p : Phase) → ((h : ℕ) → IsMovedAs k g p h (standing_in k'.standings h)) → (h : ℕ) → parts_of k' ws h ≡ parts_of k ws h
 parts_same k k' ws g p each h = ap (with_parts ws h) (each h).removals
 
-claims_moved : (k k' : Keeping) (ws : List (List Wish)) (b b' : Book) (g : ℕ) (p : Phase) → ((h : ℕ) → claim_in b.claims h ≡ claim_of k ws h) → ((h : ℕ) → IsMovedAs k g p h (standing_in k'.standings h))
+claims_moved : (k k' : CoreValue) (ws : List (List Wish)) (b b' : Book) (g : ℕ) (p : Phase) → ((h : ℕ) → claim_in b.claims h ≡ claim_of k ws h) → ((h : ℕ) → IsMovedAs k g p h (standing_in k'.standings h))
     → ChangesClaim b b' g (cond (is_live p) (Some (parts_of k ws g)) None) → (h : ℕ) → claim_in b'.claims h ≡ claim_of k' ws h
 claims_moved k k' ws b b' g p claims each changes h = elim (cases_eq h g) [
   | inl e ↦
       changes h
       ∙ (cond-true (g == h) _ _ (eq-eqb g h (sym e))
       ∙ (ap (λ (x : ℕ). cond (is_live p) (Some (parts_of k ws x)) None) (sym e)
-      ∙ (ap (λ (c : Parts). cond (is_live p) (Some c) None) (sym (parts_same k k' ws g p each h))
+      ∙ (ap (λ (c : ClaimValue). cond (is_live p) (Some c) None) (sym (parts_same k k' ws g p each h))
       ∙ ap (λ (x : Phase). cond (is_live x) (Some (parts_of k' ws h)) None) (sym ((each h).here e)))))
   | inr other ↦
       changes h
       ∙ (cond-false (g == h) _ _ (ne_eqb g h (λ e. other (sym e)))
       ∙ (claims h
-      ∙ (ap (λ (c : Parts). cond (is_live (standing_in k.standings h).phase) (Some c) None) (sym (parts_same k k' ws g p each h))
+      ∙ (ap (λ (c : ClaimValue). cond (is_live (standing_in k.standings h).phase) (Some c) None) (sym (parts_same k k' ws g p each h))
       ∙ ap (λ (x : Phase). cond (is_live x) (Some (parts_of k' ws h)) None) (sym ((each h).there other)))))
 ]
 
-pub booked_claim : (k k' : Keeping) (es es' : List trails.Entry) (ws : List (List Wish)) (o b b' : Book) (g : ℕ) → IsBooked k es ws o b → (standing_in k.standings g).phase ≡ Sealed → machine_of k' ≡ answered (machine_of k) (Claim g) true
+pub booked_claim : (k k' : CoreValue) (es es' : List trails.Entry) (ws : List (List Wish)) (o b b' : Book) (g : ℕ) → IsBooked k es ws o b → (standing_in k.standings g).phase ≡ Sealed → machine_of k' ≡ answered (machine_of k) (Claim g) true
     → length k'.standings ≡ length k.standings → es' ≡ es ++ (Claim g, true) ∷ [] → HasOwnersOf b b' → ChangesClaim b b' g (Some (parts_of k ws g)) → IsBooked k' es' ws o b'
 booked_claim k k' es es' ws o b b' g booked sealed goes count log owners changes =
     let each = moved_as k k' g (Claim g) Claimed _ goes refl refl refl refl in
@@ -333,8 +333,8 @@ has_last [] g h (inr e) = absurd e
 has_last (x ∷ gs) g h (inl e) = inl (inl e)
 has_last (x ∷ gs) g h (inr e) = elim (has_last gs g h e) [ inl old ↦ inl (inr old) | inr new ↦ inr new ]
 
-pub booked_settle : (k k' : Keeping) (es es' : List trails.Entry) (ws : List (List Wish)) (o b b' : Book) (g : ℕ) → IsBooked k es ws o b → (standing_in k.standings g).phase ≡ GateTaken → machine_of k' ≡ answered (machine_of k) (SyncClosed g) true
-    → length k'.standings ≡ length k.standings → es' ≡ es ++ (SyncClosed g, true) ∷ [] → ((c : Parts) → claim_in b.claims g ≡ Some c → HasSettled b b' c) → ChangesClaim b b' g None → IsBooked k' es' ws o b'
+pub booked_settle : (k k' : CoreValue) (es es' : List trails.Entry) (ws : List (List Wish)) (o b b' : Book) (g : ℕ) → IsBooked k es ws o b → (standing_in k.standings g).phase ≡ GateTaken → machine_of k' ≡ answered (machine_of k) (SyncClosed g) true
+    → length k'.standings ≡ length k.standings → es' ≡ es ++ (SyncClosed g, true) ∷ [] → ((c : ClaimValue) → claim_in b.claims g ≡ Some c → HasSettled b b' c) → ChangesClaim b b' g None → IsBooked k' es' ws o b'
 booked_settle k k' es es' ws o b b' g booked taken goes count log settles changes =
     let each = moved_as k k' g (SyncClosed g) Done _ goes refl refl refl refl in
     let more : groups_of done_by es' ≡ groups_of done_by es ++ g ∷ [] = ap (groups_of done_by) log ∙ groups_push done_by es (SyncClosed g) true in
@@ -377,13 +377,13 @@ wished_path [] q = refl
 wished_path (w ∷ ws) q = is_key (bytes_eq q w.path) w.owner (key_in ws q) (is_in (map books.path_of ws) q) (wished_path ws q)
 
 -- a group has the paths of its claim
-has_covered : (k : Keeping) (ws : List (List Wish)) (h : ℕ) (q : List ℕ) → map books.path_of (wishes_at ws h) ≡ map path_of (standing_in k.standings h).placements → covers (group_at (machine_of k).roll h) q ≡ true → has (parts_of k ws h) q ≡ true
+has_covered : (k : CoreValue) (ws : List (List Wish)) (h : ℕ) (q : List ℕ) → map books.path_of (wishes_at ws h) ≡ map path_of (standing_in k.standings h).placements → covers (group_at (machine_of k).roll h) q ≡ true → has (parts_of k ws h) q ≡ true
 has_covered k ws h q paths covered =
     let s = standing_in k.standings h in
     ap (λ (b : Bool). b || is_in s.removals q) (wished_path (wishes_at ws h) q ∙ ap (λ (l : List (List ℕ)). is_in l q) paths)
     ∙ (or_comm (is_in (map path_of s.placements) q) (is_in s.removals q) ∙ (sym (is_in-append s.removals (map path_of s.placements) q) ∙ covered))
 
-pub claim_apart : (k : Keeping) (es : List trails.Entry) (ws : List (List Wish)) (o b b' : Book) (g : ℕ) → IsBooked k es ws o b → (standing_in k.standings g).phase ≡ Sealed → ChangesClaim b b' g (Some (parts_of k ws g)) → AreDisjoint b'
+pub claim_apart : (k : CoreValue) (es : List trails.Entry) (ws : List (List Wish)) (o b b' : Book) (g : ℕ) → IsBooked k es ws o b → (standing_in k.standings g).phase ≡ Sealed → ChangesClaim b b' g (Some (parts_of k ws g)) → AreDisjoint b'
     → are_free [] (record_paths (standing_in k.standings g).removals (wishes_at ws g)) ≡ true → IsApart (machine_of k).roll g
 claim_apart k es ws o b b' g booked sealed changes disjoint free = record {
   free = subst (λ (l : List (List ℕ)). are_free [] ((standing_in k.standings g).removals ++ l) ≡ true) (booked.paths g) free;
@@ -403,25 +403,25 @@ all_rest zero g = refl
 all_rest (suc n) zero = refl
 all_rest (suc n) (suc g) = all_rest n g
 
-pub opened_booked : (k : Keeping) (n : ℕ) (ws : List (List Wish)) (b : Book) → k ≡ at_rest n → ws ≡ replicate n [] → b.claims ≡ [] → IsBooked k [] ws b b
+pub opened_booked : (k : CoreValue) (n : ℕ) (ws : List (List Wish)) (b : Book) → k ≡ at_rest n → ws ≡ replicate n [] → b.claims ≡ [] → IsBooked k [] ws b b
 opened_booked k n ws b rest none unclaimed =
-    let each : (g : ℕ) → standing_in k.standings g ≡ resting = λ g. ap (λ (x : Keeping). standing_in x.standings g) rest ∙ all_rest n g in
+    let each : (g : ℕ) → standing_in k.standings g ≡ resting = λ g. ap (λ (x : CoreValue). standing_in x.standings g) rest ∙ all_rest n g in
     record {
-      rows = ap length none ∙ (replicate_count n [] ∙ (sym (replicate_count n resting) ∙ ap (λ (x : Keeping). length x.standings) (sym rest)));
+      rows = ap length none ∙ (replicate_count n [] ∙ (sym (replicate_count n resting) ∙ ap (λ (x : CoreValue). length x.standings) (sym rest)));
       paths = λ g.
           ap (λ (l : List (List Wish)). map books.path_of (wishes_at l g)) none
           ∙ (ap (map books.path_of) (unwished n g) ∙ ap (λ (s : Standing). map path_of s.placements) (sym (each g)));
       claims = λ g.
-          ap (λ (cs : List (ℕ × Parts)). claim_in cs g) unclaimed
+          ap (λ (cs : List (ℕ × ClaimValue)). claim_in cs g) unclaimed
           ∙ sym (cond-false (is_live (standing_in k.standings g).phase) _ _ (ap (λ (s : Standing). is_live s.phase) (each g)));
       over = λ g has. absurd has;
       owners = λ q. refl;
     }
 
 -- the book behind the last sync of a group: it is settled where that was answered Ok
-pub booked_end : (k k' : Keeping) (es es' : List trails.Entry) (ws : List (List Wish)) (o b b' : Book) (g : ℕ) (ok : Bool) → AreFresh k → IsBooked k es ws o b → Admits (machine_of k) (SyncClosed g) → (standing_in k.standings g).phase ≡ GateTaken
+pub booked_end : (k k' : CoreValue) (es es' : List trails.Entry) (ws : List (List Wish)) (o b b' : Book) (g : ℕ) (ok : Bool) → AreFresh k → IsBooked k es ws o b → Admits (machine_of k) (SyncClosed g) → (standing_in k.standings g).phase ≡ GateTaken
     → machine_of k' ≡ answered (machine_of k) (SyncClosed g) ok → length k'.standings ≡ length k.standings → es' ≡ es ++ (SyncClosed g, ok) ∷ []
-    → (ok ≡ true → (c : Parts) → claim_in b.claims g ≡ Some c → HasSettled b b' c) → (ok ≡ true → ChangesClaim b b' g None) → (ok ≡ false → b' ≡ b) → IsBooked k' es' ws o b'
+    → (ok ≡ true → (c : ClaimValue) → claim_in b.claims g ≡ Some c → HasSettled b b' c) → (ok ≡ true → ChangesClaim b b' g None) → (ok ≡ false → b' ≡ b) → IsBooked k' es' ws o b'
 booked_end k k' es es' ws o b b' g true fresh booked admits taken goes count log owners claims before = booked_settle k k' es es' ws o b b' g booked taken goes count log (owners refl) (claims refl)
 booked_end k k' es es' ws o b b' g false fresh booked admits taken goes count log owners claims before =
     subst (λ (x : Book). IsBooked k' es' ws o x) (sym (before refl)) (booked_on k k' es es' ws o b (SyncClosed g) false refl fresh booked admits goes count log)

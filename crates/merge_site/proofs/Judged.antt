@@ -13,7 +13,7 @@ use Rattle.owner_book.specs.declared.fault.Collision.TheVariants as collisions
 use Rattle.owner_book.specs.declared.wish.Wish.{Wish}
 use Rattle.merge_record.specs.declared.record.OwnerKey.{OwnerKey}
 use Rattle.merge_core.specs.Core.{standing_in}
-use Rattle.merge_core.specs.Keeping.{Keeping}
+use Rattle.merge_core.specs.CoreValue.{CoreValue}
 use Rattle.merge_core.specs.Payloads.{IsAt}
 use Rattle.merge_core.specs.declared.phase.Phase.TheVariants as phases
 use Rattle.merge_site.specs.Booking.{dying_at, dying_of, lists_of, wishes_at, with_wish}
@@ -126,12 +126,12 @@ list_at (x ∷ vs) zero v lt is = ap (λ (y : Vec (Wish) Global). y.items) (sym 
 list_at (x ∷ vs) (suc g) v lt is = list_at vs g v (omega (arith, lt)) is
 
 -- the three lists that a claim is judged by are those of its group
-pub record AreOfGroup (k : Keeping) (ws : List (List Wish)) (gs : List SiteGroup) (g : ℕ) (d : List OwnerKey) (w : List Wish) (r : List (List ℕ)) : Type 0 where
+pub record AreOfGroup (k : CoreValue) (ws : List (List Wish)) (gs : List SiteGroup) (g : ℕ) (d : List OwnerKey) (w : List Wish) (r : List (List ℕ)) : Type 0 where
   pub dying : d ≡ dying_at gs g
   pub wishes : w ≡ wishes_at ws g
   pub removals : r ≡ (standing_in k.standings g).removals
 
-pub lists_are : (k : Keeping) (vs : List (Vec (Wish) Global)) (gs : List SiteGroup) (g : ℕ) (v : Vec (Wish) Global) (x : SiteGroup) (d : List OwnerKey) (w : List Wish) (r : List (List ℕ)) → IsAt k g phases.Sealed
+pub lists_are : (k : CoreValue) (vs : List (Vec (Wish) Global)) (gs : List SiteGroup) (g : ℕ) (v : Vec (Wish) Global) (x : SiteGroup) (d : List OwnerKey) (w : List Wish) (r : List (List ℕ)) → IsAt k g phases.Sealed
     → length (lists_of vs) ≡ length k.standings → length gs ≡ length k.standings → v ≡ slice_index_or vs g v → w ≡ v.items → x ≡ slice_index_or gs g x → d ≡ x.dying.items → r ≡ (standing_in k.standings g).removals → AreOfGroup k (lists_of vs) gs g d w r
 lists_are k vs gs g v x d w r at rows all wishes lent group dying removals = record {
   dying = dying ∙ sym (ap dying_of (got gs g x (omega (arith, at.running.0, all)) group));
@@ -140,7 +140,7 @@ lists_are k vs gs g v x d w r at rows all wishes lent group dying removals = rec
 }
 
 -- so what is said of them is said of the group's
-pub said_of_group : (P : List OwnerKey → List Wish → List (List ℕ) → Type 0) (k : Keeping) (ws : List (List Wish)) (gs : List SiteGroup) (g : ℕ) (d : List OwnerKey) (w : List Wish) (r : List (List ℕ))
+pub said_of_group : (P : List OwnerKey → List Wish → List (List ℕ) → Type 0) (k : CoreValue) (ws : List (List Wish)) (gs : List SiteGroup) (g : ℕ) (d : List OwnerKey) (w : List Wish) (r : List (List ℕ))
     → AreOfGroup k ws gs g d w r → P d w r → P (dying_at gs g) (wishes_at ws g) (standing_in k.standings g).removals
 said_of_group P k ws gs g d w r are h = said P d _ w _ r _ are.dying are.wishes are.removals h
 

@@ -2,9 +2,9 @@
 use Rattle.std.proofs.Common.{◌≡◌, ◌<◌, ◌++◌, ◌∷◌, ◌^◌, ◌∙◌, ℕ, Bool, false, true, List, [], ap, inl, refl, subst, sym, length, arith}
 use Rattle.std.specs.Prelude.{IsTrue}
 use Rattle.file_tree.specs.Disk.{Story, next, settled, write}
-use Rattle.file_tree.specs.Thing.{Thing}
+use Rattle.file_tree.specs.ObjectValue.{ObjectValue}
 use Rattle.merge_core.specs.Event.{Admits, Answers, Asks, Call, Event, MayFollow, Nothing, Sync, answered, call}
-use Rattle.merge_core.specs.Keeping.{Keeping, machine_of}
+use Rattle.merge_core.specs.CoreValue.{CoreValue, machine_of}
 use Rattle.merge_core.specs.Order.{IsInOrder}
 use Rattle.merge_core.specs.Roll.{Machine, Standing, RecoversCommitted, idle}
 use Rattle.merge_core.specs.Event.{begun}
@@ -18,10 +18,10 @@ use Rattle.merge_core.proofs.Trails.{each_event_keeps, machine_on, trail_on}
 use Rattle.merge_site.specs.declared.group.SiteGroup.{SiteGroup}
 use Rattle.merge_core.specs.Core.{standing_in}
 use Rattle.merge_site.proofs.Placed.{IsPlacedAs, placed_same}
-use Rattle.merge_site.specs.Site.{AreFresh, AreInStep, HavePaths, IsHeld, IsSiteInOrder, IsPossible, Payload, is_stage}
+use Rattle.merge_site.specs.Site.{AreFresh, AreInStep, HavePaths, IsHeld, IsSiteInOrder, IsPossible, JobValue, is_stage}
 
 -- a step that is taken is one that the machine admits
-pub taken_admits : (k : Keeping) (g : ℕ) (s : Step) → g < 2 ^ 32 → IsTaken k g s → Admits (machine_of k) (event_of g s)
+pub taken_admits : (k : CoreValue) (g : ℕ) (s : Step) → g < 2 ^ 32 → IsTaken k g s → Admits (machine_of k) (event_of g s)
 taken_admits k g steps.Begin small h = (small, h.phase)
 taken_admits k g steps.PutToken small h = h.phase
 taken_admits k g steps.SyncSealed small h = h.phase
@@ -36,7 +36,7 @@ taken_admits k g steps.Acknowledge small h = h.phase
 taken_admits k g steps.Abandon small h = h.phase
 
 -- the event was performed, so what is held goes on
-pub held_on : (k k' : Keeping) (es : List Entry) (start old new : Story) (e : Event) (ok : Bool) → machine_after idle es ≡ machine_of k → IsHeld k es start old
+pub held_on : (k k' : CoreValue) (es : List Entry) (start old new : Story) (e : Event) (ok : Bool) → machine_after idle es ≡ machine_of k → IsHeld k es start old
     → MayFollow (machine_of k) e → Admits (machine_of k) e → Performs (machine_of k) e ok old new → machine_of k' ≡ answered (machine_of k) e ok
     → IsHeld k' (es ++ (e, ok) ∷ []) start new
 held_on k k' es start old new e ok leads held may admits performs goes =
@@ -55,7 +55,7 @@ could Sync true old = (next old (settled old.now), refl)
 could Sync false old = (old, inl refl)
 
 -- some disk stays in order
-possible_on : (k k' : Keeping) (e : Event) (ok : Bool) → IsPossible k → MayFollow (machine_of k) e → Admits (machine_of k) e → machine_of k' ≡ answered (machine_of k) e ok → IsPossible k'
+possible_on : (k k' : CoreValue) (e : Event) (ok : Bool) → IsPossible k → MayFollow (machine_of k) e → Admits (machine_of k) e → machine_of k' ≡ answered (machine_of k) e ok → IsPossible k'
 possible_on k k' e ok possible may admits goes =
     let old : Story = record { past = []; now = possible.disk } in
     let new = could (call (machine_of k) possible.disk.holds e) ok old in
@@ -67,7 +67,7 @@ possible_on k k' e ok possible may admits goes =
     }
 
 -- so does all that a site promises, where its groups stay in step
-pub kept_by : (tells : Bool) (k k' : Keeping) (es es' : List Entry) (xs : List SiteGroup) (ps ps' : List Payload) (start old new : Story) (mark : Thing) (e : Event) (ok : Bool)
+pub kept_by : (tells : Bool) (k k' : CoreValue) (es es' : List Entry) (xs : List SiteGroup) (ps ps' : List JobValue) (start old new : Story) (mark : ObjectValue) (e : Event) (ok : Bool)
     → IsSiteInOrder tells k es xs ps start old mark → MayFollow (machine_of k) e → Admits (machine_of k) e → (IsTrue tells → Performs (machine_of k) e ok old new)
     → machine_of k' ≡ answered (machine_of k) e ok → es' ≡ es ++ (e, ok) ∷ [] → AreInStep k' xs ps' → IsSiteInOrder tells k' es' xs ps' start new mark
 kept_by tells k k' es es' xs ps ps' start old new mark e ok kept may admits performs goes log step =
@@ -80,21 +80,21 @@ kept_by tells k k' es es' xs ps ps' start old new mark e ok kept may admits perf
     })
 
 -- what holds of each standing behind the event holds of each that is kept
-pub each_kept : (k k' : Keeping) (e : Event) (ok : Bool) (P : ℕ → Standing → Type 0) → machine_of k' ≡ answered (machine_of k) e ok → ((i : ℕ) → P i ((answered (machine_of k) e ok).roll.standing i)) → (i : ℕ) → P i (standing_in k'.standings i)
+pub each_kept : (k k' : CoreValue) (e : Event) (ok : Bool) (P : ℕ → Standing → Type 0) → machine_of k' ≡ answered (machine_of k) e ok → ((i : ℕ) → P i ((answered (machine_of k) e ok).roll.standing i)) → (i : ℕ) → P i (standing_in k'.standings i)
 each_kept k k' e ok P goes each i = subst (λ (m : Machine). P i (m.roll.standing i)) (sym goes) (each i)
 
-fresh_on : (k k' : Keeping) (e : Event) (ok : Bool) → is_stage e ≡ false → Admits (machine_of k) e → machine_of k' ≡ answered (machine_of k) e ok → AreFresh k → AreFresh k'
+fresh_on : (k k' : CoreValue) (e : Event) (ok : Bool) → is_stage e ≡ false → Admits (machine_of k) e → machine_of k' ≡ answered (machine_of k) e ok → AreFresh k → AreFresh k'
 fresh_on k k' e ok none admits goes fresh i =
     let placed = each_kept k k' e ok (IsPlacedAs (machine_of k).roll) goes (placed_same (machine_of k) fresh e ok admits none) i in
     placed.1
 
-paths_on : (k k' : Keeping) (ps : List Payload) (e : Event) (ok : Bool) → is_stage e ≡ false → Admits (machine_of k) e → machine_of k' ≡ answered (machine_of k) e ok → AreFresh k → HavePaths k ps → HavePaths k' ps
+paths_on : (k k' : CoreValue) (ps : List JobValue) (e : Event) (ok : Bool) → is_stage e ≡ false → Admits (machine_of k) e → machine_of k' ≡ answered (machine_of k) e ok → AreFresh k → HavePaths k ps → HavePaths k' ps
 paths_on k k' ps e ok none admits goes fresh paths i p at =
     let placed = each_kept k k' e ok (IsPlacedAs (machine_of k).roll) goes (placed_same (machine_of k) fresh e ok admits none) i in
     omega (arith, ap length placed.0, paths i p at)
 
 -- an event that stages nothing
-pub kept_on : (tells : Bool) (k k' : Keeping) (es es' : List Entry) (xs : List SiteGroup) (ps : List Payload) (start old new : Story) (mark : Thing) (e : Event) (ok : Bool)
+pub kept_on : (tells : Bool) (k k' : CoreValue) (es es' : List Entry) (xs : List SiteGroup) (ps : List JobValue) (start old new : Story) (mark : ObjectValue) (e : Event) (ok : Bool)
     → is_stage e ≡ false → IsSiteInOrder tells k es xs ps start old mark → MayFollow (machine_of k) e → Admits (machine_of k) e
     → (IsTrue tells → Performs (machine_of k) e ok old new) → machine_of k' ≡ answered (machine_of k) e ok → length k'.standings ≡ length k.standings → es' ≡ es ++ (e, ok) ∷ []
     → IsSiteInOrder tells k' es' xs ps start new mark
@@ -122,7 +122,7 @@ no_stage g steps.Acknowledge = refl
 no_stage g steps.Abandon = refl
 
 -- a step of a group
-pub kept_step : (tells : Bool) (k k' : Keeping) (es es' : List Entry) (xs : List SiteGroup) (ps : List Payload) (start old new : Story) (mark : Thing) (g : ℕ) (s : Step) (ok : Bool)
+pub kept_step : (tells : Bool) (k k' : CoreValue) (es es' : List Entry) (xs : List SiteGroup) (ps : List JobValue) (start old new : Story) (mark : ObjectValue) (g : ℕ) (s : Step) (ok : Bool)
     → g < 2 ^ 32 → IsSiteInOrder tells k es xs ps start old mark → IsTaken k g s → (IsTrue tells → Performs (machine_of k) (event_of g s) ok old new)
     → machine_of k' ≡ answered (machine_of k) (event_of g s) ok → length k'.standings ≡ length k.standings → es' ≡ es ++ (event_of g s, ok) ∷ []
     → IsSiteInOrder tells k' es' xs ps start new mark

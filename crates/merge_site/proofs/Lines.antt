@@ -3,13 +3,13 @@ use Rattle.std.proofs.Common.{◌≡◌, ◌<◌, ◌++◌, ◌∙◌, ℕ, List
 use Rattle.std.specs.Prelude.{IsTrue, OnOk, is_ok, slice_index_or}
 use Rattle.journal.specs.Names.{stage_path}
 use Rattle.merge_core.specs.Core.{standing_in}
-use Rattle.merge_core.specs.Keeping.{Keeping}
+use Rattle.merge_core.specs.CoreValue.{CoreValue}
 use Rattle.merge_site.specs.declared.group.SiteGroup.{SiteGroup}
-use Rattle.merge_site.specs.Site.{AreInStep, Payload, Writes}
+use Rattle.merge_site.specs.Site.{AreInStep, JobValue, Writes}
 use Rattle.merge_site.proofs.Reading.{got, indexed}
 
 -- the stage of the group's next placement
-pub stage_is : (xs : List SiteGroup) (ps : List Payload) (k : Keeping) (g : ℕ) (p : Payload) (i : ℕ) (q : List ℕ) → AreInStep k xs ps → g < length k.standings → p ≡ slice_index_or ps g p → q ≡ stage_path p.group i
+pub stage_is : (xs : List SiteGroup) (ps : List JobValue) (k : CoreValue) (g : ℕ) (p : JobValue) (i : ℕ) (q : List ℕ) → AreInStep k xs ps → g < length k.standings → p ≡ slice_index_or ps g p → q ≡ stage_path p.group i
     → i ≡ (standing_in k.standings g).placed → q ≡ stage_path g (standing_in k.standings g).placed
 stage_is xs ps k g p i q step lt there path at =
     let number = step.numbered g p (got ps g p (subst (λ (n : ℕ). g < n) (sym step.payloads_all) lt) there) in

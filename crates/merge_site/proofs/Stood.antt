@@ -4,7 +4,7 @@ use Rattle.file_tree.specs.Disk.{Map, Story}
 use Rattle.file_tree.specs.Moments.{Leaves, Since}
 use Rattle.file_tree.proofs.Moments.{since_same, since_start, since_then, since_weaker}
 use Rattle.merge_core.specs.Event.{answered, begun}
-use Rattle.merge_core.specs.Keeping.{Keeping, machine_of}
+use Rattle.merge_core.specs.CoreValue.{CoreValue, machine_of}
 use Rattle.merge_core.specs.Order.{IsInOrder}
 use Rattle.merge_core.specs.Roll.{Machine, RecoversCommitted, idle}
 use Rattle.merge_core.specs.Trail.{Entry, Trail, machine_after}
@@ -21,6 +21,6 @@ stood_along opening m old new (e ∷ es) trail order =
     (since_weaker (StoodDuring opening (answered m e.0 e.1) es) during (λ c h. inr h) trail.0 new (stood_along opening (answered m e.0 e.1) trail.0 new es trail.2 order))
 
 -- each crash image of each moment stood
-pub held_moments : (k : Keeping) (es : List Entry) (start now : Story) → machine_after idle es ≡ machine_of k → IsHeld k es start now → Since (StoodDuring start.now.holds idle es) start now
+pub held_moments : (k : CoreValue) (es : List Entry) (start now : Story) → machine_after idle es ≡ machine_of k → IsHeld k es start now → Since (StoodDuring start.now.holds idle es) start now
 held_moments k es start now leads held =
     stood_along start.now.holds idle start now es held.trail (subst (λ (m : Machine). IsInOrder start.now.holds m now.now) (sym leads) held.order)

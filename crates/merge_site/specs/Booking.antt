@@ -6,11 +6,11 @@ use Rattle.file_tree.specs.declared.objects.Entry.{Entry}
 use Rattle.journal.specs.Judging.{path_of}
 use Rattle.merge_record.specs.declared.record.OwnerKey.{OwnerKey}
 use Rattle.owner_book.specs.Book as books
-use Rattle.owner_book.specs.Book.{Book, Parts, claim_in, owner_in, settled_owner}
+use Rattle.owner_book.specs.Book.{Book, ClaimValue, claim_in, owner_in, settled_owner}
 use Rattle.owner_book.specs.declared.wish.Wish.{Wish}
 use Rattle.merge_core.specs.Core.{standing_in}
 use Rattle.merge_core.specs.Event.{Abandon, Acknowledge, Event, SyncClosed}
-use Rattle.merge_core.specs.Keeping.{Keeping}
+use Rattle.merge_core.specs.CoreValue.{CoreValue}
 use Rattle.merge_core.specs.Phase.{Done, Phase, Told, is_live}
 use Rattle.merge_core.specs.Trail as trails
 use Rattle.merge_site.specs.declared.group.SiteGroup.{SiteGroup}
@@ -40,11 +40,11 @@ abbrev pub dying_at : List SiteGroup → ℕ → List OwnerKey
 dying_at xs g = dying_of (slice_get xs g)
 
 -- what a group claims: the wishes that it staged, and the removals of its record
-abbrev pub parts_of : Keeping → List (List Wish) → ℕ → Parts
+abbrev pub parts_of : CoreValue → List (List Wish) → ℕ → ClaimValue
 parts_of k ws g = record { placed = wishes_at ws g; removed = (standing_in k.standings g).removals }
 
 -- the claim that the book has of a group: from its claim on until its closed gate is durable
-abbrev pub claim_of : Keeping → List (List Wish) → ℕ → Option Parts
+abbrev pub claim_of : CoreValue → List (List Wish) → ℕ → Option ClaimValue
 claim_of k ws g =
     if is_live (standing_in k.standings g).phase then Some (parts_of k ws g) else None
 
@@ -67,7 +67,7 @@ given_up_by (Abandon g) true = g ∷ []
 given_up_by e ok = []
 
 -- the owner of a path once the claims of these groups are settled, one after the other
-abbrev pub settled_by : (ℕ → Parts) → List ℕ → List ℕ → Option OwnerKey → Option OwnerKey
+abbrev pub settled_by : (ℕ → ClaimValue) → List ℕ → List ℕ → Option OwnerKey → Option OwnerKey
 settled_by parts [] q owner = owner
 settled_by parts (g ∷ gs) q owner = settled_by parts gs q (settled_owner (parts g) q owner)
 
@@ -79,7 +79,7 @@ is_over p = false
 
 -- the book is that of the groups: it has the claims of those under way, and the owners that the
 -- done groups left
-pub record IsBooked (k : Keeping) (events : List trails.Entry) (wishes : List (List Wish))
+pub record IsBooked (k : CoreValue) (events : List trails.Entry) (wishes : List (List Wish))
     (opened book : Book) : Type 0 where
   pub rows : length wishes ≡ length k.standings
   pub paths : (g : ℕ) →

@@ -16,7 +16,7 @@ use Rattle.owner_book.specs.declared.limits.TheConstants.{MOST_PATHS}
 use Rattle.owner_book.specs.declared.wish.Wish.{Wish}
 use Rattle.merge_core.specs.Core.{standing_in}
 use Rattle.merge_site.specs.Booking.{dying_at, wishes_at}
-use Rattle.merge_site.specs.Site.{Account}
+use Rattle.merge_site.specs.Site.{SiteValue}
 use Rattle.merge_site.specs.declared.fault.ClaimStop.{ClaimStop}
 use Rattle.merge_site.specs.declared.fault.ClaimStop.TheVariants as stops
 
@@ -50,8 +50,8 @@ pub record MayClaim (b : Book) (dying : List OwnerKey) (wishes : List Wish)
   pub taken : IsTakenIn b dying wishes removals
   pub apart : are_free [] (record_paths removals wishes) ≡ true
 
--- why the book or the record's paths stop a claim; what stands in the tree, a failed device and
--- want of memory do so only where these don't
+-- why the book or the record's paths stop a claim; what stands in the tree and a failed device do
+-- so only where these don't
 abbrev pub Stops : Book → List OwnerKey → List Wish → List (List ℕ) → ClaimStop → Type 0
 Stops b dying ws rs (stops.Removal p) = IsFirstKept b (is_dying dying) rs p
 Stops b dying ws rs (stops.Image x) =
@@ -72,18 +72,18 @@ StopsAt m own ws (stops.Collision (collisions.Unowned p)) = IsFirstMet m own ws 
 StopsAt m own ws s = ⊤
 
 -- the removals of a group's record
-abbrev pub removals_at : {T S : Type 0} → Account T S → ℕ → List (List ℕ)
+abbrev pub removals_at : {T S : Type 0} → SiteValue T S → ℕ → List (List ℕ)
 removals_at a g = (standing_in a.keeping.standings g).removals
 
 -- the rules of a group's claim
-abbrev pub IsGranted : {T S : Type 0} → Account T S → ℕ → Type 0
+abbrev pub IsGranted : {T S : Type 0} → SiteValue T S → ℕ → Type 0
 IsGranted a g = MayClaim a.book (dying_at a.groups g) (wishes_at a.wishes g) (removals_at a g)
 
-abbrev pub AreClear : {T S : Type 0} → Map → Account T S → ℕ → Type 0
+abbrev pub AreClear : {T S : Type 0} → Map → SiteValue T S → ℕ → Type 0
 AreClear m a g = AllByRecursion (IsClearFor m (owner_in a.book.owned)) (wishes_at a.wishes g)
 
-abbrev pub IsStop : {T S : Type 0} → Account T S → ℕ → ClaimStop → Type 0
+abbrev pub IsStop : {T S : Type 0} → SiteValue T S → ℕ → ClaimStop → Type 0
 IsStop a g s = Stops a.book (dying_at a.groups g) (wishes_at a.wishes g) (removals_at a g) s
 
-abbrev pub IsUnownedStop : {T S : Type 0} → Map → Account T S → ℕ → ClaimStop → Type 0
+abbrev pub IsUnownedStop : {T S : Type 0} → Map → SiteValue T S → ℕ → ClaimStop → Type 0
 IsUnownedStop m a g s = StopsAt m (owner_in a.book.owned) (wishes_at a.wishes g) s

@@ -1,14 +1,14 @@
 -- What a site shows, and what it promises between two calls.
 use Rattle.std.specs.Prelude.{◌≡◌, ◌⊎◌, ◌<◌, ◌≤◌, ◌-◌, ◌++◌, ◌∷◌, ℕ, zero, suc, Bool, true, false, List, [], Some, IsTrue, length, replicate, slice_get, take}
 use Rattle.file_tree.specs.Disk.{Disk, Map, Story}
-use Rattle.file_tree.specs.Thing.{Thing}
+use Rattle.file_tree.specs.ObjectValue.{ObjectValue}
 use Rattle.journal.specs.Group.{covers, token}
 use Rattle.journal.specs.Names.{gate_path, record_path, stage_path, token_path}
 use Rattle.merge_core.specs.Core.{standing_in}
 use Rattle.owner_book.specs.Book.{Book}
 use Rattle.owner_book.specs.declared.wish.Wish.{Wish}
 use Rattle.merge_core.specs.Event.{Event, PutStage, answered, begun}
-use Rattle.merge_core.specs.Keeping.{Keeping, at_rest, machine_of}
+use Rattle.merge_core.specs.CoreValue.{CoreValue, at_rest, machine_of}
 use Rattle.merge_core.specs.Order.{IsInOrder}
 use Rattle.merge_core.specs.Phase.{Idle, is_live}
 use Rattle.merge_core.specs.Roll.{Machine, Roll, RecoversCommitted, group_at, idle, phase_at}
@@ -16,22 +16,22 @@ use Rattle.merge_core.specs.Trail.{Entry, Trail, machine_after}
 use Rattle.merge_site.specs.declared.group.SiteGroup.{SiteGroup}
 
 -- what a site keeps of one group: its number, and how many of its stages have a path
-pub record Payload : Type 0 where
+pub record JobValue : Type 0 where
   pub group : ℕ
   pub staged : ℕ
 
-abbrev pub new_payload : ℕ → Payload
+abbrev pub new_payload : ℕ → JobValue
 new_payload g = record { group = g; staged = 0 }
 
 -- the payloads of so many groups that haven't begun
-abbrev pub new_payloads : ℕ → List Payload
+abbrev pub new_payloads : ℕ → List JobValue
 new_payloads zero = []
 new_payloads (suc n) = new_payloads n ++ new_payload n ∷ []
 
 -- the machine, the events so far, the groups and what each wishes, the book and the tree at the
 -- beginning and now, and the sink
-pub record Account (T S : Type 0) : Type 0 where
-  pub keeping : Keeping
+pub record SiteValue (T S : Type 0) : Type 0 where
+  pub keeping : CoreValue
   pub events : List Entry
   pub groups : List SiteGroup
   pub wishes : List (List Wish)
@@ -42,7 +42,7 @@ pub record Account (T S : Type 0) : Type 0 where
   pub sink : S
 
 -- a site with the groups, the tree and the book of another one
-pub record IsSameSite {T S : Type 0} (old new : Account T S) : Type 0 where
+pub record IsSameSite {T S : Type 0} (old new : SiteValue T S) : Type 0 where
   pub count : length new.keeping.standings ≡ length old.keeping.standings
   pub groups : new.groups ≡ old.groups
   pub opened_book : new.opened_book ≡ old.opened_book
@@ -50,7 +50,7 @@ pub record IsSameSite {T S : Type 0} (old new : Account T S) : Type 0 where
 
 -- the events led from the start to here, in order, and each crash image of each moment since then
 -- stands
-pub record IsHeld (keeping : Keeping) (events : List Entry) (start now : Story) : Type 0 where
+pub record IsHeld (keeping : CoreValue) (events : List Entry) (start now : Story) : Type 0 where
   pub order : IsInOrder start.now.holds (machine_of keeping) now.now
   pub trail : Trail start.now.holds idle start events now
 
@@ -62,7 +62,7 @@ StoodDuring opening m (e ∷ es) c =
     RecoversCommitted opening (begun m e.0).roll c ⊎ StoodDuring opening (answered m e.0 e.1) es c
 
 -- some disk is in order with the machine: what a site over a tree that tells nothing keeps
-pub record IsPossible (keeping : Keeping) : Type 0 where
+pub record IsPossible (keeping : CoreValue) : Type 0 where
   pub opening : Map
   pub disk : Disk
   pub order : IsInOrder opening (machine_of keeping) disk
@@ -74,22 +74,22 @@ AreApart r = (g h : ℕ) (q : List ℕ) →
     covers (group_at r g) q ≡ true → covers (group_at r h) q ≡ true → g ≡ h
 
 -- each group has its own number
-abbrev pub AreNumbered : List Payload → Type 0
-AreNumbered payloads = (i : ℕ) (p : Payload) → slice_get payloads i ≡ Some p → p.group ≡ i
+abbrev pub AreNumbered : List JobValue → Type 0
+AreNumbered payloads = (i : ℕ) (p : JobValue) → slice_get payloads i ≡ Some p → p.group ≡ i
 
 -- each placement of a group has a path for its stage
-abbrev pub HavePaths : Keeping → List Payload → Type 0
-HavePaths k payloads = (i : ℕ) (p : Payload) → slice_get payloads i ≡ Some p →
+abbrev pub HavePaths : CoreValue → List JobValue → Type 0
+HavePaths k payloads = (i : ℕ) (p : JobValue) → slice_get payloads i ≡ Some p →
     length (standing_in k.standings i).placements ≤ p.staged
 
 -- a group that hasn't begun places nothing
-abbrev pub AreFresh : Keeping → Type 0
+abbrev pub AreFresh : CoreValue → Type 0
 AreFresh k = (i : ℕ) → (standing_in k.standings i).phase ≡ Idle →
     (standing_in k.standings i).placements ≡ []
 
 -- the groups of a site, each with its number and its paths
 pub record AreInStep
-    (k : Keeping) (groups : List SiteGroup) (payloads : List Payload) : Type 0 where
+    (k : CoreValue) (groups : List SiteGroup) (payloads : List JobValue) : Type 0 where
   pub numbered : AreNumbered payloads
   pub paths : HavePaths k payloads
   pub fresh : AreFresh k
@@ -97,8 +97,9 @@ pub record AreInStep
   pub groups_all : length groups ≡ length k.standings
 
 -- what a site promises between two calls
-pub record IsSiteInOrder (tells : Bool) (keeping : Keeping) (events : List Entry) (groups : List SiteGroup)
-    (payloads : List Payload) (start now : Story) (mark : Thing) : Type 0 where
+pub record IsSiteInOrder (tells : Bool) (keeping : CoreValue) (events : List Entry)
+    (groups : List SiteGroup) (payloads : List JobValue) (start now : Story)
+    (mark : ObjectValue) : Type 0 where
   pub leads : machine_after idle events ≡ machine_of keeping
   pub step : AreInStep keeping groups payloads
   pub is_token : mark ≡ token
@@ -111,7 +112,7 @@ is_stage (PutStage g p o) = true
 is_stage e = false
 
 -- one event more: the machine goes on as it says, and a group wishes more only where it stages
-pub record Adds {T S : Type 0} (old new : Account T S) (e : Event) (ok : Bool) : Type 0 where
+pub record Adds {T S : Type 0} (old new : SiteValue T S) (e : Event) (ok : Bool) : Type 0 where
   pub events : new.events ≡ old.events ++ (e, ok) ∷ []
   pub machine : machine_of new.keeping ≡ answered (machine_of old.keeping) e ok
   pub count : length new.keeping.standings ≡ length old.keeping.standings
@@ -121,7 +122,7 @@ pub record Adds {T S : Type 0} (old new : Account T S) (e : Event) (ok : Bool) :
   pub opened : new.opened ≡ old.opened
 
 -- no event came, and the book is as it was
-pub record KeepsHistory {T S : Type 0} (old new : Account T S) : Type 0 where
+pub record KeepsHistory {T S : Type 0} (old new : SiteValue T S) : Type 0 where
   pub keeping : new.keeping ≡ old.keeping
   pub events : new.events ≡ old.events
   pub groups : new.groups ≡ old.groups
@@ -139,11 +140,11 @@ pub record Writes
       (n : ℕ) × (new ≡ old ++ take n x.line.items)
 
 -- how many placements, and how many removals, of a group aren't made yet
-abbrev pub placements_left : Keeping → ℕ → ℕ
+abbrev pub placements_left : CoreValue → ℕ → ℕ
 placements_left k g =
     length (standing_in k.standings g).placements - (standing_in k.standings g).placed
 
-abbrev pub removals_left : Keeping → ℕ → ℕ
+abbrev pub removals_left : CoreValue → ℕ → ℕ
 removals_left k g =
     length (standing_in k.standings g).removals - (standing_in k.standings g).removed
 
@@ -156,7 +157,7 @@ pub record AreFilesOf
   pub of_stages : (i : ℕ) → i < length stages → slice_get stages i ≡ Some (stage_path group i)
 
 -- a site over this book, of these groups, none of which has begun or wishes anything
-pub record IsOpened {T S : Type 0} (a : Account T S) (b : Book) (groups : List SiteGroup) :
+pub record IsOpened {T S : Type 0} (a : SiteValue T S) (b : Book) (groups : List SiteGroup) :
     Type 0 where
   pub keeping : a.keeping ≡ at_rest (length groups)
   pub events : a.events ≡ []

@@ -1,9 +1,9 @@
 ghost use Rattle.std.specs.Prelude.{◌≡◌, false, is_ok, None, Some, IsErr, IsTrue};
 ghost use Rattle.file_tree.specs.Disk.{CountsFault};
 ghost use Rattle.merge_core.specs.Event.{Acknowledge, SyncClosed, needs_sync};
-ghost use Rattle.merge_core.specs.Keeping.{machine_of};
+ghost use Rattle.merge_core.specs.CoreValue.{machine_of};
 ghost use Rattle.merge_core.specs.Steps.{IsTaken};
-ghost use Rattle.owner_book.specs.Book.{ChangesClaim, HasSettled, Parts, claim_in};
+ghost use Rattle.owner_book.specs.Book.{ChangesClaim, HasSettled, ClaimValue, claim_in};
 ghost use Rattle.merge_site.specs.Site.{Adds, Writes};
 
 use crate::site::{Site, enter, sync_step};
@@ -13,7 +13,7 @@ use owner_book::OwnerBook;
 
 /// Settles the claim of a group whose last sync was answered Ok.
 fn settle_synced(book: &mut OwnerBook, group: u32, is_synced: bool)
-    ensures owners { IsTrue is_synced → (c : Parts) →
+    ensures owners { IsTrue is_synced → (c : ClaimValue) →
         claim_in book.old.claims group ≡ Some c → HasSettled book.old book.new c }
     ensures claims { IsTrue is_synced → ChangesClaim book.old book.new group None }
     ensures before { is_synced ≡ false → book.new ≡ book.old }

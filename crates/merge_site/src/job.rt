@@ -17,9 +17,9 @@ pub(crate) struct Job {
 
 impl Model for Job {
     ghost use Rattle.std.specs.Prelude.{length};
-    ghost use Rattle.merge_site.specs.Site.{AreFilesOf, Payload};
+    ghost use Rattle.merge_site.specs.Site.{AreFilesOf, JobValue};
 
-    ghost Value = { Payload };
+    ghost Value = { JobValue };
 
     ghost view = { λ j. record {
       group = j.group;

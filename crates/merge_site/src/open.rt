@@ -1,6 +1,6 @@
 ghost use Rattle.std.specs.Prelude.{◌≡◌, ◌<◌, ◌^◌, [], IfErr, IfOk, IsTrue, length, replicate};
 ghost use Rattle.journal.specs.Group.{token};
-ghost use Rattle.merge_core.specs.Keeping.{at_rest, machine_of};
+ghost use Rattle.merge_core.specs.CoreValue.{at_rest, machine_of};
 ghost use Rattle.merge_core.specs.Roll.{idle};
 ghost use Rattle.merge_core.specs.Trail.{IsAtRest};
 ghost use Rattle.merge_site.specs.Booking.{lists_of};

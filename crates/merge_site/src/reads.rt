@@ -1,6 +1,6 @@
 ghost use Rattle.std.specs.Prelude.{◌≡◌, ◌<◌, IsTrue, length};
 ghost use Rattle.file_tree.specs.Moments.{Leaves, Since};
-ghost use Rattle.merge_core.specs.Keeping.{machine_of};
+ghost use Rattle.merge_core.specs.CoreValue.{machine_of};
 ghost use Rattle.merge_core.specs.Phases.{phase_of};
 ghost use Rattle.merge_core.specs.Roll.{RecoversCommitted, idle, phase_at};
 ghost use Rattle.merge_core.specs.Trail.{machine_after};

@@ -2,7 +2,7 @@ ghost use Rattle.std.specs.Prelude.{◌≡◌, true, false, IsErrOf, IsTrue, OnE
 ghost use Rattle.file_tree.specs.Disk.{CountsFault};
 ghost use Rattle.merge_record.specs.Spelling.{PassesLimit};
 ghost use Rattle.merge_core.specs.Event.{PutRecord, put_content};
-ghost use Rattle.merge_core.specs.Keeping.{machine_of};
+ghost use Rattle.merge_core.specs.CoreValue.{machine_of};
 ghost use Rattle.merge_core.specs.Payloads.{IsAt};
 ghost use Rattle.merge_site.specs.Site.{Adds, KeepsHistory};
 

@@ -2,14 +2,14 @@ ghost use Rattle.std.specs.Prelude.{◌≡◌, ◌<◌, ◌≤◌, ◌^◌, ◌+
 ghost use Rattle.std.specs.Prelude.{Ok, Some, IfOk, IfErr, IsErr, IsTrue, OnErr, OnOk};
 ghost use Rattle.std.specs.Prelude.{is_ok, length};
 ghost use Rattle.file_tree.specs.Disk.{CountsFault};
-ghost use Rattle.file_tree.specs.Thing.{plain};
+ghost use Rattle.file_tree.specs.ObjectValue.{plain};
 ghost use Rattle.journal.specs.Judging.{IsStaged};
 ghost use Rattle.journal.specs.Names.{stage_path};
 ghost use Rattle.merge_record.specs.Spelling.{IsSpellable, spelling};
 ghost use Rattle.merge_core.specs.Core.{standing_in};
 ghost use Rattle.merge_core.specs.Event.{Admits, Claim, PutRecord, PutStage, answered};
 ghost use Rattle.merge_core.specs.Event.{needs_sync, put_content};
-ghost use Rattle.merge_core.specs.Keeping.{machine_of};
+ghost use Rattle.merge_core.specs.CoreValue.{machine_of};
 ghost use Rattle.merge_core.specs.Payloads.{IsApart, IsAt};
 ghost use Rattle.merge_core.specs.Site.{Performs};
 ghost use Rattle.merge_core.specs.Steps.{IsTaken, event_of, is_sync};
@@ -48,9 +48,9 @@ pub struct Site<T: Tree, S: Sink> {
 
 impl<T: Tree, S: Sink> Model for Site<T, S> {
     ghost use Rattle.merge_site.specs.Booking.{IsBooked, lists_of};
-    ghost use Rattle.merge_site.specs.Site.{Account, IsSiteInOrder};
+    ghost use Rattle.merge_site.specs.Site.{SiteValue, IsSiteInOrder};
 
-    ghost Value = { Account T S };
+    ghost Value = { SiteValue T S };
 
     ghost view = { λ s. record {
       keeping = s.core;

@@ -4,7 +4,7 @@ ghost use Rattle.file_tree.specs.Disk.{CountsFault};
 ghost use Rattle.merge_core.specs.Event.{PutStage};
 ghost use Rattle.merge_core.specs.Payloads.{IsAt};
 ghost use Rattle.merge_site.specs.Booking.{lists_of, wish_for, with_wish};
-ghost use Rattle.merge_site.specs.Site.{Adds, KeepsHistory, Payload};
+ghost use Rattle.merge_site.specs.Site.{Adds, KeepsHistory, JobValue};
 ghost use Rattle.merge_site.specs.Staging.{HasMore, HasPast, IsStageFault, MayStage};
 ghost use Rattle.merge_site.specs.Staging.{placement_of};
 ghost use Rattle.owner_book.specs.declared.wish.Wish.{Wish};
@@ -35,7 +35,7 @@ fn placement_of(path: Path, object: &Object) -> Placement
 /// Makes the path of a group's stage with this index, unless there is one.
 fn make_place(jobs: &mut Vec<Job>, alloc: Global, group: u32, index: u32) -> Result<(), AllocError>
     requires there { group < length jobs.old.items }
-    requires next { (p : Payload) → slice_get jobs.old.items group ≡ Some p → index ≤ p.staged }
+    requires next { (p : JobValue) → slice_get jobs.old.items group ≡ Some p → index ≤ p.staged }
     ensures made { OnOk result (HasPast jobs.new.items group index) }
     ensures more { HasMore jobs.old.items jobs.new.items }
 {

@@ -2,7 +2,7 @@ ghost use Rattle.std.specs.Prelude.{◌≡◌, false, true, is_ok, IsErr};
 ghost use Rattle.file_tree.specs.Disk.{CountsFault};
 ghost use Rattle.merge_core.specs.Event.{Abandon, Begin, CloseGate, SyncGate};
 ghost use Rattle.merge_core.specs.Event.{SyncPlaced, SyncSealed, needs_sync};
-ghost use Rattle.merge_core.specs.Keeping.{machine_of};
+ghost use Rattle.merge_core.specs.CoreValue.{machine_of};
 ghost use Rattle.merge_core.specs.Steps.{IsTaken};
 ghost use Rattle.merge_site.specs.Site.{Adds};
 

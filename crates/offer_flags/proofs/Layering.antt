@@ -8,7 +8,7 @@ use Rattle.candidate_flags.specs.Variants.{Setting, lists_below, settings, varia
 use Rattle.candidate_flags.specs.declared.base.FlagRules.{FlagRules}
 use Rattle.candidate_rules.specs.Items.{changes_for, is_turned_on}
 use Rattle.dep_atom.specs.declared.package.Facts.{Facts}
-use Rattle.md5_cache.specs.Entries.{Entry}
+use Rattle.md5_cache.specs.Entries.{CacheEntryValue}
 use Rattle.pms_names.specs.Flags.{has}
 use Rattle.required_use.specs.Texts.{Expressions}
 use Rattle.use_flags.specs.Changes.{has_after}
@@ -42,7 +42,7 @@ pub free_alike : (implicit masked masked' forced forced' : Bool) → masked ≡ 
 free_alike implicit masked masked' forced forced' m f = ap (λ (b : Bool). not (b || (masked || implicit))) f ∙ ap (λ (b : Bool). not (forced' || (b || implicit))) m
 
 -- the settings by these layers are those that may be chosen
-pub settings_alike : (c : FlagConfigValue) (e : Entry) (flips : ℕ) (facts : Facts) (defaults conf : List Change) (layers : List (List Change)) (forced masked : List (List ℕ)) → facts ≡ e.package_is.facts → defaults ≡ changes_by c.defaults facts.iuse → conf ≡ changes_by c.conf facts.iuse → layers ≡ layers_of facts defaults c.profile_uses conf c.uses → ((flag : List ℕ) → has forced flag ≡ is_turned_on (changes_for facts c.forces) flag) → ((flag : List ℕ) → has masked flag ≡ is_turned_on (changes_for facts c.masks) flag) → settings_by e.package_is.required e.package_is.facts.iuse (base_by layers forced masked c.implicit e.package_is.facts.iuse e.on) (free_by forced masked c.implicit) flips ≡ settings_of c e flips
+pub settings_alike : (c : FlagConfigValue) (e : CacheEntryValue) (flips : ℕ) (facts : Facts) (defaults conf : List Change) (layers : List (List Change)) (forced masked : List (List ℕ)) → facts ≡ e.package_is.facts → defaults ≡ changes_by c.defaults facts.iuse → conf ≡ changes_by c.conf facts.iuse → layers ≡ layers_of facts defaults c.profile_uses conf c.uses → ((flag : List ℕ) → has forced flag ≡ is_turned_on (changes_for facts c.forces) flag) → ((flag : List ℕ) → has masked flag ≡ is_turned_on (changes_for facts c.masks) flag) → settings_by e.package_is.required e.package_is.facts.iuse (base_by layers forced masked c.implicit e.package_is.facts.iuse e.on) (free_by forced masked c.implicit) flips ≡ settings_of c e flips
 settings_alike c e flips facts defaults conf layers forced masked facts-is d k l f m =
     ap (λ (s : Setting). settings_by e.package_is.required e.package_is.facts.iuse s (free_by forced masked c.implicit) flips) (λ i q. base q i)
     ∙ ap (λ (p : List ℕ → Bool). settings e.package_is.required (is_base c e) (lists_below (flips + 1) (filter p e.package_is.facts.iuse))) (λ i q. free q i)
@@ -71,7 +71,7 @@ abbrev by_rules : FlagRules → ℕ → Expressions → List (List ℕ) → List
 by_rules rules flips required known on = settings_by required known (base_by (map {A = Bor (List Change)} {B = List Change} (λ c. c.now) rules.layers.now) rules.forced.now rules.masked.now rules.implicit.now known on) (free_by rules.forced.now rules.masked.now rules.implicit.now) flips
 
 -- the variants by these rules are those of the entry
-pub settings_from : (e : Entry) (rules : FlagRules) (flips : ℕ) (required : Expressions) (known on base : List (List ℕ)) → required ≡ e.package_is.required → known ≡ e.package_is.facts.iuse → on ≡ e.on → ((q : List ℕ) → has base q ≡ chosen.is_base rules known on q) → variants required rules known (has base) flips ≡ settings_by e.package_is.required e.package_is.facts.iuse (base_by (map {A = Bor (List Change)} {B = List Change} (λ c. c.now) rules.layers.now) rules.forced.now rules.masked.now rules.implicit.now e.package_is.facts.iuse e.on) (free_by rules.forced.now rules.masked.now rules.implicit.now) flips
+pub settings_from : (e : CacheEntryValue) (rules : FlagRules) (flips : ℕ) (required : Expressions) (known on base : List (List ℕ)) → required ≡ e.package_is.required → known ≡ e.package_is.facts.iuse → on ≡ e.on → ((q : List ℕ) → has base q ≡ chosen.is_base rules known on q) → variants required rules known (has base) flips ≡ settings_by e.package_is.required e.package_is.facts.iuse (base_by (map {A = Bor (List Change)} {B = List Change} (λ c. c.now) rules.layers.now) rules.forced.now rules.masked.now rules.implicit.now e.package_is.facts.iuse e.on) (free_by rules.forced.now rules.masked.now rules.implicit.now) flips
 settings_from e rules flips required known on base r k o is =
     ap (λ (s : Setting). settings_by required known s (free_by rules.forced.now rules.masked.now rules.implicit.now) flips) (λ i q. base-is q i)
     ∙ (ap (λ (x : Expressions). by_rules rules flips x known on) r

@@ -9,7 +9,7 @@ use Rattle.profile_read.specs.declared.item.Item.{Item}
 use Rattle.candidate_flags.specs.Variants.{Setting, lists_below, settings}
 use Rattle.candidate_rules.specs.Items.{changes_for, is_turned_on}
 use Rattle.config_vars.specs.declared.vars.FileVars.{FileVars}
-use Rattle.md5_cache.specs.Entries.{Entry}
+use Rattle.md5_cache.specs.Entries.{CacheEntryValue}
 use Rattle.offer_flags.specs.Words.{after_words, implicit_texts}
 use Rattle.offer_flags.specs.declared.word.FlagWord.{FlagWord}
 
@@ -51,7 +51,7 @@ is_masked c facts flag = is_turned_on (changes_for facts c.masks) flag
 
 -- the flags that are on where nobody chooses otherwise: the implicit ones, and those of IUSE that
 -- the configuration turns on or forces, unless it masks them
-abbrev pub is_base : FlagConfigValue → Entry → Setting
+abbrev pub is_base : FlagConfigValue → CacheEntryValue → Setting
 is_base c e flag =
     has c.implicit flag || (has e.package_is.facts.iuse flag
     && (not (is_masked c e.package_is.facts flag) && (is_forced c e.package_is.facts flag
@@ -64,7 +64,7 @@ is_free c facts flag =
 
 -- the settings that may be chosen, where at most so many flags of IUSE may be flipped: the base
 -- setting comes first, and none for which REQUIRED_USE is false
-abbrev pub settings_of : FlagConfigValue → Entry → ℕ → List Setting
+abbrev pub settings_of : FlagConfigValue → CacheEntryValue → ℕ → List Setting
 settings_of c e flips =
     settings e.package_is.required (is_base c e)
     (lists_below (flips + 1) (filter (is_free c e.package_is.facts) e.package_is.facts.iuse))

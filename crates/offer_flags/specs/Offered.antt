@@ -2,7 +2,7 @@
 use Rattle.std.specs.Prelude.{◌≡◌, ℕ, Bool, false, true, List, [], ◌∷◌}
 use Rattle.std.specs.List.{AllZip}
 use Rattle.candidate_flags.specs.Variants.{Setting}
-use Rattle.md5_cache.specs.Entries.{Entry}
+use Rattle.md5_cache.specs.Entries.{CacheEntryValue}
 use Rattle.pkg_state.specs.Package.{Package, with_enabled}
 use Rattle.pms_names.specs.Flags.{IsRising, has}
 use Rattle.offer_flags.specs.Flags.{FlagConfigValue, settings_of}
@@ -17,7 +17,8 @@ pub record HasOn (p : Package) (setting : Setting) (q : Package) : Type 0 where
 
 -- the candidate of the entry: its package with the implicit flags alone, and a package for each of
 -- the settings that may be chosen, in their order
-pub record IsOffered (c : FlagConfigValue) (flips : ℕ) (e : Entry) (one : Candidate) : Type 0 where
+pub record IsOffered (c : FlagConfigValue) (flips : ℕ) (e : CacheEntryValue) (one : Candidate) :
+    Type 0 where
   pub bare : one.offered ≡ with_enabled c.implicit e.package_is
   pub each : AllZip (HasOn e.package_is) (settings_of c e flips) one.variants.items
 

@@ -15,7 +15,7 @@ use Rattle.dep_atom.specs.Values.{AtomValue, atom_value}
 use Rattle.dep_atom.specs.declared.atom.Atom.{Atom}
 use Rattle.file_tree.specs.Disk.{Map}
 use Rattle.file_tree.specs.declared.fault.TreeFault.TheVariants as trees
-use Rattle.md5_cache.specs.Entries.{Entry}
+use Rattle.md5_cache.specs.Entries.{CacheEntryValue}
 use Rattle.offer_flags.specs.Flags.{FlagConfigValue}
 use Rattle.offer_flags.specs.Offered.{IsOffered, has_variant}
 use Rattle.offer_flags.specs.declared.candidate.Candidate.{Candidate}
@@ -55,7 +55,7 @@ abbrev without : Candidate → Bool
 without k = not (has_variant k)
 
 -- one candidate more is tried
-pub tried_more : (flags : FlagConfigValue) (flips : ℕ) (visible : List Entry) (i : ℕ) (x : Entry) (one : Candidate) (others : List KeptBack) (old new : List Candidate) (was is : List Hidden) → i < length visible → x ≡ get_or visible i x → AreTried flags flips (take i visible) others old was → IsOffered flags flips x one → new ≡ old ++ filter has_variant (one ∷ []) → is ≡ was ++ map refused (filter (λ c. not (has_variant c)) (one ∷ [])) → AreTried flags flips (take (i + 1) visible) others new is
+pub tried_more : (flags : FlagConfigValue) (flips : ℕ) (visible : List CacheEntryValue) (i : ℕ) (x : CacheEntryValue) (one : Candidate) (others : List KeptBack) (old new : List Candidate) (was is : List Hidden) → i < length visible → x ≡ get_or visible i x → AreTried flags flips (take i visible) others old was → IsOffered flags flips x one → new ≡ old ++ filter has_variant (one ∷ []) → is ≡ was ++ map refused (filter (λ c. not (has_variant c)) (one ∷ [])) → AreTried flags flips (take (i + 1) visible) others new is
 tried_more flags flips visible i x one others old new was is lt at-x so offered c h = record {
   tried = so.tried ++ one ∷ [];
   each = zip_more (IsOffered flags flips) visible i x so.tried (so.tried ++ one ∷ []) one lt at-x so.each offered refl;

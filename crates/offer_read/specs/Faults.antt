@@ -7,7 +7,7 @@ use Rattle.config_vars.specs.declared.fault.VarFault.TheVariants as values
 use Rattle.file_tree.specs.Disk.{Map}
 use Rattle.file_tree.specs.Faults as carried
 use Rattle.file_tree.specs.declared.fault.TreeFault.TheVariants as trees
-use Rattle.md5_cache.specs.Entries.{Entry}
+use Rattle.md5_cache.specs.Entries.{CacheEntryValue}
 use Rattle.candidate_set.specs.declared.verdict.Hidden.{Hidden as KeptBack}
 use Rattle.profile_read.specs.declared.fault.ReadFault.{ReadFault}
 use Rattle.profile_read.specs.declared.fault.ReadFault.TheVariants as reads
@@ -47,7 +47,7 @@ IsUnread m fault = (own : ReadFault) × MissRead m own × (fault ≡ fault_of ow
 -- too many candidates are visible
 pub record HasTooMany (m : Map) (s : Setup) : Type 0 where
   pub good : AreGood s.files
-  pub visible : List Entry
+  pub visible : List CacheEntryValue
   pub others : List KeptBack
   pub judged : AreJudged m s visible others
   pub many : most_candidates < length visible

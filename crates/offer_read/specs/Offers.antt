@@ -4,7 +4,7 @@ use Rattle.std.specs.Prelude.{◌≡◌, ◌≤◌, ◌++◌, ℕ, List, filter,
 use Rattle.std.specs.List.{AllZip}
 use Rattle.config_vars.specs.Judged.{AreGood}
 use Rattle.file_tree.specs.Disk.{Map}
-use Rattle.md5_cache.specs.Entries.{Entry}
+use Rattle.md5_cache.specs.Entries.{CacheEntryValue}
 use Rattle.candidate_set.specs.Candidates.{AreCandidates}
 use Rattle.candidate_set.specs.declared.rules.VisibleRules.{VisibleRules}
 use Rattle.candidate_set.specs.declared.verdict.Hidden.{Hidden as KeptBack}
@@ -20,7 +20,7 @@ abbrev pub most_candidates : ℕ
 most_candidates = 131072
 
 -- by what is set up these candidates are visible, and the others are kept back
-pub record AreJudged (m : Map) (s : Setup) (visible : List Entry)
+pub record AreJudged (m : Map) (s : Setup) (visible : List CacheEntryValue)
     (others : List KeptBack) : Type 0 where
   pub rules : VisibleRules
   pub decides : DecidesVisible s rules
@@ -36,7 +36,7 @@ refused c = record { id = c.offered.facts.id; reason = RequiredUse }
 
 -- of the visible candidates, in their order, those of which some setting may be chosen; hidden are
 -- the others, and then those of which none may
-pub record AreTried (flags : FlagConfigValue) (flips : ℕ) (visible : List Entry)
+pub record AreTried (flags : FlagConfigValue) (flips : ℕ) (visible : List CacheEntryValue)
     (others : List KeptBack) (candidates : List Candidate) (hidden : List Hidden) : Type 0 where
   pub tried : List Candidate
   pub each : AllZip (IsOffered flags flips) visible tried
@@ -49,7 +49,7 @@ pub record AreTried (flags : FlagConfigValue) (flips : ℕ) (visible : List Entr
 pub record AreOffersOf (m : Map) (s : Setup) (flips : ℕ) (implicit : List (List ℕ))
     (candidates : List Candidate) (hidden : List Hidden) : Type 0 where
   pub good : AreGood s.files
-  pub visible : List Entry
+  pub visible : List CacheEntryValue
   pub others : List KeptBack
   pub judged : AreJudged m s visible others
   pub few : length visible ≤ most_candidates

@@ -10,17 +10,17 @@ use Rattle.dep_atom.specs.declared.package.PackageId.{PackageId}
 use Rattle.file_tree.specs.Disk.{Lists, Map}
 use Rattle.file_tree.specs.Paths.{is_below}
 use Rattle.file_tree.proofs.Below.{below_goes_on, below_if_goes_on}
-use Rattle.vdb_text.specs.Files.{record_path}
-use Rattle.vdb_text.proofs.Packages.{record_path-parts}
+use Rattle.vdb_text.specs.Files.{package_file_path}
+use Rattle.vdb_text.proofs.Packages.{package_file_path-parts}
 use Rattle.database_law.specs.Database.{IsOf}
 use Rattle.database_law.specs.Packages.{Installed, id_of, paths}
 use Rattle.database_law.specs.Step.{Owns}
 use Rattle.database_law.proofs.Places.{category_counts, lacks_from, version_counts}
 
 -- two packages whose folders have a path have one name and version
-pub one_name : (a b : PackageId) (x y : List ℕ) → IsId a → IsId b → record_path a x ≡ record_path b y → id_text a ≡ id_text b
+pub one_name : (a b : PackageId) (x y : List ℕ) → IsId a → IsId b → package_file_path a x ≡ package_file_path b y → id_text a ≡ id_text b
 one_name a b x y is is' e =
-    let behind = append_cancel_left (codes "var/db/pkg/") (a.name.category ++ (47 ∷ (name_and_version a ++ (47 ∷ x)))) (b.name.category ++ (47 ∷ (name_and_version b ++ (47 ∷ y)))) (sym (record_path-parts a x) ∙ (e ∙ record_path-parts b y)) in
+    let behind = append_cancel_left (codes "var/db/pkg/") (a.name.category ++ (47 ∷ (name_and_version a ++ (47 ∷ x)))) (b.name.category ++ (47 ∷ (name_and_version b ++ (47 ∷ y)))) (sym (package_file_path-parts a x) ∙ (e ∙ package_file_path-parts b y)) in
     let one = cut_once 47 47 a.name.category (47 ∷ (name_and_version a ++ (47 ∷ x))) b.name.category (47 ∷ (name_and_version b ++ (47 ∷ y))) (lacks_from a.name.category (category_counts a is).part) (lacks_from b.name.category (category_counts b is').part) refl refl behind in
     let two = cut_once 47 47 (name_and_version a) (47 ∷ x) (name_and_version b) (47 ∷ y) (lacks_from (name_and_version a) (version_counts a is).part) (lacks_from (name_and_version b) (version_counts b is').part) refl refl (ap (drop 1) one.1) in
     ap (λ (t : List ℕ). t ++ (47 ∷ name_and_version a)) one.0 ∙ ap (λ (t : List ℕ). b.name.category ++ (47 ∷ t)) two.0
@@ -28,8 +28,8 @@ one_name a b x y is is' e =
 abbrev own_folder : PackageId → List ℕ
 own_folder id = codes "var/db/pkg/" ++ id_text id
 
-path_in : (id : PackageId) (name : List ℕ) → record_path id name ≡ own_folder id ++ 47 ∷ name
-unfolding record_path
+path_in : (id : PackageId) (name : List ℕ) → package_file_path id name ≡ own_folder id ++ 47 ∷ name
+unfolding package_file_path
 path_in id name = sym (append_assoc (codes "var/db/pkg/") (id_text id) (47 ∷ name))
 
 below_if_own : (id : PackageId) (q : List ℕ) → IsOf id q → is_below (own_folder id) q ≡ true

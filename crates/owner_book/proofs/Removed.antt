@@ -10,10 +10,10 @@ use Rattle.merge_record.specs.declared.record.OwnerKey.{OwnerKey}
 use Rattle.journal.specs.Judging.{is_in}
 use Rattle.owner_book.specs.declared.index.Slot.{Slot}
 use Rattle.owner_book.specs.declared.index.Mark.{Mark}
-use Rattle.owner_book.specs.Book.{Book, ChangesClaim, HasOwnersOf, IsClaimedBy, Parts, claim_in, owner_in}
+use Rattle.owner_book.specs.Book.{Book, ChangesClaim, HasOwnersOf, IsClaimedBy, ClaimValue, claim_in, owner_in}
 use Rattle.owner_book.specs.Marks.{AreUsed, mark_of, owner_of}
 use Rattle.owner_book.specs.Removing.{AreRemovable, IsFirstKept, IsIndexed, MayRemove, goes, is_removable}
-use Rattle.owner_book.specs.Slots.{Slots, slot_at}
+use Rattle.owner_book.specs.Slots.{IndexValue, slot_at}
 use Rattle.owner_book.specs.Whole.{IsBook, book_of, owned_in}
 use Rattle.owner_book.proofs.Books.{claims_on, mark_cases, own}
 use Rattle.owner_book.proofs.Lists.{is_in-more}
@@ -23,7 +23,7 @@ use Rattle.owner_book.proofs.Views.{view_owner, view_unclaimed}
 
 -- ---- what the slot says
 
-module _ (es : Slots) (cs : List (ℕ × Parts)) (v : Book) (b : IsBook es cs) (view : book_of es cs ≡ v) (dying : OwnerKey → Bool) (q : List ℕ) where
+module _ (es : IndexValue) (cs : List (ℕ × ClaimValue)) (v : Book) (b : IsBook es cs) (view : book_of es cs ≡ v) (dying : OwnerKey → Bool) (q : List ℕ) where
   marked_claimed : (m : Mark) → mark_of (slot_at es q) ≡ Some m → IsClaimedBy v.claims q m.group
   marked_claimed m e = subst (λ (x : Book). IsClaimedBy x.claims q m.group) view (claims_on es cs b q m.group (m, e, refl))
 
@@ -74,7 +74,7 @@ removable_more b dying ps i p lt is may all q h =
 
 -- ---- books with the same look-ups are the same
 
-module _ (es es' : Slots) (cs cs' : List (ℕ × Parts)) (b : IsBook es cs) (b' : IsBook es' cs')
+module _ (es es' : IndexValue) (cs cs' : List (ℕ × ClaimValue)) (b : IsBook es cs) (b' : IsBook es' cs')
     (owners : (q : List ℕ) → owner_in (owned_in es') q ≡ owner_in (owned_in es) q) (claims : (g : ℕ) → claim_in cs' g ≡ claim_in cs g) where
   owner_same : (q : List ℕ) → owner_of (slot_at es' q) ≡ owner_of (slot_at es q)
   owner_same q = sym (own es' cs' b' q) ∙ (owners q ∙ own es cs b q)
@@ -98,7 +98,7 @@ module _ (es es' : Slots) (cs cs' : List (ℕ × Parts)) (b : IsBook es cs) (b' 
   slot_same : (q : List ℕ) → slot_at es' q ≡ slot_at es q
   slot_same q = by (slot_at es' q) (slot_at es q) refl refl (owner_same q) (mark_same q)
     where
-      bare : (xs : Slots) → AreUsed xs → (s : Slot) → slot_at xs q ≡ Some s → s.owner ≡ None → s.mark ≡ None → ⊥
+      bare : (xs : IndexValue) → AreUsed xs → (s : Slot) → slot_at xs q ≡ Some s → s.owner ≡ None → s.mark ≡ None → ⊥
       bare xs used s e o m = false≢true (sym (rw (o, m) refl) ∙ used.used q s e)
 
       joined : (s t : Slot) → s.owner ≡ t.owner → s.mark ≡ t.mark → Some s ≡ Some t
@@ -117,7 +117,7 @@ module _ (es es' : Slots) (cs cs' : List (ℕ × Parts)) (b : IsBook es cs) (b' 
       λ i. book_of (slots i) (lists i)
 
 -- what is left of a claim that is dropped is the book that it came into
-pub released_back : (es : Slots) (cs : List (ℕ × Parts)) (b : IsBook es cs) (was mid new : Book) (g : ℕ) (c : Parts) → book_of es cs ≡ new → HasOwnersOf mid new → ChangesClaim mid new g None
+pub released_back : (es : IndexValue) (cs : List (ℕ × ClaimValue)) (b : IsBook es cs) (was mid new : Book) (g : ℕ) (c : ClaimValue) → book_of es cs ≡ new → HasOwnersOf mid new → ChangesClaim mid new g None
     → IsIndexed was → claim_in was.claims g ≡ None → HasOwnersOf was mid → ChangesClaim was mid g (Some c) → new ≡ was
 released_back es cs b was mid new g c view owners claims indexed none owned claimed =
     sym view ∙ (books_same indexed.slots es indexed.claims cs indexed.fits b
@@ -130,7 +130,7 @@ released_back es cs b was mid new g c view owners claims indexed none owned clai
       | inr apart ↦ cond-false (g == h) None (claim_in mid.claims h) (ne_eqb g h apart) ∙ (claimed h ∙ cond-false (g == h) (Some c) (claim_in was.claims h) (ne_eqb g h apart))
     ]
 
-pub indexed_view : (es : Slots) (cs : List (ℕ × Parts)) (v : Book) → IsBook es cs → book_of es cs ≡ v → IsIndexed v
+pub indexed_view : (es : IndexValue) (cs : List (ℕ × ClaimValue)) (v : Book) → IsBook es cs → book_of es cs ≡ v → IsIndexed v
 indexed_view es cs v b view = record { slots = es; claims = cs; fits = b; is = sym view }
 
 pub first_kept_at : (b : Book) (dying : OwnerKey → Bool) (ps : List (List ℕ)) (i : ℕ) (p q : List ℕ) → i < length ps → p ≡ get_or ps i p → q ≡ p → AreRemovable b dying (take i ps) → (MayRemove b dying p → ⊥) → IsFirstKept b dying ps q

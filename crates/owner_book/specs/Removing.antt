@@ -3,8 +3,8 @@ use Rattle.std.specs.Prelude.{◌≡◌, ◌&&◌, ℕ, Bool, true, false, not, 
 use Rattle.merge_record.specs.declared.record.OwnerKey.{OwnerKey}
 use Rattle.journal.specs.Judging.{is_in}
 use Rattle.owner_book.specs.declared.index.Slot.{Slot}
-use Rattle.owner_book.specs.Book.{Book, IsClaimedBy, Parts, owner_in}
-use Rattle.owner_book.specs.Slots.{Slots}
+use Rattle.owner_book.specs.Book.{Book, IsClaimedBy, ClaimValue, owner_in}
+use Rattle.owner_book.specs.Slots.{IndexValue}
 use Rattle.owner_book.specs.Whole.{IsBook, book_of}
 
 -- a package that goes owns the path, and no claim has it
@@ -38,7 +38,7 @@ is_removable dying (Some s) = goes dying s.owner && not (is_some s.mark)
 
 -- the book is that of an index and of claims that fit it
 pub record IsIndexed (b : Book) : Type 0 where
-  pub slots : Slots
-  pub claims : List (ℕ × Parts)
+  pub slots : IndexValue
+  pub claims : List (ℕ × ClaimValue)
   pub fits : IsBook slots claims
   pub is : b ≡ book_of slots claims

@@ -7,7 +7,7 @@ use Rattle.basics.proofs.Membership.{has-append_left, has-map, has-map_back}
 use Rattle.basics.proofs.Texts.{bytes_eq-apart, bytes_eq-same}
 use Rattle.basics.proofs.Tests.{none_is_not_some}
 use Rattle.file_tree.specs.Disk.{held_by}
-use Rattle.file_tree.specs.Thing.{Thing}
+use Rattle.file_tree.specs.ObjectValue.{ObjectValue}
 use Rattle.file_tree.specs.declared.objects.Entry.{Entry}
 use Rattle.image_fit.specs.Images.{path_of}
 use Rattle.journal.specs.Group.{with_placements}
@@ -34,10 +34,10 @@ placed_paths (e ∷ es) = ap (λ (l : List (List ℕ)). e.path ∷ l) (placed_pa
 absent : (es : List Entry) (q : List ℕ) → (Has (map path_of es) q → ⊥) → is_in (map judging.path_of (map placement_of es)) q ≡ false
 absent es q none = false_if_absent (map judging.path_of (map placement_of es)) q _ refl (λ has. none (subst (λ (l : List (List ℕ)). Has l q) (placed_paths es) has))
 
-untouched : (es : List Entry) (q : List ℕ) (x : Option Thing) → (Has (map path_of es) q → ⊥) → with_placements (map placement_of es) (map object_of es) q x ≡ x
+untouched : (es : List Entry) (q : List ℕ) (x : Option ObjectValue) → (Has (map path_of es) q → ⊥) → with_placements (map placement_of es) (map object_of es) q x ≡ x
 untouched es q x none = placed_outside (map placement_of es) (map object_of es) q x (absent es q none)
 
-placed_at : (es : List Entry) (e : Entry) (x : Option Thing) → AreDistinct (map path_of es) → Has es e → with_placements (map placement_of es) (map object_of es) e.path x ≡ Some e.object
+placed_at : (es : List Entry) (e : Entry) (x : Option ObjectValue) → AreDistinct (map path_of es) → Has es e → with_placements (map placement_of es) (map object_of es) e.path x ≡ Some e.object
 placed_at [] e x distinct has = absurd has
 placed_at (d ∷ es) e x distinct (inl same) =
     subst (λ (f : Entry). with_placements (map placement_of es) (map object_of es) f.path (if bytes_eq f.path d.path then Some d.object else x) ≡ Some f.object) same

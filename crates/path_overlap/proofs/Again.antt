@@ -7,7 +7,7 @@ use Rattle.basics.proofs.Membership.{has-append_cases, has-append_left, has-appe
 use Rattle.basics.proofs.Texts.{not_less}
 use Rattle.pms_names.specs.Flags.{IsRising, byte_order}
 use Rattle.file_tree.specs.Paths.{is_path}
-use Rattle.path_overlap.specs.Indexes.{ArePaths, IsLesser, IsSeen, Seen}
+use Rattle.path_overlap.specs.Indexes.{ArePaths, IsLesser, IsSeen, PathIndexValue}
 use Rattle.path_overlap.specs.Overlaps.{IsFirst, StandsTwice}
 use Rattle.path_overlap.proofs.Sets.{is_there, less_further, was_there}
 
@@ -69,7 +69,7 @@ module _ (p : List ℕ) where
     ];
   }
 
-  pub seen_new : (ps : List (List ℕ)) (x : Seen) (keys : List (List ℕ)) → IsSeen ps x → (Has x.texts p → ⊥) → keys ≡ insert_key byte_order x.texts p → IsRising keys → IsSeen (ps ++ p ∷ []) (record { texts = keys; twice = x.twice })
+  pub seen_new : (ps : List (List ℕ)) (x : PathIndexValue) (keys : List (List ℕ)) → IsSeen ps x → (Has x.texts p → ⊥) → keys ≡ insert_key byte_order x.texts p → IsRising keys → IsSeen (ps ++ p ∷ []) (record { texts = keys; twice = x.twice })
   seen_new ps x keys seen none made rising = record {
     rising = rising;
     members = λ t. (
@@ -86,7 +86,7 @@ module _ (p : List ℕ) where
     twice = known_new ps x.twice seen.twice (λ h. none ((seen.members p).1 h));
   }
 
-  pub seen_again : (ps : List (List ℕ)) (x : Seen) (r : List ℕ) → IsSeen ps x → Has x.texts p → MatchOption x.twice (r ≡ p) (λ k. IsLesser k p r) → IsSeen (ps ++ p ∷ []) (record { texts = x.texts; twice = Some r })
+  pub seen_again : (ps : List (List ℕ)) (x : PathIndexValue) (r : List ℕ) → IsSeen ps x → Has x.texts p → MatchOption x.twice (r ≡ p) (λ k. IsLesser k p r) → IsSeen (ps ++ p ∷ []) (record { texts = x.texts; twice = Some r })
   seen_again ps x r seen there lesser = record {
     rising = seen.rising;
     members = λ t. (
@@ -101,7 +101,7 @@ module _ (p : List ℕ) where
   }
 
 -- with one more path, the index keeps paths alone
-pub paths_more : (p : List ℕ) (x : Seen) (keys : List (List ℕ)) → ArePaths x → is_path p ≡ true → keys ≡ insert_key byte_order x.texts p → ArePaths (record { texts = keys; twice = x.twice })
+pub paths_more : (p : List ℕ) (x : PathIndexValue) (keys : List (List ℕ)) → ArePaths x → is_path p ≡ true → keys ≡ insert_key byte_order x.texts p → ArePaths (record { texts = keys; twice = x.twice })
 paths_more p x keys are path made = record {
   each = λ t has. elim (was_there p x.texts t (subst (λ (l : List (List ℕ)). Has l t) made has)) [
     | inl e ↦ subst (λ (q : List ℕ). is_path q ≡ true) e path

@@ -16,7 +16,7 @@ use Rattle.pms_names.specs.Flags.{IsRising, byte_order}
 use Rattle.file_tree.specs.Paths.{is_below}
 use Rattle.owner_book.specs.Near.{IsLast, IsNext}
 use Rattle.owner_book.proofs.Order.{at_most_begins, begins_below, folder, none_below_last, none_below_next}
-use Rattle.path_overlap.specs.Indexes.{IsSeen, Seen}
+use Rattle.path_overlap.specs.Indexes.{IsSeen, PathIndexValue}
 use Rattle.path_overlap.specs.Overlaps.{AreApart, IsFirst, IsOver, IsUnder, StandsTwice}
 use Rattle.path_overlap.proofs.Sets.{behind_later, not_greater}
 
@@ -59,7 +59,7 @@ module _ (s : BTreeSet (List ℕ)) (start : List ℕ) (r : List (List ℕ)) (ran
     pub none_left : r ≡ [] → (q : List ℕ) → Has s.keys q → is_below p q ≡ false
     none_left e q has = none_below_last (contains byte_order s) p (subst (IsLast (contains byte_order s)) begins (last_of e)) q (key_contained s q has)
 
-module _ (ps : List (List ℕ)) (x : Seen) (seen : IsSeen ps x) where
+module _ (ps : List (List ℕ)) (x : PathIndexValue) (seen : IsSeen ps x) where
   -- of the texts the first with one below it is that of the paths
   pub first_over : (front : List (List ℕ)) (q : List ℕ) (behind : List (List ℕ)) (low : List ℕ) → x.texts ≡ front ++ (q ∷ behind)
       → ((a b : List ℕ) → Has front a → Has x.texts b → is_below a b ≡ false) → IsFirst (IsUnder x.texts q) low → IsFirst (IsOver ps) q × IsFirst (IsUnder ps q) low
@@ -97,5 +97,5 @@ pub same_below : (a b x y : List ℕ) (r v : Bool) → x ≡ a → y ≡ b → r
 same_below a b x y r v e f is has = ap (λ (t : List ℕ). is_below t b) (sym e) ∙ (ap (λ (t : List ℕ). is_below x t) (sym f) ∙ (sym is ∙ has))
 
 -- where none is known to stand twice, none does
-pub distinct_of : (ps : List (List ℕ)) (x : Seen) → IsSeen ps x → x.twice ≡ None → AreDistinct ps
+pub distinct_of : (ps : List (List ℕ)) (x : PathIndexValue) → IsSeen ps x → x.twice ≡ None → AreDistinct ps
 distinct_of ps x seen e = MatchOption-at_none (AreDistinct ps) (IsFirst (StandsTwice ps)) e seen.twice

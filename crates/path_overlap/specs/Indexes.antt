@@ -7,17 +7,17 @@ use Rattle.file_tree.specs.Paths.{is_path}
 use Rattle.path_overlap.specs.Overlaps.{IsFirst, StandsTwice}
 
 -- the texts in byte order, and the first that was there already when it came
-pub record Seen : Type 0 where
+pub record PathIndexValue : Type 0 where
   pub texts : List (List ℕ)
   pub twice : Option (List ℕ)
 
 -- all texts that it keeps are paths
-pub record ArePaths (x : Seen) : Type 0 where
+pub record ArePaths (x : PathIndexValue) : Type 0 where
   pub each : (t : List ℕ) → Has x.texts t → is_path t ≡ true
   pub again : IfSome x.twice (λ t. is_path t ≡ true)
 
 -- it is what was seen of these paths
-pub record IsSeen (ps : List (List ℕ)) (x : Seen) : Type 0 where
+pub record IsSeen (ps : List (List ℕ)) (x : PathIndexValue) : Type 0 where
   pub rising : IsRising x.texts
   pub members : (t : List ℕ) → Has x.texts t ↔ Has ps t
   pub twice : MatchOption x.twice (AreDistinct ps) (IsFirst (StandsTwice ps))

@@ -20,9 +20,9 @@ pub struct PathIndex {
 }
 
 impl Model for PathIndex {
-    ghost use Rattle.path_overlap.specs.Indexes.{ArePaths, Seen};
+    ghost use Rattle.path_overlap.specs.Indexes.{ArePaths, PathIndexValue};
 
-    ghost Value = { Seen };
+    ghost Value = { PathIndexValue };
 
     ghost view = { λ x. record { texts = x.texts.keys; twice = x.twice } };
 

@@ -8,7 +8,7 @@
 //! the others as they are; packages are consistent, or just one fault is their first, and
 //! [`consistent`] tells which.
 //!
-//! **Only tested**: nothing yet.
+//! **Only tested**, within whole runs: that with ample memory packages are judged.
 //!
 //! ```
 //! let replaced = state.insert(alloc, package)?;

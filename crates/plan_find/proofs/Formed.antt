@@ -10,7 +10,7 @@ use Rattle.file_tree.specs.Disk.{Map}
 use Rattle.pkg_state.specs.Package.{Package, tree_of, with_enabled}
 use Rattle.pkg_state.specs.declared.class.Class.{Class}
 use Rattle.pkg_state.specs.declared.class.Class.TheVariants.{Bdepend, Depend, Idepend, Pdepend, Rdepend}
-use Rattle.md5_cache.specs.Entries.{Entry, TellsNeeds}
+use Rattle.md5_cache.specs.Entries.{CacheEntryValue, TellsNeeds}
 use Rattle.md5_cache.specs.declared.pair.Pair.{Pair}
 use Rattle.candidate_set.specs.Candidates.{IsVerdict, visible_of}
 use Rattle.candidate_set.specs.declared.rules.VisibleRules.{VisibleRules}
@@ -36,9 +36,9 @@ formed_with pairs p tells on = record {
   required = tells.required.0;
 }
 
-visible_formed : (m : Map) (rules : VisibleRules) (vs : List Verdict) → AllByRecursion (IsVerdict m rules) vs → (e : Entry) → Has (filter_map visible_of vs) e → (on : List (List ℕ)) → IsFormed (with_enabled on e.package_is)
+visible_formed : (m : Map) (rules : VisibleRules) (vs : List Verdict) → AllByRecursion (IsVerdict m rules) vs → (e : CacheEntryValue) → Has (filter_map visible_of vs) e → (on : List (List ℕ)) → IsFormed (with_enabled on e.package_is)
 visible_formed m rules [] all e is on = absurd is
-visible_formed m rules (verdicts.Visible f ∷ vs) all e (inl same) on = subst (λ (x : Entry). IsFormed (with_enabled on x.package_is)) same (formed_with _ f.package_is all.0.judged.has.tells.needs on)
+visible_formed m rules (verdicts.Visible f ∷ vs) all e (inl same) on = subst (λ (x : CacheEntryValue). IsFormed (with_enabled on x.package_is)) same (formed_with _ f.package_is all.0.judged.has.tells.needs on)
 visible_formed m rules (verdicts.Visible f ∷ vs) all e (inr is) on = visible_formed m rules vs all.1 e is on
 visible_formed m rules (verdicts.Hidden h ∷ vs) all e is on = visible_formed m rules vs all.1 e is on
 
@@ -50,6 +50,6 @@ offered_formed m flips implicit candidates hidden are = λ p is.
     let tried = has-filter_back has_variant all from.0 (subst (λ (cs : List Candidate). Has cs from.0) of.tried.candidates_are from.1) in
     let entry = zip_has (IsOffered of.flags flips) of.visible all from.0 of.tried.each tried.0 in
     let judged = of.judged.are in
-    let visible = subst (λ (es : List Entry). Has es entry.0) judged.visible_are entry.1 in
+    let visible = subst (λ (es : List CacheEntryValue). Has es entry.0) judged.visible_are entry.1 in
     let formed = visible_formed m of.judged.rules judged.verdicts judged.each entry.0 visible of.flags.implicit in
     subst (λ (q : Package). IsFormed q × (q.facts.enabled ≡ implicit)) (sym entry.2.bare ∙ from.2) (formed, sym of.implicit_are)

@@ -9,7 +9,7 @@ use Rattle.basics.proofs.Membership.{has-append_cases}
 use Rattle.build_pool.specs.declared.orders.Order.{Order}
 use Rattle.file_tree.specs.Disk.{Map}
 use Rattle.file_tree.specs.declared.objects.Entry.{Entry}
-use Rattle.merge_site.specs.Site.{Account}
+use Rattle.merge_site.specs.Site.{SiteValue}
 use Rattle.plan_law.specs.Plans.{Group, group_at}
 use Rattle.database_law.specs.Packages.{Installed}
 use Rattle.group_run.specs.Causes.{IsOfGroup}
@@ -84,7 +84,7 @@ module _ (Image : Order → List Entry → Type 0) (ps : List Installed) (plan :
 
 module _ {T S : Type 0} (Image : Order → List Entry → Type 0) (plan : List Group) (jobs : List Job) (places : Places) (held : Holdings) (tells : Bool) (opening : Map) where
   -- .. is a run of the plan so far
-  pub ran_now : (place : ℕ) (now : Holdings) (history acknowledged : List ℕ) (a : Account T S) (end : Result (Unit {0}) Stop) → place ≤ length plan
+  pub ran_now : (place : ℕ) (now : Holdings) (history acknowledged : List ℕ) (a : SiteValue T S) (end : Result (Unit {0}) Stop) → place ≤ length plan
       → IsUpTo Image plan jobs places held tells opening place now history acknowledged a → IfErr end (λ s. IsOfGroup s → ⊥) → RanPlan Image plan jobs places held tells opening history acknowledged end a
   ran_now place now history acknowledged a end le so_far plain = record {
     turns = so_far.turns;
@@ -96,7 +96,7 @@ module _ {T S : Type 0} (Image : Order → List Entry → Type 0) (plan : List G
   }
 
   -- one group more
-  pub up_next : (place : ℕ) (last next : Holdings) (history acknowledged : List ℕ) (a : Account T S) (so_far : IsUpTo Image plan jobs places held tells opening place last history acknowledged a)
+  pub up_next : (place : ℕ) (last next : Holdings) (history acknowledged : List ℕ) (a : SiteValue T S) (so_far : IsUpTo Image plan jobs places held tells opening place last history acknowledged a)
       (t : Turn) (newcomers : List Newcomer) → t.group ≡ suc place → AreNewcomersAt Image plan jobs place newcomers
       → ((ps : List Installed) → ArePlaces (folders_with ps (coming plan)) places → IsTurnOf ps plan (group_at plan place) last newcomers t) → next ≡ holding_all newcomers t.packages.items last
       → (numbers (so_far.turns ++ t ∷ []) ≡ upto (suc place))
@@ -108,7 +108,7 @@ module _ {T S : Type 0} (Image : Order → List Entry → Type 0) (plan : List G
       )
 
   -- .. and the run stopped there
-  pub ran_stopped : (place : ℕ) (next : Holdings) (turns : List Turn) (history acknowledged : List ℕ) (b : Account T S) (s : Stop) → place < length plan
+  pub ran_stopped : (place : ℕ) (next : Holdings) (turns : List Turn) (history acknowledged : List ℕ) (b : SiteValue T S) (s : Stop) → place < length plan
       → numbers turns ≡ upto (suc place) → ((ps : List Installed) → ArePlaces (folders_with ps (coming plan)) places → AreTurnsTo Image ps plan jobs 0 held turns next)
       → EndsAt tells opening turns history acknowledged b s → RanPlan Image plan jobs places held tells opening history acknowledged (Err s) b
   ran_stopped place next turns history acknowledged b s lt numbered made ends = record {

@@ -1,13 +1,13 @@
 -- The merge of a plan, from that of its groups at a site that was opened for them and then closed.
 use Rattle.std.proofs.Common.{◌≡◌, ◌∙◌, ◌≤◌, ◌+◌, ℕ, Bool, List, [], Result, Some, IsTrue, ap, inr, length, subst, sym}
 use Rattle.std.specs.Prelude.{IfErr, IsErrOf}
-use Rattle.build_pool.specs.Pool.{Kept}
+use Rattle.build_pool.specs.Pool.{PoolValue}
 use Rattle.build_pool.specs.declared.builders.Builder.{Ghosts as Builder}
 use Rattle.file_tree.specs.Disk.{CountsFault, Rose}
 use Rattle.file_tree.specs.declared.fault.TreeFault.TheVariants as causes
 use Rattle.file_tree.specs.declared.traits.Sink.{Ghosts as Sink}
 use Rattle.file_tree.specs.declared.traits.Tree.{Ghosts as Tree}
-use Rattle.merge_site.specs.Site.{Account}
+use Rattle.merge_site.specs.Site.{SiteValue}
 use Rattle.plan_law.specs.Plans.{Group}
 use Rattle.database_law.specs.Packages.{Installed}
 use Rattle.group_run.specs.Causes.{IsOfGroup}
@@ -35,8 +35,8 @@ use Rattle.plan_run.specs.declared.stop.PlanStop.{PlanStop}
 use Rattle.plan_run.specs.declared.stop.PlanStop.TheVariants as stops
 use Rattle.plan_run.proofs.Whole.{as_opened, begins_then, closed_cause, closed_fine, closed_ok, closed_stop, counts_closed, ended_told, fine_told, machine_for, one_more, output_before, same_lines}
 
-module _ {T S B : Type 0} (trees : Tree T) (sinks : Sink S) (builders : Builder B) (ps : List Installed) (plan : List Group) (task : Task) (start : T) (sink : S) (old pool : Kept B)
-    (course : Course) (begun last : Account T S) (progress : Progress) (before end : Result (Unit {0}) PlanStop) (tree : T) where
+module _ {T S B : Type 0} (trees : Tree T) (sinks : Sink S) (builders : Builder B) (ps : List Installed) (plan : List Group) (task : Task) (start : T) (sink : S) (old pool : PoolValue B)
+    (course : Course) (begun last : SiteValue T S) (progress : Progress) (before end : Result (Unit {0}) PlanStop) (tree : T) where
   abbrev closed : Merged T S
   closed = record {
     tree = tree;

@@ -5,7 +5,7 @@ use Rattle.std.specs.List.{AllZip}
 use Rattle.std.proofs.lemmas.List.{map-append, take_more}
 use Rattle.std.proofs.lemmas.Option.{slice_get_read}
 use Rattle.basics.specs.Members.{Has}
-use Rattle.build_pool.specs.Pool.{Kept, PoolRose, faults_of}
+use Rattle.build_pool.specs.Pool.{PoolValue, PoolRose, faults_of}
 use Rattle.build_pool.specs.declared.orders.Order.{Order}
 use Rattle.file_tree.specs.Disk.{CountsFault}
 use Rattle.file_tree.specs.declared.fault.TreeFault.TheVariants as trees
@@ -54,7 +54,7 @@ module _ {B : Type 0} (told : B → Order → List Entry) where
   all_built tells first last (o ∷ os) [] alike all = absurd all
   all_built tells first last (o ∷ os) (n ∷ ns) alike all = (built_before tells first last o n.image.items alike all.0, all_built tells first last os ns alike all.1)
 
-pub rose_before : {B : Type 0} (faults : B → ℕ) (old mid new : Kept B) → faults_of faults old ≤ faults_of faults mid → PoolRose faults mid new → PoolRose faults old new
+pub rose_before : {B : Type 0} (faults : B → ℕ) (old mid new : PoolValue B) → faults_of faults old ≤ faults_of faults mid → PoolRose faults mid new → PoolRose faults old new
 rose_before faults old mid new le (inl lt) = inl (omega (arith, le, lt))
 rose_before faults old mid new le (inr full) = inr full
 

@@ -1,7 +1,7 @@
 -- What the merge of a plan promises, where it never began, and where its tree was read before.
 use Rattle.std.proofs.Common.{◌≡◌, ◌∙◌, ◌≤◌, ◌+◌, ◌∷◌, ℕ, List, [], Option, None, Err, IsTrue, ap, append-nil, arith, inl, refl, subst, sym, take}
 use Rattle.std.specs.Prelude.{MatchOption, length}
-use Rattle.build_pool.specs.Pool.{Kept, faults_of, id_times}
+use Rattle.build_pool.specs.Pool.{PoolValue, faults_of, id_times}
 use Rattle.build_pool.specs.declared.builders.Builder.{Ghosts as Builder}
 use Rattle.file_tree.specs.Disk.{CountsFault, Story}
 use Rattle.file_tree.specs.declared.fault.TreeFault.{TreeFault}
@@ -9,7 +9,7 @@ use Rattle.file_tree.specs.declared.fault.TreeFault.TheVariants as trees_faults
 use Rattle.file_tree.specs.declared.traits.Sink.{Ghosts as Sink}
 use Rattle.file_tree.specs.declared.traits.Tree.{Ghosts as Tree}
 use Rattle.journal.specs.Group as journal
-use Rattle.merge_core.specs.Keeping.{Keeping}
+use Rattle.merge_core.specs.CoreValue.{CoreValue}
 use Rattle.merge_core.specs.Trail.{IsAtRest}
 use Rattle.plan_law.specs.Plans.{Group}
 use Rattle.database_law.specs.Packages.{Installed}
@@ -40,7 +40,7 @@ nothing_begins whole text none = (0, none ∙ nothing_first whole)
 pub counted_none : {T : Type 0} (faults : T → ℕ) (old new : T) (P : Type 0) → new ≡ old → (P → ⊥) → CountsFault P (faults old) (faults new)
 counted_none faults old new P same none = record { later = subst (λ x. faults old ≤ faults x) (sym same) (omega arith); rose = λ p. absurd (none p) }
 
-module _ {T S B : Type 0} (trees : Tree T) (sinks : Sink S) (builders : Builder B) (installed : List Installed) (plan : List Group) (task : Task) (tree : T) (sink : S) (old new : Kept B) (run : Merged T S) where
+module _ {T S B : Type 0} (trees : Tree T) (sinks : Sink S) (builders : Builder B) (installed : List Installed) (plan : List Group) (task : Task) (tree : T) (sink : S) (old new : PoolValue B) (run : Merged T S) where
   -- the tree was only read before the merge of it began
   pub read_before : (mid : T) → (IsTrue trees.tells → trees.story mid ≡ trees.story tree) → trees.faults tree ≤ trees.faults mid
       → MergesPlan trees sinks builders installed plan task mid sink old new run → MergesPlan trees sinks builders installed plan task tree sink old new run
@@ -88,10 +88,10 @@ module _ {T S B : Type 0} (trees : Tree T) (sinks : Sink S) (builders : Builder 
         );
         written = λ t. ([], lines_none _ (line_for task.jobs.items) history told untold, ap sinks.written sink_is ∙ sym (append-nil _));
         back = record {
-          machine = subst (λ (k : Option Keeping). MatchOption k (history ≡ []) (HaveRun (upto (length plan)) (length plan + 1) history)) (sym no_machine) none;
+          machine = subst (λ (k : Option CoreValue). MatchOption k (history ≡ []) (HaveRun (upto (length plan)) (length plan + 1) history)) (sym no_machine) none;
           unasked = λ e. pool_is;
           ids = λ n. ap (id_times builders.number n) pool_is;
-          lent = ap (λ (p : Kept B). p.lent) pool_is;
-          builds = subst (λ (p : Kept B). faults_of builders.faults old ≤ faults_of builders.faults p) (sym pool_is) (omega arith);
+          lent = ap (λ (p : PoolValue B). p.lent) pool_is;
+          builds = subst (λ (p : PoolValue B). faults_of builders.faults old ≤ faults_of builders.faults p) (sym pool_is) (omega arith);
         };
       }

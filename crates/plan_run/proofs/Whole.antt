@@ -9,7 +9,7 @@ use Rattle.file_tree.specs.declared.fault.TreeFault.TheVariants as trees
 use Rattle.owner_book.specs.Book.{Book}
 use Rattle.merge_core.specs.Roll.{resting}
 use Rattle.merge_core.specs.Core.{standing_in}
-use Rattle.merge_site.specs.Site.{Account}
+use Rattle.merge_site.specs.Site.{SiteValue}
 use Rattle.merge_site.specs.declared.group.SiteGroup.{SiteGroup}
 use Rattle.plan_law.specs.Plans.{Group}
 use Rattle.database_law.specs.Packages.{Installed}
@@ -85,7 +85,7 @@ module _ (ps : List Installed) (plan : List Group) (jobs : List Job) (groups : L
 
 -- ---- a site is closed
 
-pub as_opened : {T S : Type 0} (a : Account T S) (t : T) (k : Book) (groups : List SiteGroup) (P : T → Book → List SiteGroup → Type 0) → a.opened ≡ t → a.opened_book ≡ k → a.groups ≡ groups → P a.opened a.opened_book a.groups → P t k groups
+pub as_opened : {T S : Type 0} (a : SiteValue T S) (t : T) (k : Book) (groups : List SiteGroup) (P : T → Book → List SiteGroup → Type 0) → a.opened ≡ t → a.opened_book ≡ k → a.groups ≡ groups → P a.opened a.opened_book a.groups → P t k groups
 as_opened a t k groups P opened book are p =
     subst (λ (l : List SiteGroup). P t k l) are (subst (λ (b : Book). P t b a.groups) book (subst (λ x. P x a.opened_book a.groups) opened p))
 
@@ -172,7 +172,7 @@ counts_closed end end' a b c counts le rose = let later = counts.later in record
 
 -- ---- the machine
 
-pub machine_for : {T S : Type 0} (a : Account T S) (all ns history : List ℕ) (n : ℕ) → IsBeginning all ns → history ≡ map number a.keeping.order → length a.keeping.standings ≡ n
+pub machine_for : {T S : Type 0} (a : SiteValue T S) (all ns history : List ℕ) (n : ℕ) → IsBeginning all ns → history ≡ map number a.keeping.order → length a.keeping.standings ≡ n
     → ((h : ℕ) → (Has (take (suc (length history)) ns) h → ⊥) → standing_in a.keeping.standings h ≡ resting) → HaveRun all n history a.keeping
 machine_for a all ns history n begins order count rest = record {
   order = order;

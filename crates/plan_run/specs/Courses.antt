@@ -1,6 +1,6 @@
 -- How the turns of a plan's run went, before its journal is cleared.
 use Rattle.std.specs.Prelude.{◌≡◌, ◌≤◌, ℕ, suc, Bool, List, [], ◌∷◌, IfErr, IsErrOf, IsTrue, OnOk, Result, length, ⊤}
-use Rattle.build_pool.specs.Pool.{Kept, PoolRose, SameIds, faults_of}
+use Rattle.build_pool.specs.Pool.{PoolValue, PoolRose, SameIds, faults_of}
 use Rattle.build_pool.specs.declared.builders.Builder.{Ghosts as Builder}
 use Rattle.build_pool.specs.declared.orders.Order.{Order}
 use Rattle.file_tree.specs.Disk.{CountsFault, Map, Rose}
@@ -8,7 +8,7 @@ use Rattle.file_tree.specs.declared.fault.TreeFault.TheVariants as causes
 use Rattle.file_tree.specs.declared.objects.Entry.{Entry}
 use Rattle.file_tree.specs.declared.traits.Sink.{Ghosts as Sink}
 use Rattle.file_tree.specs.declared.traits.Tree.{Ghosts as Tree}
-use Rattle.merge_site.specs.Site.{Account, IsSameSite}
+use Rattle.merge_site.specs.Site.{SiteValue, IsSameSite}
 use Rattle.plan_law.specs.Plans.{Group, group_at}
 use Rattle.database_law.specs.Packages.{Installed}
 use Rattle.group_run.specs.Lines.{AreLines, IsBeginning, Wrote, line_in}
@@ -55,7 +55,7 @@ pub record AreMade (Image : Order → List Entry → Type 0) (plan : List Group)
 -- the run ended so with turns that were made of the plan
 pub record RanPlan {T S : Type 0} (Image : Order → List Entry → Type 0) (plan : List Group)
     (jobs : List Job) (places : Places) (held : Holdings) (tells : Bool) (opening : Map)
-    (history acknowledged : List ℕ) (end : Result ⊤ Stop) (a : Account T S) :
+    (history acknowledged : List ℕ) (end : Result ⊤ Stop) (a : SiteValue T S) :
     Type 0 where
   pub turns : List Turn
   pub are : AreMade Image plan jobs places held turns
@@ -64,8 +64,8 @@ pub record RanPlan {T S : Type 0} (Image : Order → List Entry → Type 0) (pla
 -- the groups of a plan are merged one after another at a site, with images of the pool; these were
 -- so before, and these so behind the last group or the first stop
 module _ {T S B : Type 0} (trees : Tree T) (sinks : Sink S) (builders : Builder B)
-    (plan : List Group) (jobs : List Job) (places : Places) (old new : Account T S)
-    (asked left : Kept B) (start last : Progress) (end : Result ⊤ PlanStop) where
+    (plan : List Group) (jobs : List Job) (places : Places) (old new : SiteValue T S)
+    (asked left : PoolValue B) (start last : Progress) (end : Result ⊤ PlanStop) where
   -- The turns are those of first groups of the plan, of all where the end is Ok, and their lines
   -- are written. An end for a build names a package of the next group, and each failure was
   -- counted. The pool has the builders that it had, and none is lent that wasn't.
@@ -102,7 +102,7 @@ AreTurnsTo Image ps plan jobs place held (t ∷ ts) last = (t.group ≡ suc plac
 -- a run has merged just the groups before this place
 pub record IsUpTo {T S : Type 0} (Image : Order → List Entry → Type 0) (plan : List Group)
     (jobs : List Job) (places : Places) (held : Holdings) (tells : Bool) (opening : Map)
-    (place : ℕ) (now : Holdings) (history acknowledged : List ℕ) (a : Account T S) : Type 0 where
+    (place : ℕ) (now : Holdings) (history acknowledged : List ℕ) (a : SiteValue T S) : Type 0 where
   pub turns : List Turn
   pub under : IsUnderWay tells opening turns history acknowledged a
   pub numbered : numbers turns ≡ upto place

@@ -1,6 +1,6 @@
 -- What the merge of a plan promises of all that it gives back, whatever its end is.
 use Rattle.std.specs.Prelude.{◌≡◌, ◌≤◌, ◌+◌, [], IfErr, IsErrOf, IsTrue, List, MatchOption, None, OnOk, length}
-use Rattle.build_pool.specs.Pool.{Kept, PoolRose, SameIds, faults_of}
+use Rattle.build_pool.specs.Pool.{PoolValue, PoolRose, SameIds, faults_of}
 use Rattle.build_pool.specs.declared.builders.Builder.{Ghosts as Builder}
 use Rattle.file_tree.specs.Disk.{CountsFault, Rose}
 use Rattle.file_tree.specs.declared.fault.TreeFault.TheVariants as causes
@@ -23,7 +23,7 @@ use Rattle.plan_run.specs.declared.stop.PlanStop.TheVariants as stops
 -- back these
 module _ {T S B : Type 0} (trees : Tree T) (sinks : Sink S) (builders : Builder B)
     (installed : List Installed) (plan : List Group) (task : Task) (start : T) (sink : S)
-    (old new : Kept B) (run : Merged T S) where
+    (old new : PoolValue B) (run : Merged T S) where
   -- The history is first groups of the plan, and all of them where the end is Ok. Its groups are
   -- told, or all but its last one; all of them unless the device, the output or memory ended the
   -- run. An end for a build names a package of the next group, and each failure was counted.

@@ -5,6 +5,7 @@ use Rattle.file_tree.specs.Disk.{Disk, IsUntouched, Map}
 use Rattle.journal.specs.Group as journal
 use Rattle.journal.specs.Group.{applied}
 use Rattle.journal.specs.Recovered.{IsRecovered}
+use Rattle.recovery.specs.Promise.{RecoversTo}
 use Rattle.journal.proofs.Recovery.{recovered_once}
 use Rattle.plan_law.specs.Accepted.{IsAccepted}
 use Rattle.plan_law.specs.Plans.{Group}
@@ -27,16 +28,16 @@ module _ (law : FirstTurnsLeaveSoundTrees) (flags : List (List ℕ)) (Chooses : 
     (fit : ChoosesPlans flags Chooses m ps Wants) (begins : BeginsWith flags d m ps) where
   -- there is one map that the disk recovers to
   one_map : (n : Map) → IsRecovered d.holds n → n ≡ m
-  one_map n is = λ i q. recovered_once d.holds n m is begins.recovers q i
+  one_map n is = λ i q. recovered_once d.holds n m is begins.recovers.0 q i
 
   -- a crash of the disk as it was
   kept : (c : Map) → IsImageOrAlike d c → RecoversSoundly flags c ps
   kept c (inl image) = record {
     tree = m;
-    recovers = subst (λ (x : Map). IsRecovered x m) (λ i q. sym (image q (begins.settled q)) i) begins.recovers;
+    recovers = subst (λ (x : Map). RecoversTo x m) (λ i q. sym (image q (begins.settled q)) i) begins.recovers;
     sound = begins.sound;
   }
-  kept c (inr (n, is, also)) = record { tree = m; recovers = subst (λ (x : Map). IsRecovered c x) (one_map n is) also; sound = begins.sound }
+  kept c (inr (n, is, also)) = record { tree = m; recovers = subst (λ (x : Map). RecoversTo c x) (one_map n is.0) also; sound = begins.sound }
 
   -- what is merged is merged over these packages, which are sound
   planned : (k : Course Chooses Image m) → IsPlanFor flags m k.packages k.book k.plan
@@ -79,7 +80,7 @@ module _ (law : FirstTurnsLeaveSoundTrees) (flags : List (List ℕ)) (Chooses : 
 
   -- the map with nothing merged into it
   unmerged : applied m [] ≡ m
-  unmerged = λ i q. applied_none m begins.recovers.cleared q i
+  unmerged = λ i q. applied_none m begins.recovers.0.cleared q i
 
   reached : (history : List ℕ) (c : Map) (k : Option (Course Chooses Image m)) → RecoversWith (IsRunOf k) m history c → StaysSound flags ps Wants history c
   reached history c (Some k) r =
@@ -87,7 +88,7 @@ module _ (law : FirstTurnsLeaveSoundTrees) (flags : List (List ℕ)) (Chooses : 
       inr (joined (AreAmong history) (RecoversSoundly flags c) k r.groups s (λ n h. subst (λ (l : List ℕ). Has l n) s.numbered (r.has n h)) (λ qs sound. record { tree = applied m r.groups; recovers = r.is; sound = sound }))
   reached history c None r =
       let none = none_there r.groups r.of in
-      inl (none_told (λ x. ⊥) m history c r none, record { tree = m; recovers = subst (λ (n : Map). IsRecovered c n) (ap (applied m) none ∙ unmerged) r.is; sound = begins.sound })
+      inl (none_told (λ x. ⊥) m history c r none, record { tree = m; recovers = subst (λ (n : Map). RecoversTo c n) (ap (applied m) none ∙ unmerged) r.is; sound = begins.sound })
 
   -- whatever is reached from a disk that runs begin with stays sound
   pub all_reached : (history : List ℕ) (c : Map) → IsReached Chooses Image history d c → StaysSound flags ps Wants history c

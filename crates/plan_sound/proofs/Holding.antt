@@ -6,7 +6,7 @@ use Rattle.basics.specs.Members.{Has}
 use Rattle.basics.proofs.Membership.{has-append_cases, has-map, has-map_back}
 use Rattle.dep_atom.proofs.Joined.{ComesApart}
 use Rattle.file_tree.specs.Disk.{Map}
-use Rattle.file_tree.specs.Thing.{Thing}
+use Rattle.file_tree.specs.ObjectValue.{ObjectValue}
 use Rattle.image_fit.specs.Images as images
 use Rattle.journal.specs.Group.{applied}
 use Rattle.journal.specs.Judging.{is_in}
@@ -50,7 +50,7 @@ module _ (comes : ComesApart) (spells : OneSpelling) (key : Installed → OwnerK
   abbrev ws : List Wish
   ws = wishes_of x.packages
 
-  abbrev parts : books.Parts
+  abbrev parts : books.ClaimValue
   parts = record { placed = ws; removed = c.does.content.removals }
 
   abbrev mid : List Installed
@@ -62,15 +62,15 @@ module _ (comes : ComesApart) (spells : OneSpelling) (key : Installed → OwnerK
   stood p q stays of =
       let step = left.comes.step in
       let same = folder_stays comes spells m ps x.added mid x.gone c.does tree.database tree.kept step.removes step.puts step.apart left.after p stays in
-      ap new of.1 ∙ ap (λ (f : List ℕ → Option Thing). f of.0) same ∙ sym (ap m of.1)
+      ap new of.1 ∙ ap (λ (f : List ℕ → Option ObjectValue). f of.0) same ∙ sym (ap m of.1)
 
   owned_on : (p : Installed) (q : List ℕ) → Stays ps x.gone p → Owns m p q → Owns new p q
   owned_on p q stays (inl recorded) = inl recorded
-  owned_on p q stays (inr there) = inr (there.0, subst (λ (o : Option Thing). IsSome o) (sym (stood p q stays there.0)) there.1)
+  owned_on p q stays (inr there) = inr (there.0, subst (λ (o : Option ObjectValue). IsSome o) (sym (stood p q stays there.0)) there.1)
 
   owned_before : (p : Installed) (q : List ℕ) → Stays ps x.gone p → Owns new p q → Owns m p q
   owned_before p q stays (inl recorded) = inl recorded
-  owned_before p q stays (inr there) = inr (there.0, subst (λ (o : Option Thing). IsSome o) (stood p q stays there.0) there.1)
+  owned_before p q stays (inr there) = inr (there.0, subst (λ (o : Option ObjectValue). IsSome o) (stood p q stays there.0) there.1)
 
   -- it owns what it owned
   pub staying_owns : (p : Installed) (q : List ℕ) → Stays ps x.gone p → (Owns m p q ↔ Owns (applied m ((change_by n x).does ∷ [])) p q)
@@ -100,7 +100,7 @@ module _ (comes : ComesApart) (spells : OneSpelling) (key : Installed → OwnerK
           | inr o ↦ (
               let of = are.inside e.0 o in
               let wish = has-piece wishes_in x.packages f (wish_for f.owner true e.0) hf (own_wish f e.0 o) in
-              inr (of, subst (λ (y : Option Thing). IsSome y) (sym (came a e.0.path ha of)) (tells.wishes.put (wish_for f.owner true e.0) wish)))
+              inr (of, subst (λ (y : Option ObjectValue). IsSome y) (sym (came a e.0.path ha of)) (tells.wishes.put (wish_for f.owner true e.0) wish)))
         ])
 
     wished_placed : (q : List ℕ) → (w : Wish) → Has ws w → w.path ≡ q → w.owner ≡ key a → Has (map images.path_of (all_in f)) q

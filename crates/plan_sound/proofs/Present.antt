@@ -12,7 +12,7 @@ use Rattle.dep_atom.specs.declared.package.PackageId.{PackageId}
 use Rattle.dep_atom.proofs.Joined.{ComesApart}
 use Rattle.pkg_state.specs.Package.{Package, line_of}
 use Rattle.pkg_state.proofs.Lines.{one_on_line}
-use Rattle.vdb_text.specs.Files.{record_path}
+use Rattle.vdb_text.specs.Files.{package_file_path}
 use Rattle.vdb_text.proofs.Packages.{OneSpelling, one_id}
 use Rattle.plan_law.specs.Accepted.{IsAccepted}
 use Rattle.plan_law.specs.Lives.{ComesBefore, Life, Moment, StandsBefore, commit, never, opening}
@@ -35,7 +35,7 @@ use Rattle.plan_sound.proofs.Beginnings.{after_push, below, below_less, less_bel
 
 -- ids with one text are one
 one_of_text : ComesApart → OneSpelling → (a b : PackageId) → IsId a → IsId b → id_text a ≡ id_text b → a ≡ b
-unfolding record_path
+unfolding package_file_path
 one_of_text comes spells a b is also e = one_id comes spells a b [] [] is also (ap (λ (t : List ℕ). codes "var/db/pkg/" ++ (t ++ (47 ∷ []))) e)
 
 abbrev pub AcceptedAreSound : Type 0

@@ -10,7 +10,7 @@ use Rattle.file_tree.specs.declared.fault.TreeFault.TheVariants as trees
 use Rattle.file_tree.specs.declared.objects.Entry.{Entry}
 use Rattle.journal.specs.Group as journal
 use Rattle.journal.specs.Group.{applied}
-use Rattle.journal.specs.Recovered.{IsRecovered}
+use Rattle.recovery.specs.Promise.{RecoversTo}
 use Rattle.owner_book.specs.Book.{Book}
 use Rattle.plan_law.specs.Accepted.{IsAccepted}
 use Rattle.plan_law.specs.Plans.{Group, WaitsForEarlier}
@@ -38,10 +38,10 @@ pub record IsPlanFor (flags : List (List ℕ)) (m : Map) (ps : List Installed) (
   pub accepted : IsAccepted plan (packages_of flags ps)
   pub recordable : AllByRecursion (CanBeRecorded flags) (coming plan)
 
--- a map recovers to a sound tree with these packages
+-- recovery makes of a map a sound tree with these packages
 pub record RecoversSoundly (flags : List (List ℕ)) (c : Map) (ps : List Installed) : Type 0 where
   pub tree : Map
-  pub recovers : IsRecovered c tree
+  pub recovers : RecoversTo c tree
   pub sound : IsSoundTree flags tree ps
 
 -- something holds of the packages that these are after the group

@@ -6,7 +6,7 @@ use Rattle.std.specs.Cmp.Lexicographic.{slice_cmp}
 use Rattle.std.proofs.Common.{◌≡◌, ◌∙◌, ℕ, List, [], ◌∷◌, length, refl, ap}
 use Rattle.std.proofs.lemmas.Bool.{and_from, or_right, eq-eqb}
 use Rattle.std.proofs.lemmas.Cmp.{tied_itself, nat_cmp_total, nat_list_cmp_total}
-use Rattle.version_text.specs.Grammar.{IsInteger, SuffixText, Parts, IsVersion}
+use Rattle.version_text.specs.Grammar.{IsInteger, SuffixValue, VersionValue, IsVersion}
 use Rattle.pms_version.specs.Order.{is_empty, decimal, integer_cmp, later_number_cmp, rank, version_cmp}
 use Rattle.pms_version.specs.Keys.{later_key}
 use Rattle.pms_version.specs.Begins.{numbers_begin, suffix_begins, suffixes_begin, ends_in_number, letter_and_suffixes_begin, version_begins}
@@ -19,12 +19,12 @@ same_numbers : (ns : List (List ℕ)) → AllByRecursion IsInteger ns → number
 same_numbers [] h = refl
 same_numbers (n ∷ ns) h = and_from (is_eq (later_number_cmp n n)) (numbers_begin ns ns) (ap is_eq (later_keyed n n h.0 h.0 ∙ tied_itself nat_list_cmp_total (later_key n))) (same_numbers ns h.1)
 
-same_suffix : (last : Bool) (s : SuffixText) → suffix_begins last s s ≡ true
+same_suffix : (last : Bool) (s : SuffixValue) → suffix_begins last s s ≡ true
 same_suffix last s =
     and_from (rank s.kind == rank s.kind) ((last && is_empty s.digits) || is_eq (integer_cmp s.digits s.digits)) (eq-eqb (rank s.kind) (rank s.kind) refl)
     (or_right (last && is_empty s.digits) (is_eq (integer_cmp s.digits s.digits)) (same_integer s.digits))
 
-same_suffixes : (ss : List SuffixText) → suffixes_begin ss ss ≡ true
+same_suffixes : (ss : List SuffixValue) → suffixes_begin ss ss ≡ true
 same_suffixes [] = refl
 same_suffixes (s ∷ ss) = and_from (suffix_begins (is_empty ss) s s) (suffixes_begin ss ss) (same_suffix (is_empty ss) s) (same_suffixes ss)
 
@@ -32,7 +32,7 @@ either : (t x y : Bool) → x ≡ true → y ≡ true → (if t then x else y) �
 either true x y h k = h
 either false x y h k = k
 
-pub begins_itself : (a : Parts) → IsVersion a → version_begins a a ≡ true
+pub begins_itself : (a : VersionValue) → IsVersion a → version_begins a a ≡ true
 begins_itself a h =
     let letter : is_eq (slice_cmp nat_cmp a.letter a.letter) ≡ true = ap is_eq (tied_itself nat_list_cmp_total a.letter) in
     let behind : letter_and_suffixes_begin a a ≡ true =

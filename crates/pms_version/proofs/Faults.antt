@@ -7,7 +7,7 @@ use Rattle.std.proofs.lemmas.List.{take-append-drop, take-take, get_or-drop}
 use Rattle.std.proofs.lemmas.List.Sums.{prefix_len_passes, prefix_len_stops, prefix_len-le-length}
 use Rattle.basics.specs.Bytes.{is_digit}
 use Rattle.version_text.proofs.Stops.{stops_no_version}
-use Rattle.version_text.specs.Grammar.{IsInteger, Parts, IsVersion, IsVersionText, BeginsVersion, StopsAt, spell_number, spell_ending, spelling}
+use Rattle.version_text.specs.Grammar.{IsInteger, VersionValue, IsVersion, IsVersionText, BeginsVersion, StopsAt, spell_number, spell_ending, spelling}
 use Rattle.pms_version.specs.Limits.{digit_count, HasShortNumbers, IsReadable}
 use Rattle.pms_version.specs.Reading.{IsShortBefore, FirstFault}
 use Rattle.pms_version.specs.declared.fault.VersionFault.{VersionFault}
@@ -68,7 +68,7 @@ short_to_end bytes start short few k = elim (cases_lt k start) [
       omega (arith, length-drop k bytes)
 ]
 
-not_empty : (p : Parts) → IsVersion p → 0 < length (spelling p)
+not_empty : (p : VersionValue) → IsVersion p → 0 < length (spelling p)
 not_empty p v = some_digits p.first (flat_map spell_number p.more ++ (p.letter ++ spell_ending p.suffixes p.revision)) v.first
   where
     some_digits : (ds rest : List ℕ) → IsInteger ds → 0 < length (ds ++ rest)
@@ -76,7 +76,7 @@ not_empty p v = some_digits p.first (flat_map spell_number p.more ++ (p.letter +
     some_digits (d ∷ ds) rest h = omega arith
 
 -- the text of a version within the limits has no fault but want of memory
-pub no_fault : (text : List ℕ) (fault : VersionFault) → FirstFault text fault → (p : Parts) → IsReadable p → text ≡ spelling p → fault ≡ Memory
+pub no_fault : (text : List ℕ) (fault : VersionFault) → FirstFault text fault → (p : VersionValue) → IsReadable p → text ≡ spelling p → fault ≡ Memory
 no_fault text Empty f p r e = let some : 0 < length (spelling p) = not_empty p r.version in absurd (omega (arith, ap length e))
 no_fault text TooLong f p r e = let short : length (spelling p) ≤ 255 = r.short in absurd (omega (arith, ap length e))
 no_fault text (BadChar at) f p r e = absurd (stops_no_version text at f.2 (p, r.version, e))

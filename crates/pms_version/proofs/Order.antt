@@ -12,7 +12,7 @@ use Rattle.std.proofs.lemmas.Bool.Decides.{nat_tests}
 use Rattle.std.proofs.lemmas.Cmp.{then_total, on_total, lists_total, nat_cmp_total, nat_list_cmp_total, tied_itself}
 use Rattle.version_text.proofs.Bytes.{digit_range}
 use Rattle.basics.specs.Bytes.{is_digit}
-use Rattle.version_text.specs.Grammar.{IsInteger, SuffixKind, SuffixText, Parts, IsVersion}
+use Rattle.version_text.specs.Grammar.{IsInteger, SuffixKind, SuffixValue, VersionValue, IsVersion}
 use Rattle.version_text.specs.Grammar.SuffixKind.{Alpha, Beta, Pre, Rc, P}
 use Rattle.pms_version.specs.Order.{is_empty, decimal, integer_cmp, trim_zeros, later_number_cmp, rank, suffixes_cmp, version_cmp}
 use Rattle.pms_version.specs.Keys.{later_key, suffix_key, key_cmp}
@@ -82,7 +82,7 @@ more_keyed [] (b ∷ bs) h k = refl
 more_keyed (a ∷ as') [] h k = refl
 more_keyed (a ∷ as') (b ∷ bs) h k = ap (λ o. ordering_then o (slice_cmp later_number_cmp as' bs)) (later_keyed a b h.0 k.0) ∙ ap (ordering_then (slice_cmp nat_cmp (later_key a) (later_key b))) (more_keyed as' bs h.1 k.1)
 
-suffixes_keyed : (as' bs : List SuffixText) → suffixes_cmp as' bs ≡ slice_cmp nat_cmp (suffix_key as') (suffix_key bs)
+suffixes_keyed : (as' bs : List SuffixValue) → suffixes_cmp as' bs ≡ slice_cmp nat_cmp (suffix_key as') (suffix_key bs)
 suffixes_keyed [] [] = refl
 suffixes_keyed [] (b ∷ bs) = none_first b.kind
   where
@@ -104,26 +104,26 @@ suffixes_keyed (a ∷ as') (b ∷ bs) =
     then-then (nat_cmp (rank a.kind) (rank b.kind)) (integer_cmp a.digits b.digits) (suffixes_cmp as' bs)
     ∙ ap (λ o. ordering_then (nat_cmp (rank a.kind) (rank b.kind)) (ordering_then (integer_cmp a.digits b.digits) o)) (suffixes_keyed as' bs)
 
-pub version_keyed : (a b : Parts) → IsVersion a → IsVersion b → version_cmp a b ≡ key_cmp a b
+pub version_keyed : (a b : VersionValue) → IsVersion a → IsVersion b → version_cmp a b ≡ key_cmp a b
 version_keyed a b h k = rw (more_keyed a.more b.more h.more k.more, suffixes_keyed a.suffixes b.suffixes)
 
 pub key_cmp_total : IsTotalOrder key_cmp
 key_cmp_total =
-    let first = on_total (λ (p : Parts). decimal p.first) nat_cmp_total in
-    let more = on_total (λ (p : Parts). map later_key p.more) (lists_total nat_list_cmp_total) in
-    let letter = on_total (λ (p : Parts). p.letter) nat_list_cmp_total in
-    let suffixes = on_total (λ (p : Parts). suffix_key p.suffixes) nat_list_cmp_total in
-    let revision = on_total (λ (p : Parts). decimal p.revision) nat_cmp_total in
+    let first = on_total (λ (p : VersionValue). decimal p.first) nat_cmp_total in
+    let more = on_total (λ (p : VersionValue). map later_key p.more) (lists_total nat_list_cmp_total) in
+    let letter = on_total (λ (p : VersionValue). p.letter) nat_list_cmp_total in
+    let suffixes = on_total (λ (p : VersionValue). suffix_key p.suffixes) nat_list_cmp_total in
+    let revision = on_total (λ (p : VersionValue). decimal p.revision) nat_cmp_total in
     then_total (then_total (then_total (then_total first more) letter) suffixes) revision
 
-pub same_itself : (a : Parts) → IsVersion a → version_cmp a a ≡ Equal
+pub same_itself : (a : VersionValue) → IsVersion a → version_cmp a a ≡ Equal
 same_itself a h = version_keyed a a h h ∙ tied_itself key_cmp_total a
 
-pub turned_round : (a b : Parts) → IsVersion a → IsVersion b → version_cmp b a ≡ ordering_reverse (version_cmp a b)
+pub turned_round : (a b : VersionValue) → IsVersion a → IsVersion b → version_cmp b a ≡ ordering_reverse (version_cmp a b)
 turned_round a b h k = version_keyed b a k h ∙ (key_cmp_total.antisymm b a ∙ ap ordering_reverse (sym (version_keyed a b h k)))
 
-pub rises_on : (a b c : Parts) → IsVersion a → IsVersion b → IsVersion c → version_cmp a b ≡ Less → version_cmp b c ≡ Less → version_cmp a c ≡ Less
+pub rises_on : (a b c : VersionValue) → IsVersion a → IsVersion b → IsVersion c → version_cmp a b ≡ Less → version_cmp b c ≡ Less → version_cmp a c ≡ Less
 rises_on a b c h k l e f = version_keyed a c h l ∙ key_cmp_total.trans a b c (sym (version_keyed a b h k) ∙ e) (sym (version_keyed b c k l) ∙ f)
 
-pub equals_alike : (a b c : Parts) → IsVersion a → IsVersion b → IsVersion c → version_cmp a b ≡ Equal → version_cmp a c ≡ version_cmp b c
+pub equals_alike : (a b c : VersionValue) → IsVersion a → IsVersion b → IsVersion c → version_cmp a b ≡ Equal → version_cmp a c ≡ version_cmp b c
 equals_alike a b c h k l e = version_keyed a c h l ∙ (key_cmp_total.congr a b c (sym (version_keyed a b h k) ∙ e) ∙ sym (version_keyed b c k l))

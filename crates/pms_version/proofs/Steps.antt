@@ -7,7 +7,7 @@ use Rattle.std.proofs.lemmas.Bool.{both_ways}
 use Rattle.version_text.proofs.Bytes.{below_is_no_lower}
 use Rattle.version_text.proofs.Unique.{Behind, BehindSuffix, behind_suffix, behind_numbers, behind_number, suffix_is_no_digit, behind_is_no_digit, digits_apart, kind_at-word, all_digits, shift_suffix}
 use Rattle.basics.specs.Bytes.{is_digit, is_lower}
-use Rattle.version_text.specs.Grammar.{AreDigits, IsInteger, IsLetter, SuffixKind, SuffixText, Parts, IsVersion, kind_at, word, spell_number, spell_suffix, spell_revision, spell_ending, spelling}
+use Rattle.version_text.specs.Grammar.{AreDigits, IsInteger, IsLetter, SuffixKind, SuffixValue, VersionValue, IsVersion, kind_at, word, spell_number, spell_suffix, spell_revision, spell_ending, spelling}
 use Rattle.version_text.specs.Grammar.SuffixKind.{Alpha, Beta, Pre, Rc, P}
 use Rattle.pms_version.specs.Limits.{digit_count, HasShortNumbers, IsReadable}
 use Rattle.pms_version.specs.Steps.{AreSuffixes, EndsNumbers, ReadsNumbers, HasReadNumbers, HasReadLetter, ReadsSuffixes, HasReadSuffixes}
@@ -94,8 +94,8 @@ drop-word Pre xs = refl
 drop-word Rc xs = refl
 drop-word P xs = refl
 
-next_suffix : (kind : SuffixKind) (digits rest behind : List ℕ) (ss : List SuffixText) (r : List ℕ) → get_or behind 0 0 ≡ 95 → kind ≡ kind_at (drop 1 behind) → AreDigits digits → drop (length (word kind)) (drop 1 behind) ≡ digits ++ rest → is_digit (get_or rest 0 0) ≡ false → AreSuffixes ss → behind ≡ spell_ending ss r →
-    (more : List SuffixText) × (ss ≡ record { kind = kind; digits = digits } ∷ more) × AreSuffixes more × (rest ≡ spell_ending more r)
+next_suffix : (kind : SuffixKind) (digits rest behind : List ℕ) (ss : List SuffixValue) (r : List ℕ) → get_or behind 0 0 ≡ 95 → kind ≡ kind_at (drop 1 behind) → AreDigits digits → drop (length (word kind)) (drop 1 behind) ≡ digits ++ rest → is_digit (get_or rest 0 0) ≡ false → AreSuffixes ss → behind ≡ spell_ending ss r →
+    (more : List SuffixValue) × (ss ≡ record { kind = kind; digits = digits } ∷ more) × AreSuffixes more × (rest ≡ spell_ending more r)
 next_suffix kind digits rest behind [] r under w d e f h s = absurd (no_underscore r (sym (ap (λ xs. get_or xs 0 0) s) ∙ under))
 next_suffix kind digits rest behind (t ∷ ts) r under w d e f h s =
     let tail : drop 1 behind ≡ word t.kind ++ (t.digits ++ spell_ending ts r) = ap (λ xs. drop 1 xs) s ∙ shift_suffix (word t.kind) t.digits (flat_map spell_suffix ts) (spell_revision r) in
@@ -107,19 +107,19 @@ next_suffix kind digits rest behind (t ∷ ts) r under w d e f h s =
     let same : t ≡ record { kind = kind; digits = digits } = ap (λ q. record { kind = q; digits = t.digits }) (sym kinds) ∙ ap (λ ds. record { kind = kind; digits = ds }) (sym apart.0) in
     (ts, ap (λ x. x ∷ ts) same, h.1, apart.1)
 
-pub suffix_read : (bytes behind digits rest : List ℕ) (kind : SuffixKind) (done : List SuffixText) → ReadsSuffixes bytes done behind → get_or behind 0 0 ≡ 95 → kind ≡ kind_at (drop 1 behind) → AreDigits digits → drop (length (word kind)) (drop 1 behind) ≡ digits ++ rest → is_digit (get_or rest 0 0) ≡ false → ReadsSuffixes bytes (done ++ record { kind = kind; digits = digits } ∷ []) rest
+pub suffix_read : (bytes behind digits rest : List ℕ) (kind : SuffixKind) (done : List SuffixValue) → ReadsSuffixes bytes done behind → get_or behind 0 0 ≡ 95 → kind ≡ kind_at (drop 1 behind) → AreDigits digits → drop (length (word kind)) (drop 1 behind) ≡ digits ++ rest → is_digit (get_or rest 0 0) ≡ false → ReadsSuffixes bytes (done ++ record { kind = kind; digits = digits } ∷ []) rest
 suffix_read bytes behind digits rest kind done reads under w d e f ss r h k s =
-    let left : (more : List SuffixText) × (ss ≡ done ++ more) × AreSuffixes more × (behind ≡ spell_ending more r) = reads ss r h k s in
-    let one : (more : List SuffixText) × (left.0 ≡ record { kind = kind; digits = digits } ∷ more) × AreSuffixes more × (rest ≡ spell_ending more r) = next_suffix kind digits rest behind left.0 r under w d e f left.2 left.3 in
+    let left : (more : List SuffixValue) × (ss ≡ done ++ more) × AreSuffixes more × (behind ≡ spell_ending more r) = reads ss r h k s in
+    let one : (more : List SuffixValue) × (left.0 ≡ record { kind = kind; digits = digits } ∷ more) × AreSuffixes more × (rest ≡ spell_ending more r) = next_suffix kind digits rest behind left.0 r under w d e f left.2 left.3 in
     (one.0, left.1 ∙ (ap (λ xs. done ++ xs) one.1 ∙ sym (append_assoc done (record { kind = kind; digits = digits } ∷ []) one.0)), one.2, one.3)
 
-suffixes_over : (behind : List ℕ) (ss : List SuffixText) (r : List ℕ) → (get_or behind 0 0 ≡ 95 → ⊥) → behind ≡ spell_ending ss r → (ss ≡ []) × (behind ≡ spell_ending [] r)
+suffixes_over : (behind : List ℕ) (ss : List SuffixValue) (r : List ℕ) → (get_or behind 0 0 ≡ 95 → ⊥) → behind ≡ spell_ending ss r → (ss ≡ []) × (behind ≡ spell_ending [] r)
 suffixes_over behind [] r under s = (refl, s)
 suffixes_over behind (t ∷ ts) r under s = absurd (under (ap (λ xs. get_or xs 0 0) s))
 
-pub suffixes_end : (bytes behind : List ℕ) (done : List SuffixText) → ReadsSuffixes bytes done behind → (get_or behind 0 0 ≡ 95 → ⊥) → HasReadSuffixes bytes done behind
+pub suffixes_end : (bytes behind : List ℕ) (done : List SuffixValue) → ReadsSuffixes bytes done behind → (get_or behind 0 0 ≡ 95 → ⊥) → HasReadSuffixes bytes done behind
 suffixes_end bytes behind done reads under ss r h k s =
-    let left : (more : List SuffixText) × (ss ≡ done ++ more) × AreSuffixes more × (behind ≡ spell_ending more r) = reads ss r h k s in
+    let left : (more : List SuffixValue) × (ss ≡ done ++ more) × AreSuffixes more × (behind ≡ spell_ending more r) = reads ss r h k s in
     let over : (left.0 ≡ []) × (behind ≡ spell_ending [] r) = suffixes_over behind left.0 r under left.3 in
     (sym (left.1 ∙ (ap (λ xs. done ++ xs) over.0 ∙ append-nil done)), over.1)
 
@@ -137,13 +137,13 @@ no_dot_at : (h : ℕ) → Behind h → h ≡ 46 → ⊥
 unfolding Behind
 no_dot_at h b e = elim b [ inl k ↦ omega arith | inr k ↦ omega arith ]
 
-behind_ends : (l : List ℕ) (ss : List SuffixText) (r : List ℕ) → IsLetter l → EndsNumbers (l ++ spell_ending ss r)
+behind_ends : (l : List ℕ) (ss : List SuffixValue) (r : List ℕ) → IsLetter l → EndsNumbers (l ++ spell_ending ss r)
 behind_ends l ss r h = record {
   no_digit = behind_is_no_digit (get_or (l ++ spell_ending ss r) 0 0) (behind_numbers l ss r h);
   no_dot = no_dot_at (get_or (l ++ spell_ending ss r) 0 0) (behind_numbers l ss r h);
 }
 
-pub all_read : (p : Parts) (text first behind : List ℕ) (more : List (List ℕ)) (behind_more letter behind_letter : List ℕ) (suffixes : List SuffixText) (behind_suffixes revision : List ℕ) → IsVersion p → text ≡ spelling p → AreDigits first → text ≡ first ++ behind → is_digit (get_or behind 0 0) ≡ false → HasReadNumbers behind more behind_more → HasReadLetter behind_more letter behind_letter → HasReadSuffixes behind_letter suffixes behind_suffixes → ((r : List ℕ) → AreDigits r → behind_suffixes ≡ spell_revision r → revision ≡ r) → record { first = first; more = more; letter = letter; suffixes = suffixes; revision = revision } ≡ p
+pub all_read : (p : VersionValue) (text first behind : List ℕ) (more : List (List ℕ)) (behind_more letter behind_letter : List ℕ) (suffixes : List SuffixValue) (behind_suffixes revision : List ℕ) → IsVersion p → text ≡ spelling p → AreDigits first → text ≡ first ++ behind → is_digit (get_or behind 0 0) ≡ false → HasReadNumbers behind more behind_more → HasReadLetter behind_more letter behind_letter → HasReadSuffixes behind_letter suffixes behind_suffixes → ((r : List ℕ) → AreDigits r → behind_suffixes ≡ spell_revision r → revision ≡ r) → record { first = first; more = more; letter = letter; suffixes = suffixes; revision = revision } ≡ p
 all_read p text first behind more behind_more letter behind_letter suffixes behind_suffixes revision v e d whole f numbers one ends last =
     let starts : (first ≡ p.first) × (behind ≡ flat_map spell_number p.more ++ (p.letter ++ spell_ending p.suffixes p.revision)) =
     digits_apart first p.first behind (flat_map spell_number p.more ++ (p.letter ++ spell_ending p.suffixes p.revision)) d (all_digits p.first v.first) f (behind_number p.more p.letter p.suffixes p.revision v.letter) (sym whole ∙ e) in
@@ -164,5 +164,5 @@ shorter_behind n (b ∷ bs) digits rest h e =
     let cut : length (drop n bs) ≡ length bs - n = length-drop n bs in
     omega arith
 
-pub readable_text : (p : Parts) (text : List ℕ) → IsVersion p → text ≡ spelling p → length text ≤ 255 → HasShortNumbers text → IsReadable p
+pub readable_text : (p : VersionValue) (text : List ℕ) → IsVersion p → text ≡ spelling p → length text ≤ 255 → HasShortNumbers text → IsReadable p
 readable_text p text v e l s = record { version = v; short = subst (λ xs. length xs ≤ 255) e l; numbers = subst HasShortNumbers e s }

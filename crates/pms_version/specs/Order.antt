@@ -5,7 +5,7 @@ use Rattle.std.specs.Ordering.{nat_cmp, ordering_then}
 use Rattle.std.specs.declared.cmp.Ordering.{Ordering}
 use Rattle.std.specs.declared.cmp.Ordering.TheVariants.{Equal}
 use Rattle.std.specs.Cmp.Lexicographic.{slice_cmp}
-use Rattle.version_text.specs.Grammar.{SuffixKind, SuffixText, Parts}
+use Rattle.version_text.specs.Grammar.{SuffixKind, SuffixValue, VersionValue}
 use Rattle.version_text.specs.Grammar.SuffixKind.{Alpha, Beta, Pre, Rc, P}
 
 -- the number that digits write; 0 where none are written
@@ -43,11 +43,11 @@ rank Pre = 2
 rank Rc = 3
 rank P = 5
 
-abbrev pub suffix_cmp : SuffixText → SuffixText → Ordering
+abbrev pub suffix_cmp : SuffixValue → SuffixValue → Ordering
 suffix_cmp a b = ordering_then (nat_cmp (rank a.kind) (rank b.kind)) (integer_cmp a.digits b.digits)
 
 -- one by one; where one list ends, no suffix stands below "_p" and above the other kinds
-abbrev pub suffixes_cmp : List SuffixText → List SuffixText → Ordering
+abbrev pub suffixes_cmp : List SuffixValue → List SuffixValue → Ordering
 suffixes_cmp [] [] = Equal
 suffixes_cmp [] (b ∷ bs) = nat_cmp 4 (rank b.kind)
 suffixes_cmp (a ∷ as') [] = nat_cmp (rank a.kind) 4
@@ -55,7 +55,7 @@ suffixes_cmp (a ∷ as') (b ∷ bs) = ordering_then (suffix_cmp a b) (suffixes_c
 
 -- all but the revisions: the first numbers, the later ones, more of which are greater, the letters,
 -- the suffixes
-abbrev pub base_cmp : Parts → Parts → Ordering
+abbrev pub base_cmp : VersionValue → VersionValue → Ordering
 base_cmp a b =
     ordering_then
     (ordering_then (ordering_then (integer_cmp a.first b.first)
@@ -63,9 +63,9 @@ base_cmp a b =
     (suffixes_cmp a.suffixes b.suffixes)
 
 -- the order of versions; a revision that is not written is 0
-abbrev pub version_cmp : Parts → Parts → Ordering
+abbrev pub version_cmp : VersionValue → VersionValue → Ordering
 version_cmp a b = ordering_then (base_cmp a b) (integer_cmp a.revision b.revision)
 
-abbrev pub without_revision : Parts → Parts
+abbrev pub without_revision : VersionValue → VersionValue
 without_revision p = record
     { first = p.first; more = p.more; letter = p.letter; suffixes = p.suffixes; revision = [] }

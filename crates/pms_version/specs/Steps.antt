@@ -2,7 +2,7 @@
 use Rattle.std.specs.Prelude.{ℕ, ◌≡◌, false, List, [], ◌++◌, slice_index}
 use Rattle.std.specs.List.{AllByRecursion, flat_map}
 use Rattle.basics.specs.Bytes.{is_digit}
-use Rattle.version_text.specs.Grammar.{AreDigits, IsInteger, IsLetter, SuffixText, spell_number, spell_ending}
+use Rattle.version_text.specs.Grammar.{AreDigits, IsInteger, IsLetter, SuffixValue, spell_number, spell_ending}
 
 -- neither a number nor a further number goes on here
 pub record EndsNumbers (after : List ℕ) : Type 0 where
@@ -24,24 +24,27 @@ HasReadNumbers bytes done left =
     bytes ≡ flat_map spell_number ns ++ after →
     (done ≡ ns) × (left ≡ after)
 
-abbrev pub AreSuffixes : List SuffixText → Type 0
-AreSuffixes ss = AllByRecursion (λ (s : SuffixText). AreDigits s.digits) ss
+abbrev pub AreSuffixes : List SuffixValue → Type 0
+AreSuffixes ss = AllByRecursion (λ (s : SuffixValue). AreDigits s.digits) ss
 
 -- the letter or none, and what follows
 abbrev pub HasReadLetter : List ℕ → List ℕ → List ℕ → Type 0
 HasReadLetter bytes letter left =
-    (l : List ℕ) (ss : List SuffixText) (r : List ℕ) → IsLetter l → AreSuffixes ss → AreDigits r →
+    (l : List ℕ) (ss : List SuffixValue) (r : List ℕ) → IsLetter l → AreSuffixes ss → AreDigits r →
     bytes ≡ l ++ spell_ending ss r →
     (letter ≡ l) × (left ≡ spell_ending ss r)
 
 -- of the suffixes some are done, and what is left spells the rest
-abbrev pub ReadsSuffixes : List ℕ → List SuffixText → List ℕ → Type 0
+abbrev pub ReadsSuffixes : List ℕ → List SuffixValue → List ℕ → Type 0
 ReadsSuffixes bytes done left =
-    (ss : List SuffixText) (r : List ℕ) → AreSuffixes ss → AreDigits r → bytes ≡ spell_ending ss r →
-    (rest : List SuffixText) × (ss ≡ done ++ rest) × AreSuffixes rest × (left ≡ spell_ending rest r)
+    (ss : List SuffixValue) (r : List ℕ) → AreSuffixes ss → AreDigits r →
+    bytes ≡ spell_ending ss r →
+    (rest : List SuffixValue) × (ss ≡ done ++ rest) × AreSuffixes rest ×
+    (left ≡ spell_ending rest r)
 
 -- all the suffixes are done
-abbrev pub HasReadSuffixes : List ℕ → List SuffixText → List ℕ → Type 0
+abbrev pub HasReadSuffixes : List ℕ → List SuffixValue → List ℕ → Type 0
 HasReadSuffixes bytes done left =
-    (ss : List SuffixText) (r : List ℕ) → AreSuffixes ss → AreDigits r → bytes ≡ spell_ending ss r →
+    (ss : List SuffixValue) (r : List ℕ) → AreSuffixes ss → AreDigits r →
+    bytes ≡ spell_ending ss r →
     (done ≡ ss) × (left ≡ spell_ending [] r)

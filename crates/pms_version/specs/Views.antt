@@ -1,11 +1,11 @@
 -- What a contract sees of a version.
 use Rattle.std.specs.Prelude.{◌≡◌}
 use Rattle.std.specs.Option.{option_to_list}
-use Rattle.version_text.specs.Grammar.{Parts, spelling}
+use Rattle.version_text.specs.Grammar.{VersionValue, spelling}
 use Rattle.pms_version.specs.Limits.{IsReadable}
 use Rattle.pms_version.specs.declared.version.Version.TheInside.{Inside}
 
-abbrev pub parts_of : Inside → Parts
+abbrev pub parts_of : Inside → VersionValue
 parts_of v =
     record {
       first = v.first;

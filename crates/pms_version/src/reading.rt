@@ -6,7 +6,8 @@ ghost use Rattle.std.specs.Option.{option_to_list};
 ghost use Rattle.std.specs.Prelude.{◌≡◌, ◌≤◌, ◌++◌, IfOk, List, drop, false, length, slice_index};
 ghost use Rattle.std.specs.Prelude.{ℕ};
 ghost use Rattle.basics.specs.Bytes.{is_digit, is_lower};
-ghost use Rattle.version_text.specs.Grammar.{AreDigits, IsVersion, IsVersionText, Parts, kind_at};
+ghost use Rattle.version_text.specs.Grammar.{AreDigits, IsVersion, IsVersionText, VersionValue};
+ghost use Rattle.version_text.specs.Grammar.{kind_at};
 ghost use Rattle.version_text.specs.Grammar.{spell_revision, spelling, word};
 
 use crate::number::Number;
@@ -20,7 +21,7 @@ pub(crate) fn read(alloc: Global, text: &str) -> Result<Version, AllocError>
     requires version { IsVersionText text.now }
     requires length { length text.now ≤ MOST_BYTES }
     requires short { HasShortNumbers text.now }
-    ensures { (p : Parts) → IsVersion p → text.now ≡ spelling p → IfOk result (λ v. v ≡ p) }
+    ensures { (p : VersionValue) → IsVersion p → text.now ≡ spelling p → IfOk result (λ v. v ≡ p) }
 {
     let (first, behind) = split_digits(text.as_bytes());
     let first = Number::new(alloc, first)?;

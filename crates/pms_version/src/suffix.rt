@@ -43,9 +43,9 @@ pub struct Suffix {
 
 impl Model for Suffix {
     ghost use Rattle.pms_version.specs.Inside.{kind_of};
-    ghost use Rattle.version_text.specs.Grammar.{SuffixText};
+    ghost use Rattle.version_text.specs.Grammar.{SuffixValue};
 
-    ghost Value = { SuffixText };
+    ghost Value = { SuffixValue };
 
     ghost view = { λ s. record { kind = kind_of s.kind; digits = s.number } };
 }

@@ -8,7 +8,7 @@ ghost use Rattle.pms_version.specs.declared.fault.VersionFault.TheVariants.{Memo
 ghost use Rattle.std.specs.Cmp.Lexicographic.{slice_cmp};
 ghost use Rattle.std.specs.Ordering.{is_eq};
 ghost use Rattle.std.specs.Prelude.{◌≡◌, IfErr, IfOk, MatchResult};
-ghost use Rattle.version_text.specs.Grammar.{Parts, spelling};
+ghost use Rattle.version_text.specs.Grammar.{VersionValue, spelling};
 
 use crate::check::check;
 use crate::fault::VersionFault;
@@ -32,9 +32,9 @@ pub struct Version {
 }
 
 impl Model for Version {
-    ghost use Rattle.version_text.specs.Grammar.{Parts};
+    ghost use Rattle.version_text.specs.Grammar.{VersionValue};
 
-    ghost Value = { Parts };
+    ghost Value = { VersionValue };
 
     ghost use Rattle.pms_version.specs.Views.{IsRead, parts_of};
 
@@ -47,7 +47,7 @@ impl Version {
     /// Reads a version of at most 255 bytes whose numbers have at most 38 digits each.
     pub fn parse(alloc: Global, text: &str) -> Result<Version, VersionFault>
         ensures found { IfOk result (λ v. IsReadable v × (text.now ≡ spelling v)) }
-        ensures only { (p : Parts) → IsReadable p → text.now ≡ spelling p →
+        ensures only { (p : VersionValue) → IsReadable p → text.now ≡ spelling p →
             MatchResult result (λ v. v ≡ p) (λ e. e ≡ Memory) }
         ensures fault { IfErr result (FirstFault text.now) }
     {

@@ -8,7 +8,7 @@ use Rattle.config_text.specs.Lines.{line_behind}
 use Rattle.config_text.specs.declared.line.Line.{Line}
 use Rattle.config_text.proofs.BadBytes.{no_bad_byte}
 use Rattle.file_tree.specs.Disk.{Map}
-use Rattle.file_tree.specs.Thing.{Thing}
+use Rattle.file_tree.specs.ObjectValue.{ObjectValue}
 use Rattle.profile_stack.specs.Begins.{BeginsAt, BeginsNowhere, IsFolder, IsTarget, Starts, StartsNowhere}
 use Rattle.profile_stack.specs.Folders.{AreFolders, Ends, FirstFault, MayNotRead, MayRead, Reads, ReadsEach, Walks, with_folder}
 use Rattle.profile_stack.specs.Machine.{IsOfMachine}
@@ -167,17 +167,17 @@ one_reading (suc d) (suc d') m above folder before now now' fault fault' (inr (p
 one_target : (path target a b : List ℕ) → IsTarget path target a → IsTarget path target b → a ≡ b
 one_target path target a b x y = some_one a b (sym x.leads ∙ y.leads)
 
-one_start : (x : Option Thing) (path a b : List ℕ) → Starts x path a → Starts x path b → a ≡ b
+one_start : (x : Option ObjectValue) (path a b : List ℕ) → Starts x path a → Starts x path b → a ≡ b
 one_start None path a b s u = s ∙ sym u
 one_start (Some x) path a b s u = one_target path x.bytes a b s.1 u.1
 
-starts_or_not : (x : Option Thing) (path a : List ℕ) (f : ProfileFault) → Starts x path a → StartsNowhere x path f → ⊥
+starts_or_not : (x : Option ObjectValue) (path a : List ℕ) (f : ProfileFault) → Starts x path a → StartsNowhere x path f → ⊥
 starts_or_not None path a f s wrong = wrong
 starts_or_not (Some x) path a f s (inl bad) =
     let e : None ≡ Some a = sym (bad.1.0 s.1.utf8) ∙ s.1.leads in absurd (cc e)
 starts_or_not (Some x) path a f s (inr other) = other.0 s.0
 
-one_no_start : (x : Option Thing) (path : List ℕ) (f g : ProfileFault) → StartsNowhere x path f → StartsNowhere x path g → f ≡ g
+one_no_start : (x : Option ObjectValue) (path : List ℕ) (f g : ProfileFault) → StartsNowhere x path f → StartsNowhere x path g → f ≡ g
 one_no_start None path f g a b = absurd a
 one_no_start (Some x) path f g (inl a) (inl b) = a.1.1 ∙ sym b.1.1
 one_no_start (Some x) path f g (inl a) (inr b) = absurd (b.0 a.0)

@@ -2,7 +2,7 @@
 use Rattle.std.specs.Prelude.{◌≡◌, ◌⊎◌, ℕ, List, Option, None, Some}
 use Rattle.std.specs.Str.{IsUtf8}
 use Rattle.file_tree.specs.Disk.{Looks, Map}
-use Rattle.file_tree.specs.Thing.{Thing}
+use Rattle.file_tree.specs.ObjectValue.{ObjectValue}
 use Rattle.file_tree.specs.declared.objects.Kind.TheVariants.{Link}
 use Rattle.file_tree.specs.declared.objects.Look.TheVariants.{Folder}
 use Rattle.profile_stack.specs.Places.{link_place}
@@ -24,12 +24,12 @@ IsBadTarget path target fault =
     (IsUtf8 target → link_place path target ≡ None) × (fault ≡ Text path 1)
 
 -- the profile at the path is in this folder, where the path holds this
-abbrev pub Starts : Option Thing → List ℕ → List ℕ → Type 0
+abbrev pub Starts : Option ObjectValue → List ℕ → List ℕ → Type 0
 Starts None path folder = folder ≡ path
 Starts (Some x) path folder = (x.kind ≡ Link) × IsTarget path x.bytes folder
 
 -- and there is no such folder, for this reason
-abbrev pub StartsNowhere : Option Thing → List ℕ → ProfileFault → Type 0
+abbrev pub StartsNowhere : Option ObjectValue → List ℕ → ProfileFault → Type 0
 StartsNowhere None path fault = ⊥
 StartsNowhere (Some x) path fault =
     ((x.kind ≡ Link) × IsBadTarget path x.bytes fault)

@@ -11,7 +11,7 @@ use Rattle.config_text.specs.Lines.{lines}
 use Rattle.config_text.specs.declared.line.Line.{Line}
 use Rattle.file_tree.specs.Disk.{Map}
 use Rattle.file_tree.specs.Paths.{is_below}
-use Rattle.file_tree.specs.Thing.{Thing}
+use Rattle.file_tree.specs.ObjectValue.{ObjectValue}
 use Rattle.profile_stack.specs.Places.{is_slash}
 use Rattle.profile_stack.specs.Texts.{text_of}
 use Rattle.profile_stack.specs.declared.fault.ProfileFault.{ProfileFault}
@@ -39,7 +39,7 @@ pub record AreFilesIn (m : Map) (folder : List ℕ) (files : List (List ℕ)) : 
 -- the files whose lines count at the path: an object there goes before a folder
 abbrev pub AreFiles : Map → List ℕ → List (List ℕ) → Type 0
 AreFiles m path files =
-    ((x : Thing) × (m path ≡ Some x) × (files ≡ path ∷ []))
+    ((x : ObjectValue) × (m path ≡ Some x) × (files ≡ path ∷ []))
     ⊎ ((m path ≡ None) × AreFilesIn m path files)
 
 -- a line, and the file in which it stands

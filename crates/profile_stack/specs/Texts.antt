@@ -3,7 +3,7 @@ use Rattle.std.specs.Prelude.{ℕ, List, [], ◌∷◌, ◌++◌, Option, None, 
 use Rattle.config_text.specs.declared.fault.TextFault.{TextFault}
 use Rattle.config_text.specs.declared.fault.TextFault.TheVariants as texts
 use Rattle.file_tree.specs.Disk.{Map}
-use Rattle.file_tree.specs.Thing.{Thing}
+use Rattle.file_tree.specs.ObjectValue.{ObjectValue}
 use Rattle.file_tree.specs.declared.objects.Kind.{Kind}
 use Rattle.file_tree.specs.declared.objects.Kind.TheVariants.{Exec, Link, Plain}
 use Rattle.profile_stack.specs.Places.{path_of}
@@ -18,7 +18,7 @@ bytes_of_kind Exec bytes = bytes
 bytes_of_kind Link bytes = []
 
 -- the text of an object; a missing file is empty
-abbrev pub text_of : Option Thing → List ℕ
+abbrev pub text_of : Option ObjectValue → List ℕ
 text_of None = []
 text_of (Some x) = bytes_of_kind x.kind x.bytes
 

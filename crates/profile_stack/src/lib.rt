@@ -11,7 +11,7 @@
 //! the variables of a folder are exactly those that count, or the first fault is told. An item stands
 //! exactly where one text adds it and none behind that takes it back. The tree is only read.
 //!
-//! **Only tested**: nothing yet.
+//! **Only tested**: that with ample memory a profile is found and its files are read.
 //!
 //! ```
 //! let Walk { folders, end } = find_folders(alloc, &mut tree, &path);

@@ -6,7 +6,7 @@ use Rattle.std.specs.Str.{IsAscii, IsUtf8}
 use Rattle.std.proofs.lemmas.Bool.Decides.{nat_tests}
 use Rattle.std.proofs.lemmas.Str.{IsUtf8-from_ascii}
 use Rattle.basics.specs.Blanks.{is_blank}
-use Rattle.version_text.specs.Grammar.{Parts, spelling}
+use Rattle.version_text.specs.Grammar.{VersionValue, spelling}
 use Rattle.pms_names.specs.Names.{IsName}
 use Rattle.pms_names.specs.declared.kind.Kind.{Kind}
 use Rattle.pms_names.specs.declared.kind.Kind.TheVariants as kinds
@@ -80,7 +80,7 @@ small_plain (b ∷ bytes) h = (small_plain_byte b h.0, small_plain bytes h.1)
 pub small_name : (kind : Kind) (bytes : List ℕ) → IsName kind bytes → AreSmall bytes
 small_name kind bytes is = small_plain bytes (plain_name kind bytes is)
 
-small_version : (p : Parts) → IsReadable p → AreSmall (spelling p)
+small_version : (p : VersionValue) → IsReadable p → AreSmall (spelling p)
 small_version p is = small_plain (spelling p) (plain_version p is.version)
 
 small_block : (b : Block) → AreSmall (block_text b)
@@ -97,7 +97,7 @@ small_op Similar = (refl, tt)
 small_op GreaterEqual = (refl, (refl, tt))
 small_op Greater = (refl, tt)
 
-small_part : (o : Op) (v : Option Parts) (star : Bool) → IsVersionForm o v star → AreSmall (version_part v)
+small_part : (o : Op) (v : Option VersionValue) (star : Bool) → IsVersionForm o v star → AreSmall (version_part v)
 small_part o None star h = tt
 small_part Any (Some v) star h = absurd h
 small_part Equal (Some v) star h = (refl, small_version v h)

@@ -6,7 +6,7 @@
 //! **Proved**: texts are read exactly where they tell a package of this id, as just that package;
 //! else they are refused with their first fault.
 //!
-//! **Only tested**: nothing yet.
+//! **Only tested**: that with ample memory a record is read, on rows for each kind of fault.
 //!
 //! ```
 //! let installed = read_record(alloc, id, &texts)?;

@@ -6,7 +6,7 @@
 //! read exactly where each word is one, as just that set, and else refused at its first bad word; a
 //! text of dependencies is read as its tree without the equals operators that are bound to nothing.
 //!
-//! **Only tested**: that with ample memory each but the last is read.
+//! **Only tested**: that with ample memory each is read.
 //!
 //! ```
 //! let slots = read_slots(alloc, " 0/2\n")?;

@@ -12,11 +12,11 @@ use Rattle.basics.proofs.Permutations.{has-moved}
 use Rattle.basics.proofs.Each.{all_by_has, all_has}
 use Rattle.dep_atom.specs.declared.package.PackageId.{PackageId}
 use Rattle.file_tree.specs.Disk.{held_by}
-use Rattle.file_tree.specs.Thing.{Thing, plain}
+use Rattle.file_tree.specs.ObjectValue.{ObjectValue, plain}
 use Rattle.file_tree.specs.declared.objects.Entry.{Entry}
 use Rattle.pkg_state.specs.Package.{tree_of}
 use Rattle.pkg_state.specs.declared.class.Class.TheVariants.{Bdepend, Depend, Idepend, Pdepend, Rdepend}
-use Rattle.vdb_text.specs.Files.{record_file, record_path}
+use Rattle.vdb_text.specs.Files.{record_file, package_file_path}
 use Rattle.vdb_text.proofs.Packages.{record_names_differ}
 use Rattle.contents_text.specs.Contents.{ContentsAreReadBack, IsOwnable}
 use Rattle.contents_text.specs.declared.owned.Owned.{Owned}
@@ -28,14 +28,14 @@ use Rattle.record_write.specs.Recorded.{AreNamed, FilesAreInTheFolder, IsRecorda
 use Rattle.record_write.proofs.Order.{already_sorted, distinct_moved, rising_distinct}
 use Rattle.record_write.proofs.Words.{flags_said, known_said, needs_said, required_said, slots_said}
 
-same_name : (id : PackageId) (a b : List ℕ) → bytes_eq (record_path id a) (record_path id b) ≡ bytes_eq a b
+same_name : (id : PackageId) (a b : List ℕ) → bytes_eq (package_file_path id a) (package_file_path id b) ≡ bytes_eq a b
 same_name id a b = elim (cases_Bool (bytes_eq a b)) [
-  | inl e ↦ (ap (λ (x : List ℕ). bytes_eq (record_path id x) (record_path id b)) ((bytes_eq-Decides a b).0 e) ∙ bytes_eq-same (record_path id b) ∙ sym e)
-  | inr e ↦ (bytes_eq-apart (record_path id a) (record_path id b) (λ same. cc ((bytes_eq-Decides a b).1 (record_names_differ id a b same), e)) ∙ sym e)
+  | inl e ↦ (ap (λ (x : List ℕ). bytes_eq (package_file_path id x) (package_file_path id b)) ((bytes_eq-Decides a b).0 e) ∙ bytes_eq-same (package_file_path id b) ∙ sym e)
+  | inr e ↦ (bytes_eq-apart (package_file_path id a) (package_file_path id b) (λ same. cc ((bytes_eq-Decides a b).1 (record_names_differ id a b same), e)) ∙ sym e)
 ]
 
 -- a file that is written, or not
-abbrev text_if : Bool → List ℕ → Option Thing
+abbrev text_if : Bool → List ℕ → Option ObjectValue
 text_if b text = if b then Some (plain text) else None
 
 -- what the text of a file is, where it is written if it has bytes
@@ -48,31 +48,31 @@ text_there : (needed : Bool) (text : List ℕ) → needed ≡ true → IsSome (t
 text_there true text e = refl
 text_there false text e = absurd (cc e)
 
-either_way : (b : Bool) (x : Option Thing) → (if b then x else x) ≡ x
+either_way : (b : Bool) (x : Option ObjectValue) → (if b then x else x) ≡ x
 either_way true x = refl
 either_way false x = refl
 
 module _ (p : Installed) where
-  abbrev here : List ℕ → Option Thing
+  abbrev here : List ℕ → Option ObjectValue
   here name = folder_of p (folder_files p) name
 
   -- what the files of these fields hold under a name
-  abbrev held_in : List Field → List ℕ → Option Thing
+  abbrev held_in : List Field → List ℕ → Option ObjectValue
   held_in [] name = None
   held_in (k ∷ ks) name =
       if bytes_eq name (name_of k) then (if is_written k p then Some (plain (value_of k p)) else held_in ks name) else held_in ks name
 
-  held_first : (b : Bool) (k : Field) (rest : List Entry) (name : List ℕ) → held_by ((if b then record_file (id_of p) (name_of k) (value_of k p) ∷ [] else []) ++ rest) (record_path (id_of p) name)
-      ≡ (if bytes_eq name (name_of k) then (if b then Some (plain (value_of k p)) else held_by rest (record_path (id_of p) name)) else held_by rest (record_path (id_of p) name))
+  held_first : (b : Bool) (k : Field) (rest : List Entry) (name : List ℕ) → held_by ((if b then record_file (id_of p) (name_of k) (value_of k p) ∷ [] else []) ++ rest) (package_file_path (id_of p) name)
+      ≡ (if bytes_eq name (name_of k) then (if b then Some (plain (value_of k p)) else held_by rest (package_file_path (id_of p) name)) else held_by rest (package_file_path (id_of p) name))
   held_first true k rest name =
-      ap (λ (same : Bool). if same then Some (plain (value_of k p)) else held_by rest (record_path (id_of p) name)) (same_name (id_of p) name (name_of k))
-  held_first false k rest name = sym (either_way (bytes_eq name (name_of k)) (held_by rest (record_path (id_of p) name)))
+      ap (λ (same : Bool). if same then Some (plain (value_of k p)) else held_by rest (package_file_path (id_of p) name)) (same_name (id_of p) name (name_of k))
+  held_first false k rest name = sym (either_way (bytes_eq name (name_of k)) (held_by rest (package_file_path (id_of p) name)))
 
-  held_is : (ks : List Field) (name : List ℕ) → held_by (flat_map (file_if_written p) ks) (record_path (id_of p) name) ≡ held_in ks name
+  held_is : (ks : List Field) (name : List ℕ) → held_by (flat_map (file_if_written p) ks) (package_file_path (id_of p) name) ≡ held_in ks name
   held_is [] name = refl
   held_is (k ∷ ks) name =
       held_first (is_written k p) k (flat_map (file_if_written p) ks) name
-      ∙ ap (λ (x : Option Thing). if bytes_eq name (name_of k) then (if is_written k p then Some (plain (value_of k p)) else x) else x) (held_is ks name)
+      ∙ ap (λ (x : Option ObjectValue). if bytes_eq name (name_of k) then (if is_written k p then Some (plain (value_of k p)) else x) else x) (held_is ks name)
 
   held_field : (k : Field) → held_in fields (name_of k) ≡ text_if (is_written k p) (value_of k p)
   held_field contents = refl
@@ -91,10 +91,10 @@ module _ (p : Installed) where
   here_is k = held_is fields (name_of k) ∙ held_field k
 
   text_is : (k : Field) → field_text (folder_of p (folder_files p)) k ≡ value_of k p
-  text_is k = ap (λ (x : Option Thing). unwrap_or (text_of x) []) (here_is k) ∙ text_held (is_needed k) (value_of k p)
+  text_is k = ap (λ (x : Option ObjectValue). unwrap_or (text_of x) []) (here_is k) ∙ text_held (is_needed k) (value_of k p)
 
   there : (k : Field) → is_needed k ≡ true → IsSome (text_of (here (name_of k)))
-  there k needed = subst (λ (x : Option Thing). IsSome (text_of x)) (sym (here_is k)) (text_there (is_needed k) (value_of k p) needed)
+  there k needed = subst (λ (x : Option ObjectValue). IsSome (text_of x)) (sym (here_is k)) (text_there (is_needed k) (value_of k p) needed)
 
   reads : ContentsAreReadBack → AreNamed p.package_is.facts → IsRecordable p → AreDistinct (paths p) → (k : Field) → Reads k (value_of k p) p
   reads back named is once contents = back p.owned is.owned once

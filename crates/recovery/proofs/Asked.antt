@@ -3,7 +3,7 @@ use Rattle.std.proofs.Common.{◌≡◌, ◌<◌, ℕ, zero, suc, List, [], ◌�
 use Rattle.basics.specs.Members.{Has}
 use Rattle.file_tree.specs.Disk.{Disk, Map, Moves, Story, write}
 use Rattle.file_tree.specs.Moments.{Leaves}
-use Rattle.file_tree.specs.Thing.{Thing}
+use Rattle.file_tree.specs.ObjectValue.{ObjectValue}
 use Rattle.file_tree.proofs.Moments.{Runs, runs_move, runs_same}
 use Rattle.journal.specs.Judging.{path_of}
 use Rattle.journal.proofs.Free.{length-paths, path_at_map}
@@ -45,7 +45,7 @@ placed_asked i ps p old mid next lt is so_far moves =
 
 -- a phase that survives whatever the calls are asked goes on, and so does what its images have
 pub runs_asked : (Q : Disk → Type 0) (P : Map → Type 0) → ((d : Disk) → Q d → Leaves P d) → (ps : List (List ℕ)) (old mid new : Story)
-    → ((p : List ℕ) → Has ps p → (d : Disk) (x : Option Thing) → Q d → Q (write d p x)) → Runs Q P old mid → Asked ps mid new → Runs Q P old new
+    → ((p : List ℕ) → Has ps p → (d : Disk) (x : Option ObjectValue) → Q d → Q (write d p x)) → Runs Q P old mid → Asked ps mid new → Runs Q P old new
 runs_asked Q P leaves [] old mid new keep r same = runs_same Q P old mid new r same
 runs_asked Q P leaves (p ∷ ps) old mid new keep r asked =
     runs_asked Q P leaves ps old asked.0 new (λ q has. keep q (inr has)) (runs_move Q P leaves old mid asked.0 p (keep p (inl refl)) r asked.1) asked.2

@@ -4,7 +4,7 @@ use Rattle.std.specs.Prelude.{bytes_eq}
 use Rattle.basics.specs.Members.{Has}
 use Rattle.basics.proofs.Membership.{has-append_left, has-append_right, has-map}
 use Rattle.file_tree.specs.Paths.{is_below}
-use Rattle.merge_record.specs.Content.{Content}
+use Rattle.merge_record.specs.RecordValue.{RecordValue}
 use Rattle.journal.specs.Judging.{are_free, footprint, path_of}
 use Rattle.journal.specs.Names.{gate_path, jobs, record_path}
 use Rattle.journal.specs.Names.Part.{Changes, Gate}
@@ -25,13 +25,13 @@ pub records_same : (g h : ℕ) → g < 2 ^ 32 → h < 2 ^ 32 → record_path g �
 records_same g h gs hs e = (part_path-injective g h Changes Changes gs hs tt tt e).0
 
 -- paths that are free are outside the journal
-pub free_outside : (r : Content) → are_free [] (footprint r) ≡ true → (q : List ℕ) → Has (footprint r) q → is_below jobs q ≡ false
+pub free_outside : (r : RecordValue) → are_free [] (footprint r) ≡ true → (q : List ℕ) → Has (footprint r) q → is_below jobs q ≡ false
 free_outside r free q has =
     let clear = (are_free-words [] (footprint r) free).outside q has in
     (or_parts (is_below jobs q) (is_below q jobs) (or_parts (bytes_eq q jobs) (is_below jobs q || is_below q jobs) clear).1).0
 
-pub placement_outside : (r : Content) (p : Placement) → are_free [] (footprint r) ≡ true → Has r.placements p → is_below jobs p.path ≡ false
+pub placement_outside : (r : RecordValue) (p : Placement) → are_free [] (footprint r) ≡ true → Has r.placements p → is_below jobs p.path ≡ false
 placement_outside r p free has = free_outside r free p.path (has-append_right r.removals (map path_of r.placements) p.path (has-map path_of r.placements p has))
 
-pub removal_outside : (r : Content) (q : List ℕ) → are_free [] (footprint r) ≡ true → Has r.removals q → is_below jobs q ≡ false
+pub removal_outside : (r : RecordValue) (q : List ℕ) → are_free [] (footprint r) ≡ true → Has r.removals q → is_below jobs q ≡ false
 removal_outside r q free has = free_outside r free q (has-append_left r.removals (map path_of r.placements) q has)

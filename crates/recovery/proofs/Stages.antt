@@ -4,7 +4,7 @@ use Rattle.std.specs.Prelude.{IsSome}
 use Rattle.basics.specs.Members.{Has}
 use Rattle.file_tree.specs.Disk.{Disk, write}
 use Rattle.file_tree.specs.Paths.{is_below}
-use Rattle.file_tree.specs.Thing.{Thing}
+use Rattle.file_tree.specs.ObjectValue.{ObjectValue}
 use Rattle.merge_core.specs.Recovery.{with_placed, with_removed}
 use Rattle.merge_core.proofs.Keeps.{write_reads}
 use Rattle.merge_core.proofs.Paths.{file_below}
@@ -50,7 +50,7 @@ placed_step g i ps p d d' lt is wrote = rest ps i lt is where
 -- ---- what the changed disk holds
 
 -- a path outside the journal leaves the stages as they are
-pub stage_stays : (d : Disk) (p : List ℕ) (x : Option Thing) (g i : ℕ) → is_below jobs p ≡ false → IsSome (d.holds (stage_path g i)) → IsSome ((write d p x).holds (stage_path g i))
+pub stage_stays : (d : Disk) (p : List ℕ) (x : Option ObjectValue) (g i : ℕ) → is_below jobs p ≡ false → IsSome (d.holds (stage_path g i)) → IsSome ((write d p x).holds (stage_path g i))
 stage_stays d p x g i out some =
     subst IsSome (sym (write_reads d p (stage_path g i) x (d.holds (stage_path g i)) (inr ((λ e. journal_apart (stage_path g i) p (file_below g (Stage i)) out (sym e)), refl)))) some
 

@@ -6,7 +6,7 @@ use Rattle.std.proofs.lemmas.Slice.Eq.{bytes_eq-Decides}
 use Rattle.basics.specs.Members.{Has}
 use Rattle.file_tree.specs.Disk.{Disk, Moves, Story, write}
 use Rattle.file_tree.specs.Paths.{is_below}
-use Rattle.file_tree.specs.Thing.{Thing}
+use Rattle.file_tree.specs.ObjectValue.{ObjectValue}
 use Rattle.journal.specs.Names.{jobs, record_path}
 use Rattle.journal.specs.Names.Part.{Changes}
 use Rattle.merge_record.specs.Spelling.{PassesLimit}
@@ -32,9 +32,9 @@ length-records (g ∷ gs) = ap suc (length-records gs)
 pub records_asked : (i : ℕ) (gs : List ℕ) (p : List ℕ) (old mid next : Story) → i < length gs → p ≡ record_path (get_or gs i 0) → AskedOn (map record_path gs) i old mid → Moves mid p next → AskedOn (map record_path gs) (suc i) old next
 records_asked i gs p old mid next lt is so_far moves = asked_step i (map record_path gs) p old mid next (omega (arith, lt, length-records gs)) (record_at gs i p lt is) so_far moves
 
-pub emptied_step : (i : ℕ) (gs : List ℕ) (p : List ℕ) (o : Thing) (d d' : Disk) → i < length gs → p ≡ record_path (get_or gs i 0) → o ≡ empty_record (get_or gs i 0) → d' ≡ write d p (Some o) → emptied (drop (suc i) gs) d' ≡ emptied (drop i gs) d
+pub emptied_step : (i : ℕ) (gs : List ℕ) (p : List ℕ) (o : ObjectValue) (d d' : Disk) → i < length gs → p ≡ record_path (get_or gs i 0) → o ≡ empty_record (get_or gs i 0) → d' ≡ write d p (Some o) → emptied (drop (suc i) gs) d' ≡ emptied (drop i gs) d
 emptied_step i [] p o d d' lt at is wrote = absurd (omega arith)
-emptied_step zero (g ∷ gs) p o d d' lt at is wrote = ap (emptied gs) (wrote ∙ (ap (λ (q : List ℕ). write d q (Some o)) at ∙ ap (λ (x : Thing). write d (record_path g) (Some x)) is))
+emptied_step zero (g ∷ gs) p o d d' lt at is wrote = ap (emptied gs) (wrote ∙ (ap (λ (q : List ℕ). write d q (Some o)) at ∙ ap (λ (x : ObjectValue). write d (record_path g) (Some x)) is))
 emptied_step (suc i) (g ∷ gs) p o d d' lt at is wrote = emptied_step i gs p o d d' (omega arith) at is wrote
 
 -- ---- the records once they are put

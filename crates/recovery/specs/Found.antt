@@ -2,7 +2,7 @@
 use Rattle.std.specs.Prelude.{◌≡◌, ◌↔◌, ◌<◌, ◌≤◌, ◌^◌, ℕ, false, length, List, [], Ok, IsSome}
 use Rattle.basics.specs.Members.{Has}
 use Rattle.file_tree.specs.Disk.{Map}
-use Rattle.merge_record.specs.Content.{Content}
+use Rattle.merge_record.specs.RecordValue.{RecordValue}
 use Rattle.journal.specs.Judging.{judged_open}
 use Rattle.journal.specs.Names.{gate_path}
 use Rattle.journal.specs.Open.{IsRising, is_open, open_groups}
@@ -29,14 +29,14 @@ AreOdd m gs = (g : ℕ) → Has gs g ↔ IsOdd m g
 
 -- the open groups, the record of each, the groups whose gate holds an object, and those of them
 -- that aren't open
-pub record Found : Type 0 where
+pub record JournalValue : Type 0 where
   pub opened : List ℕ
-  pub records : List Content
+  pub records : List RecordValue
   pub gates : List ℕ
   pub odd : List ℕ
 
 -- what was found is so in this map, whose open groups are in form
-pub record IsFound (m : Map) (f : Found) : Type 0 where
+pub record IsFound (m : Map) (f : JournalValue) : Type 0 where
   pub opened : f.opened ≡ open_groups m
   pub records : judged_open m ≡ Ok f.records
   pub gates : AreGates m f.gates

@@ -4,7 +4,7 @@ use Rattle.file_tree.specs.Disk.{Disk, Fixed, Map}
 use Rattle.file_tree.specs.Paths.{is_below}
 use Rattle.merge_core.specs.Order.{IsFirm}
 use Rattle.merge_core.specs.Recovery.{redone}
-use Rattle.merge_record.specs.Content.{Content}
+use Rattle.merge_record.specs.RecordValue.{RecordValue}
 use Rattle.journal.specs.Judging.{judged_open}
 use Rattle.journal.specs.Names.{gate_path, jobs}
 use Rattle.recovery.specs.Found.{AreGates}
@@ -12,7 +12,7 @@ use Rattle.recovery.specs.Found.{AreGates}
 -- the open groups of the map are applied for good, and each odd gate has a record without paths:
 -- the gates of these groups may go
 pub record IsRedone (a : Map) (gs : List ℕ) (d : Disk) : Type 0 where
-  pub records : List Content
+  pub records : List RecordValue
   pub form : judged_open a ≡ Ok records
   pub gates : AreGates a gs
   pub firm : IsFirm a (redone a) d

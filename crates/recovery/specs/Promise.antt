@@ -8,9 +8,13 @@ use Rattle.recovery.specs.Found.{HasTooManyGates}
 use Rattle.recovery.specs.declared.fault.RecoverFault.{RecoverFault}
 use Rattle.recovery.specs.declared.fault.RecoverFault.TheVariants as faults
 
--- both maps recover, and to the same map
+-- recovery makes m of the map, which has no more gates than it takes
+abbrev pub RecoversTo : Map → Map → Type 0
+RecoversTo c m = IsRecovered c m × ¬ HasTooManyGates c
+
+-- recovery makes the same of both maps
 abbrev pub RecoversAlike : Map → Map → Type 0
-RecoversAlike a c = (m : Map) × IsRecovered a m × IsRecovered c m
+RecoversAlike a c = (m : Map) × RecoversTo a m × RecoversTo c m
 
 -- the fault is one of the map: too many gates, or else the first fault of its open groups; the
 -- tree's own may come with any map

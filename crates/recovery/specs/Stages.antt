@@ -3,7 +3,7 @@ use Rattle.std.specs.Prelude.{ℕ, zero, suc, List, [], ◌∷◌}
 use Rattle.journal.specs.Names.{stage_path}
 
 -- a group by its number, and how many stages it has
-pub record Stages : Type 0 where
+pub record StagePathsValue : Type 0 where
   pub group : ℕ
   pub count : ℕ
 

@@ -2,10 +2,10 @@ ghost use Rattle.std.specs.Prelude.{◌≡◌, ℕ, List, map, IfOk, IsErrOf, Is
 ghost use Rattle.file_tree.specs.Disk.{CountsFault, IsUntouched, Map};
 ghost use Rattle.file_tree.specs.Moments.{Since};
 ghost use Rattle.journal.specs.Names.{gate_path};
-ghost use Rattle.journal.specs.Recovered.{IsRecovered};
-ghost use Rattle.merge_core.specs.Recovery.{recovered, redo};
+ghost use Rattle.merge_core.specs.Recovery.{RecoversOn, redo};
 ghost use Rattle.merge_core.specs.Roll.{stood};
 ghost use Rattle.recovery.specs.Phases.{IsRedone, IsShut, cleared};
+ghost use Rattle.recovery.specs.Promise.{RecoversTo};
 
 use crate::changes::remove_all;
 use file_tree::{Path, Tree, TreeFault};
@@ -30,7 +30,7 @@ pub(crate) fn remove_gates<T: Tree>(
     groups: &[u32],
 ) -> Result<(), TreeFault>
     ensures moments { IsTrue T.tells → (a : Map) → IsRedone a groups.now (T.story tree.old).now →
-        Since (λ c. IsRecovered c (recovered a)) (T.story tree.old) (T.story tree.new) }
+        Since (RecoversOn a) (T.story tree.old) (T.story tree.new) }
     ensures ok { IsTrue T.tells → (a : Map) → IsRedone a groups.now (T.story tree.old).now →
         OnOk result (IsShut (stood a (redo a)) (T.story tree.new).now) }
     ensures faults { CountsFault (IsErrOf result TreeFault.Failed) (T.faults tree.old)
@@ -45,7 +45,7 @@ pub(crate) fn remove_gates<T: Tree>(
 /// Removes all that is below the journal's folder, and syncs.
 pub fn clear_journal<T: Tree>(alloc: Global, tree: &mut T) -> Result<(), TreeFault>
     ensures moments { IsTrue T.tells → (m : Map) → IsShut m (T.story tree.old).now →
-        Since (λ c. IsRecovered c (cleared m)) (T.story tree.old) (T.story tree.new) }
+        Since (λ c. RecoversTo c (cleared m)) (T.story tree.old) (T.story tree.new) }
     ensures cleared { IsTrue T.tells → (m : Map) → IsShut m (T.story tree.old).now →
         OnOk result ((q : List ℕ) → (T.story tree.new).now.holds q ≡ cleared m q) }
     ensures settled { IsTrue T.tells → OnOk result (IsUntouched (T.story tree.new).now) }

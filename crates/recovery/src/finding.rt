@@ -27,9 +27,9 @@ pub struct Journal {
 }
 
 impl Model for Journal {
-    ghost use Rattle.recovery.specs.Found.{Found};
+    ghost use Rattle.recovery.specs.Found.{JournalValue};
 
-    ghost Value = { Found };
+    ghost Value = { JournalValue };
 
     ghost view = { λ j. record {
       opened = j.opened.items;

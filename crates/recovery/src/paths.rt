@@ -15,9 +15,9 @@ pub struct StagePaths {
 
 impl Model for StagePaths {
     ghost use Rattle.std.specs.Prelude.{◌≡◌, ◌<◌, ◌^◌, length};
-    ghost use Rattle.recovery.specs.Stages.{Stages, stages_from};
+    ghost use Rattle.recovery.specs.Stages.{StagePathsValue, stages_from};
 
-    ghost Value = { Stages };
+    ghost Value = { StagePathsValue };
 
     ghost view = { λ s. record { group = s.group; count = length s.stages.items } };
 

@@ -15,27 +15,27 @@ use crate::finding::Journal;
 use crate::paths::StagePaths;
 use file_tree::{Kind, Object, Tree, TreeFault};
 use journal::record_path;
-use merge_record::{Record, RecordFault, encode};
+use merge_record::{DecodeFault, Record, encode};
 use std::alloc::{AllocError, Global};
 
 /// Does what the record says.
-fn apply<T: Tree>(alloc: Global, tree: &mut T, what: &Record) -> Result<(), TreeFault>
-    requires free { are_free [] (footprint what.now) ≡ true }
-    requires short { length what.now.placements < 2 ^ 32 }
-    requires there { IsTrue T.tells → (i : ℕ) → i < length what.now.placements →
-        IsSome ((T.story tree.old).now.holds (stage_path what.now.group i)) }
-    ensures asked { IsTrue T.tells → Asked (footprint what.now) (T.story tree.old)
+fn apply<T: Tree>(alloc: Global, tree: &mut T, content: &Record) -> Result<(), TreeFault>
+    requires free { are_free [] (footprint content.now) ≡ true }
+    requires short { length content.now.placements < 2 ^ 32 }
+    requires there { IsTrue T.tells → (i : ℕ) → i < length content.now.placements →
+        IsSome ((T.story tree.old).now.holds (stage_path content.now.group i)) }
+    ensures asked { IsTrue T.tells → Asked (footprint content.now) (T.story tree.old)
         (T.story tree.new) }
     ensures ok { IsTrue T.tells → OnOk result
-        ((T.story tree.new).now ≡ with_placed what.now.group 0 what.now.placements
-        (with_removed what.now.removals (T.story tree.old).now)) }
+        ((T.story tree.new).now ≡ with_placed content.now.group 0 content.now.placements
+        (with_removed content.now.removals (T.story tree.old).now)) }
     ensures faults { CountsFault (IsErrOf result TreeFault.Failed) (T.faults tree.old)
         (T.faults tree.new) }
 {
-    let count = what.placements.len() as u32;
-    let paths = StagePaths::new(alloc, what.group, count)?;
-    remove_all(tree, &what.removals)?;
-    place_all(tree, &paths, &what.placements)?;
+    let count = content.placements.len() as u32;
+    let paths = StagePaths::new(alloc, content.group, count)?;
+    remove_all(tree, &content.removals)?;
+    place_all(tree, &paths, &content.placements)?;
     Ok(())
 }
 
@@ -53,8 +53,8 @@ fn apply_all<T: Tree>(alloc: Global, tree: &mut T, records: &[Record]) -> Result
     ensures faults { CountsFault (IsErrOf result TreeFault.Failed) (T.faults tree.old)
         (T.faults tree.new) }
 {
-    for what in records {
-        apply(alloc, tree, what)?;
+    for content in records {
+        apply(alloc, tree, content)?;
     }
     Ok(())
 }
@@ -63,17 +63,17 @@ fn apply_all<T: Tree>(alloc: Global, tree: &mut T, records: &[Record]) -> Result
 fn empty_record(alloc: Global, group: u32) -> Result<Object, AllocError>
     ensures { IfOk result (λ o. o ≡ empty_record group) }
 {
-    let what = Record {
+    let content = Record {
         group,
         removals: Vec::new(alloc),
         placements: Vec::new(alloc),
     };
-    match encode(alloc, &what) {
+    match encode(alloc, &content) {
         Ok(bytes) => Ok(Object {
             kind: Kind::Plain,
             bytes,
         }),
-        Err(RecordFault::Limit) => unreachable!(),
+        Err(DecodeFault::Limit) => unreachable!(),
         Err(_) => Err(AllocError),
     }
 }

@@ -2,9 +2,7 @@ ghost use Rattle.std.specs.Prelude.{◌≡◌, ◌⊎◌, IfErr, IfOk, IsErrOf, 
 ghost use Rattle.file_tree.specs.Disk.{CountsFault, IsImage, IsUntouched};
 ghost use Rattle.file_tree.specs.Moments.{Since};
 ghost use Rattle.journal.specs.Open.{open_groups};
-ghost use Rattle.journal.specs.Recovered.{IsRecovered};
-ghost use Rattle.recovery.specs.Found.{HasTooManyGates};
-ghost use Rattle.recovery.specs.Promise.{IsRefusal, RecoversAlike, IsFaultOf};
+ghost use Rattle.recovery.specs.Promise.{IsFaultOf, IsRefusal, RecoversAlike, RecoversTo};
 
 use crate::clearing::{clear_journal, remove_gates};
 use crate::fault::RecoverFault;
@@ -22,13 +20,14 @@ pub struct Recovered {
 /// Makes of a tree the recovered tree of what it reads as: the open groups are applied, and nothing
 /// stands below the journal's folder.
 pub fn recover<T: Tree>(alloc: Global, tree: &mut T) -> Result<Recovered, RecoverFault>
-    // After Ok the tree reads as the recovered tree of what it read as, and a crash leaves just that.
+    // After Ok the tree reads as the recovered tree of what it read as, and a crash leaves that.
     ensures recovered { IsTrue T.tells → OnOk result
-        (IsRecovered (T.story tree.old).now.holds (T.story tree.new).now.holds ×
+        (RecoversTo (T.story tree.old).now.holds (T.story tree.new).now.holds ×
         IsUntouched (T.story tree.new).now) }
     ensures completed { IsTrue T.tells → IfOk result
         (λ r. r.completed.items ≡ open_groups (T.story tree.old).now.holds) }
-    // Each image of each moment since the call began is one of its beginning, or recovers to the same tree.
+    // Each image of each moment since the call began is one of its beginning, or recovery takes it
+    // and makes the same tree of it.
     ensures moments { IsTrue T.tells → Since
         (λ c. IsImage (T.story tree.old).now c ⊎ RecoversAlike (T.story tree.old).now.holds c)
         (T.story tree.old) (T.story tree.new) }
@@ -37,7 +36,6 @@ pub fn recover<T: Tree>(alloc: Global, tree: &mut T) -> Result<Recovered, Recove
         (λ e. IsFaultOf e (T.story tree.old).now.holds) }
     ensures unchanged { IsTrue T.tells → IfErr result
         (λ e. IsRefusal e → (T.story tree.new).now.holds ≡ (T.story tree.old).now.holds) }
-    ensures few { IsTrue T.tells → OnOk result (¬ HasTooManyGates (T.story tree.old).now.holds) }
     ensures faults { CountsFault (IsErrOf result (RecoverFault.Tree TreeFault.Failed))
         (T.faults tree.old) (T.faults tree.new) }
 {

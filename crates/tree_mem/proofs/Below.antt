@@ -93,12 +93,12 @@ none_begins x r (e ∷ es) n up first s = go (bytes_eq e.0 (x ++ r)) refl s
 pub starts-at_found : (es : List Item) (x : List ℕ) (at : ℕ) → IsRising es → StandsAt es x at → StartsAt es x at
 starts-at_found es x at r s =
     let up = subst IsRising (around es x at s) r in
-    let high = AllAbove-back (take at es) (drop (suc at) es) (x, s.thing) up in
-    let rest : NoneBelow x ((x, s.thing) ∷ drop (suc at) es) = (less-irrefl x, NoneBelow-above x x (drop (suc at) es) (less-irrefl x) high) in
+    let high = AllAbove-back (take at es) (drop (suc at) es) (x, s.object) up in
+    let rest : NoneBelow x ((x, s.object) ∷ drop (suc at) es) = (less-irrefl x, NoneBelow-above x x (drop (suc at) es) (less-irrefl x) high) in
     record {
       in_range = let h = s.in_range in omega arith;
-      below = AllBelow-front (take at es) (drop (suc at) es) (x, s.thing) up;
-      rest = subst (NoneBelow x) (sym (drop-cons es at (x, s.thing) s.in_range ∙ ap (λ (e : Item). e ∷ drop (suc at) es) (s.here (x, s.thing)))) rest;
+      below = AllBelow-front (take at es) (drop (suc at) es) (x, s.object) up;
+      rest = subst (NoneBelow x) (sym (drop-cons es at (x, s.object) s.in_range ∙ ap (λ (e : Item). e ∷ drop (suc at) es) (s.here (x, s.object)))) rest;
     }
 
 pub starts-at_missing : (es : List Item) (x : List ℕ) (at : ℕ) → GoesAt es x at → StartsAt es x at

@@ -8,7 +8,7 @@ use Rattle.std.proofs.lemmas.List.{get_or_default, set_split, take-append-drop}
 use Rattle.std.proofs.Math.Seq.{split_at}
 use Rattle.std.specs.Prelude.{◌↔◌, Contains}
 use Rattle.basics.specs.Members.{AreDistinct, Has}
-use Rattle.file_tree.specs.Thing.{Thing}
+use Rattle.file_tree.specs.ObjectValue.{ObjectValue}
 use Rattle.file_tree.specs.Disk.{with_path}
 use Rattle.tree_mem.specs.Items.{Item, path_cmp, paths, held, AllBelow, AllAbove, IsRising, StandsAt, GoesAt}
 use Rattle.tree_mem.proofs.Order.{less-irrefl, bytes_eq-less, bytes_eq-greater, AllBelow-front, AllAbove-back, IsRising-insert, IsRising-without}
@@ -32,7 +32,7 @@ apart p q r h a b =
     let same : q ≡ p = same_text q r b ∙ sym (same_text p r a) in
     less-irrefl p (subst (λ (y : List ℕ). path_cmp p y ≡ Less) same h)
 
-pub held-insert : (xs ys : List Item) (p : List ℕ) (t : Thing) (q : List ℕ) → AllBelow p xs → held (xs ++ (p, t) ∷ ys) q ≡ cond (bytes_eq p q) (Some t) (held (xs ++ ys) q)
+pub held-insert : (xs ys : List Item) (p : List ℕ) (t : ObjectValue) (q : List ℕ) → AllBelow p xs → held (xs ++ (p, t) ∷ ys) q ≡ cond (bytes_eq p q) (Some t) (held (xs ++ ys) q)
 held-insert [] ys p t q b = refl
 held-insert (x ∷ xs) ys p t q b =
     ap (cond (bytes_eq x.0 q) (Some x.1)) (held-insert xs ys p t q b.1)
@@ -47,73 +47,73 @@ held-skip p [] ys b = refl
 held-skip p (x ∷ xs) ys b = ap (λ (c : Bool). cond c (Some x.1) (held (xs ++ ys) p)) (bytes_eq-less x.0 p b.0) ∙ held-skip p xs ys b.1
 
 -- a path that stands nowhere is held as nothing: taking its item out is writing nothing to it
-pub held-without : (xs ys : List Item) (p : List ℕ) (t : Thing) (q : List ℕ) → AllBelow p xs → AllAbove p ys → held (xs ++ ys) q ≡ cond (bytes_eq p q) None (held (xs ++ (p, t) ∷ ys) q)
+pub held-without : (xs ys : List Item) (p : List ℕ) (t : ObjectValue) (q : List ℕ) → AllBelow p xs → AllAbove p ys → held (xs ++ ys) q ≡ cond (bytes_eq p q) None (held (xs ++ (p, t) ∷ ys) q)
 held-without xs ys p t q b a = go (bytes_eq p q) refl
   where
     go : (c : Bool) → bytes_eq p q ≡ c → held (xs ++ ys) q ≡ cond c None (held (xs ++ (p, t) ∷ ys) q)
     go true e = subst (λ (r : List ℕ). held (xs ++ ys) r ≡ None) (same_text p q e) (held-skip p xs ys b ∙ held-above p ys a)
     go false e = sym (held-insert xs ys p t q b ∙ ap (λ (c : Bool). cond c (Some t) (held (xs ++ ys) q)) e)
 
-pub held-at : (xs ys : List Item) (p : List ℕ) (t : Thing) → AllBelow p xs → held (xs ++ (p, t) ∷ ys) p ≡ Some t
+pub held-at : (xs ys : List Item) (p : List ℕ) (t : ObjectValue) → AllBelow p xs → held (xs ++ (p, t) ∷ ys) p ≡ Some t
 held-at xs ys p t b = held-insert xs ys p t p b ∙ ap (λ (c : Bool). cond c (Some t) (held (xs ++ ys) p)) (bytes_eq-same p)
 
 -- a list around the item that has p
-pub around : (es : List Item) (p : List ℕ) (at : ℕ) (s : StandsAt es p at) → es ≡ take at es ++ (p, s.thing) ∷ drop (suc at) es
-around es p at s = split_at es at (p, s.thing) s.in_range ∙ ap (λ (e : Item). take at es ++ e ∷ drop (suc at) es) (s.here (p, s.thing))
+pub around : (es : List Item) (p : List ℕ) (at : ℕ) (s : StandsAt es p at) → es ≡ take at es ++ (p, s.object) ∷ drop (suc at) es
+around es p at s = split_at es at (p, s.object) s.in_range ∙ ap (λ (e : Item). take at es ++ e ∷ drop (suc at) es) (s.here (p, s.object))
 
-pub held-found : (es : List Item) (p : List ℕ) (at : ℕ) → IsRising es → (s : StandsAt es p at) → held es p ≡ Some s.thing
+pub held-found : (es : List Item) (p : List ℕ) (at : ℕ) → IsRising es → (s : StandsAt es p at) → held es p ≡ Some s.object
 held-found es p at r s =
     let e = around es p at s in
-    let low = AllBelow-front (take at es) (drop (suc at) es) (p, s.thing) (subst IsRising e r) in
-    ap (λ (x : List Item). held x p) e ∙ held-at (take at es) (drop (suc at) es) p s.thing low
+    let low = AllBelow-front (take at es) (drop (suc at) es) (p, s.object) (subst IsRising e r) in
+    ap (λ (x : List Item). held x p) e ∙ held-at (take at es) (drop (suc at) es) p s.object low
 
 pub held-missing : (es : List Item) (p : List ℕ) (at : ℕ) → GoesAt es p at → held es p ≡ None
 held-missing es p at g =
     ap (λ (x : List Item). held x p) (sym (take-append-drop at es)) ∙ held-skip p (take at es) (drop at es) g.below ∙ held-above p (drop at es) g.above
 
 -- an item goes to its place
-pub held-placed : (es : List Item) (p : List ℕ) (t : Thing) (at : ℕ) → GoesAt es p at → held (insert es at (p, t)) ≡ with_path (held es) p (Some t)
+pub held-placed : (es : List Item) (p : List ℕ) (t : ObjectValue) (at : ℕ) → GoesAt es p at → held (insert es at (p, t)) ≡ with_path (held es) p (Some t)
 held-placed es p t at g = λ i q. (held-insert (take at es) (drop at es) p t q g.below ∙ ap (λ (x : List Item). cond (bytes_eq p q) (Some t) (held x q)) (take-append-drop at es)) i
 
-pub IsRising-placed : (es : List Item) (p : List ℕ) (t : Thing) (at : ℕ) → IsRising es → GoesAt es p at → IsRising (insert es at (p, t))
+pub IsRising-placed : (es : List Item) (p : List ℕ) (t : ObjectValue) (at : ℕ) → IsRising es → GoesAt es p at → IsRising (insert es at (p, t))
 IsRising-placed es p t at r g = IsRising-insert (take at es) (drop at es) (p, t) (subst IsRising (sym (take-append-drop at es)) r) g.below g.above
 
 -- an item takes the place of the one that has its path
-pub held-replaced : (es : List Item) (p : List ℕ) (t : Thing) (at : ℕ) → IsRising es → StandsAt es p at → held (set es at (p, t)) ≡ with_path (held es) p (Some t)
+pub held-replaced : (es : List Item) (p : List ℕ) (t : ObjectValue) (at : ℕ) → IsRising es → StandsAt es p at → held (set es at (p, t)) ≡ with_path (held es) p (Some t)
 held-replaced es p t at r s =
     let e = around es p at s in
-    let low = AllBelow-front (take at es) (drop (suc at) es) (p, s.thing) (subst IsRising e r) in
+    let low = AllBelow-front (take at es) (drop (suc at) es) (p, s.object) (subst IsRising e r) in
     λ i q. (ap (λ (x : List Item). held x q) (set_split es at (p, t) s.in_range)
     ∙ held-insert (take at es) (drop (suc at) es) p t q low
-    ∙ sym (cond-twice (bytes_eq p q) (Some t) (Some s.thing) (held (take at es ++ drop (suc at) es) q))
-    ∙ ap (cond (bytes_eq p q) (Some t)) (sym (held-insert (take at es) (drop (suc at) es) p s.thing q low))
+    ∙ sym (cond-twice (bytes_eq p q) (Some t) (Some s.object) (held (take at es ++ drop (suc at) es) q))
+    ∙ ap (cond (bytes_eq p q) (Some t)) (sym (held-insert (take at es) (drop (suc at) es) p s.object q low))
     ∙ ap (λ (x : List Item). cond (bytes_eq p q) (Some t) (held x q)) (sym e)) i
 
-pub IsRising-replaced : (es : List Item) (p : List ℕ) (t : Thing) (at : ℕ) → IsRising es → StandsAt es p at → IsRising (set es at (p, t))
+pub IsRising-replaced : (es : List Item) (p : List ℕ) (t : ObjectValue) (at : ℕ) → IsRising es → StandsAt es p at → IsRising (set es at (p, t))
 IsRising-replaced es p t at r s =
     let up = subst IsRising (around es p at s) r in
-    let low = AllBelow-front (take at es) (drop (suc at) es) (p, s.thing) up in
-    let high = AllAbove-back (take at es) (drop (suc at) es) (p, s.thing) up in
-    subst IsRising (sym (set_split es at (p, t) s.in_range)) (IsRising-insert (take at es) (drop (suc at) es) (p, t) (IsRising-without (take at es) (drop (suc at) es) (p, s.thing) up) low high)
+    let low = AllBelow-front (take at es) (drop (suc at) es) (p, s.object) up in
+    let high = AllAbove-back (take at es) (drop (suc at) es) (p, s.object) up in
+    subst IsRising (sym (set_split es at (p, t) s.in_range)) (IsRising-insert (take at es) (drop (suc at) es) (p, t) (IsRising-without (take at es) (drop (suc at) es) (p, s.object) up) low high)
 
 -- the item that has the path goes out
 pub held-removed : (es : List Item) (p : List ℕ) (at : ℕ) → IsRising es → StandsAt es p at → held (remove es at) ≡ with_path (held es) p None
 held-removed es p at r s =
     let e = around es p at s in
     let up = subst IsRising e r in
-    let low = AllBelow-front (take at es) (drop (suc at) es) (p, s.thing) up in
-    let high = AllAbove-back (take at es) (drop (suc at) es) (p, s.thing) up in
-    λ i q. (held-without (take at es) (drop (suc at) es) p s.thing q low high ∙ ap (λ (x : List Item). cond (bytes_eq p q) None (held x q)) (sym e)) i
+    let low = AllBelow-front (take at es) (drop (suc at) es) (p, s.object) up in
+    let high = AllAbove-back (take at es) (drop (suc at) es) (p, s.object) up in
+    λ i q. (held-without (take at es) (drop (suc at) es) p s.object q low high ∙ ap (λ (x : List Item). cond (bytes_eq p q) None (held x q)) (sym e)) i
 
 pub IsRising-removed : (es : List Item) (p : List ℕ) (at : ℕ) → IsRising es → StandsAt es p at → IsRising (remove es at)
-IsRising-removed es p at r s = IsRising-without (take at es) (drop (suc at) es) (p, s.thing) (subst IsRising (around es p at s) r)
+IsRising-removed es p at r s = IsRising-without (take at es) (drop (suc at) es) (p, s.object) (subst IsRising (around es p at s) r)
 
 -- the item in the middle has the path
 pub stands : (es : List Item) (m : ℕ) (e : Item) (p : List ℕ) → m < length es → e ≡ get_or es m e → path_cmp e.0 p ≡ Equal → StandsAt es p m
 stands es m e p lt at h =
     let same : e.0 ≡ p = same_text e.0 p (sym (is_eq-slice_cmp e.0 p) ∙ ap is_eq h) in
     record {
-      thing = e.1;
+      object = e.1;
       in_range = lt;
       here = λ d. get_or_default es m d e lt ∙ sym at ∙ ap (λ (q : List ℕ). let r : Item = (q, e.1) in r) same;
     }
@@ -123,7 +123,7 @@ pub Some-taken : (es : List Item) (p : List ℕ) (at : ℕ) (e : Item) → IsRis
 Some-taken es p at e r s h = ap (λ (y : Item). Some y.1) (h ∙ s.here e) ∙ sym (held-found es p at r s)
 
 -- nothing is written to a path that holds nothing
-pub held-cleared : (m : List ℕ → Option Thing) (p : List ℕ) → m p ≡ None → m ≡ with_path m p None
+pub held-cleared : (m : List ℕ → Option ObjectValue) (p : List ℕ) → m p ≡ None → m ≡ with_path m p None
 held-cleared m p h = λ i q. go (bytes_eq p q) q refl i
   where
     go : (c : Bool) (q : List ℕ) → bytes_eq p q ≡ c → m q ≡ cond c None (m q)
@@ -135,12 +135,12 @@ pub Some-here : (es : List Item) (p : List ℕ) (at : ℕ) (d : Item) → IsRisi
 Some-here es p at d r s = ap (λ (y : Item). Some y.1) (s.here d) ∙ sym (held-found es p at r s)
 
 -- the items of a list whose paths are distinct are what its map has
-Has-paths : (es : List Item) (p : List ℕ) (x : Thing) → Has es (p, x) → Has (paths es) p
+Has-paths : (es : List Item) (p : List ℕ) (x : ObjectValue) → Has es (p, x) → Has (paths es) p
 Has-paths [] p x h = h
 Has-paths (e ∷ es) p x (inl same) = inl (ap (λ (y : Item). y.0) same)
 Has-paths (e ∷ es) p x (inr h) = inr (Has-paths es p x h)
 
-pub held-from_has : (es : List Item) (p : List ℕ) (x : Thing) → AreDistinct (paths es) → Has es (p, x) → held es p ≡ Some x
+pub held-from_has : (es : List Item) (p : List ℕ) (x : ObjectValue) → AreDistinct (paths es) → Has es (p, x) → held es p ≡ Some x
 held-from_has [] p x d h = absurd h
 held-from_has (e ∷ es) p x d (inl same) = subst (λ (y : Item). held (e ∷ es) y.0 ≡ Some y.1) same (ap (λ (b : Bool). cond b (Some e.1) (held es e.0)) (bytes_eq-same e.0))
 held-from_has (e ∷ es) p x d (inr h) = go (bytes_eq e.0 p) refl (held-from_has es p x d.1 h)
@@ -149,7 +149,7 @@ held-from_has (e ∷ es) p x d (inr h) = go (bytes_eq e.0 p) refl (held-from_has
     go true eq rec = absurd (d.0 (subst (Has (paths es)) (sym (same_text e.0 p eq)) (Has-paths es p x h)))
     go false eq rec = rec
 
-pub has-from_held : (es : List Item) (p : List ℕ) (x : Thing) → held es p ≡ Some x → Has es (p, x)
+pub has-from_held : (es : List Item) (p : List ℕ) (x : ObjectValue) → held es p ≡ Some x → Has es (p, x)
 has-from_held [] p x h = cc
 has-from_held (e ∷ es) p x h = go (bytes_eq e.0 p) refl h (has-from_held es p x)
   where
@@ -166,8 +166,8 @@ pub AreDistinct-rising : (es : List Item) → IsRising es → AreDistinct (paths
 AreDistinct-rising [] r = tt
 AreDistinct-rising (e ∷ es) r = (AllAbove-fresh e.0 es r.0, AreDistinct-rising es r.1)
 
-pub contains-distinct : (es : List Item) (p : List ℕ) (x : Thing) → AreDistinct (paths es) → Contains es (p, x) ↔ (held es p ≡ Some x)
+pub contains-distinct : (es : List Item) (p : List ℕ) (x : ObjectValue) → AreDistinct (paths es) → Contains es (p, x) ↔ (held es p ≡ Some x)
 contains-distinct es p x d = (λ h. held-from_has es p x d (has-from_contains es (p, x) h), λ h. contains-from_has es (p, x) (has-from_held es p x h))
 
-pub contains-held : (es : List Item) (p : List ℕ) (x : Thing) → IsRising es → Contains es (p, x) ↔ (held es p ≡ Some x)
+pub contains-held : (es : List Item) (p : List ℕ) (x : ObjectValue) → IsRising es → Contains es (p, x) ↔ (held es p ≡ Some x)
 contains-held es p x r = contains-distinct es p x (AreDistinct-rising es r)

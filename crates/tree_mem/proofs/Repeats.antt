@@ -5,7 +5,7 @@ use Rattle.std.proofs.lemmas.List.{length_push, take_more}
 use Rattle.std.proofs.Math.Seq.{split_at}
 use Rattle.basics.specs.Members.{AreDistinct, Has}
 use Rattle.file_tree.specs.Disk.{with_path}
-use Rattle.file_tree.specs.Thing.{Thing}
+use Rattle.file_tree.specs.ObjectValue.{ObjectValue}
 use Rattle.tree_mem.specs.declared.fault.MemFault.{MemFault}
 use Rattle.tree_mem.specs.declared.fault.MemFault.TheVariants.{Twice, Memory}
 use Rattle.tree_mem.specs.Fault.{IsFaultAt, IsMemFault}
@@ -37,7 +37,7 @@ has-of_held (e ∷ es) p s = go (bytes_eq e.0 p) refl s (has-of_held es p)
 
 pub distinct-item : (done : List Item) (e : Item) → AreDistinct (paths done) → held done e.0 ≡ None → AreDistinct (paths (done ++ e ∷ []))
 distinct-item done e d none =
-    subst AreDistinct (sym (paths-append done (e ∷ []))) (distinct-push (paths done) e.0 d (λ h. let s = held-of_has done e.0 h in let t : false ≡ true = subst (λ (o : Option Thing). IsSome o) none s in cc))
+    subst AreDistinct (sym (paths-append done (e ∷ []))) (distinct-push (paths done) e.0 d (λ h. let s = held-of_has done e.0 h in let t : false ≡ true = subst (λ (o : Option ObjectValue). IsSome o) none s in cc))
 
 pub held-item : (done : List Item) (e : Item) → held done e.0 ≡ None → held (done ++ e ∷ []) ≡ with_path (held done) e.0 (Some e.1)
 held-item done e none = λ i q. at done q none i
@@ -71,7 +71,7 @@ fault-next all done kept e (Twice q) same d front lt at h =
     let whole : all ≡ done ++ e ∷ rest = split_at all (length done) e lt
     ∙ ap (λ (x : Item). take (length done) all ++ x ∷ rest) (sym at)
     ∙ ap (λ (xs : List Item). xs ++ e ∷ rest) (sym front) in
-    let some : IsSome (held done e.0) = subst (λ (m : List ℕ → Option Thing). IsSome (m e.0)) same h.1 in
+    let some : IsSome (held done e.0) = subst (λ (m : List ℕ → Option ObjectValue). IsSome (m e.0)) same h.1 in
     record {
       before = paths done;
       behind = paths rest;

@@ -3,7 +3,7 @@ use Rattle.std.specs.Prelude.{bytes_eq, reverse}
 use Rattle.std.proofs.Common.{◌≡◌, ◌∙◌, ℕ, Bool, true, false, cond, List, [], ◌∷◌, ◌++◌, Option, sym, refl, ap}
 use Rattle.std.proofs.lemmas.List.{reverse-append}
 use Rattle.basics.proofs.Texts.{same_text}
-use Rattle.file_tree.specs.Thing.{Thing}
+use Rattle.file_tree.specs.ObjectValue.{ObjectValue}
 use Rattle.file_tree.specs.Disk.{Map, Disk, Story, next, settled, with_path, write}
 use Rattle.tree_mem.specs.declared.record.Change.{Change}
 use Rattle.tree_mem.specs.declared.record.Change.TheVariants.{Wrote, Touched}
@@ -41,7 +41,7 @@ noted : (old new : List (List ℕ)) (p : List ℕ) → ((q : List ℕ) → is_am
 noted old new p h = λ i q. h q i
 
 pub story_of-wrote :
-    (es fs : List Item) (old new : List (List ℕ)) (cs : List Change) (p : List ℕ) (x before : Option Thing) (was : Bool)
+    (es fs : List Item) (old new : List (List ℕ)) (cs : List Change) (p : List ℕ) (x before : Option ObjectValue) (was : Bool)
     → held fs ≡ with_path (held es) p x
     → ((q : List ℕ) → is_among new q ≡ cond (bytes_eq p q) true (is_among old q))
     → before ≡ held es p
@@ -52,7 +52,7 @@ story_of-wrote es fs old new cs p x before was h t b w =
     ap (λ (d : Disk). story_of d (cs ++ Wrote p before was ∷ [])) now
     ∙ story_of-push (disk_of es old) (write (disk_of es old) p x) cs (Wrote p before was)
     (disk-equal
-    (λ i q. (ap (λ (y : Option Thing). cond (bytes_eq p q) y (cond (bytes_eq p q) x (held es q))) b ∙ put_back (held es) p q x) i)
+    (λ i q. (ap (λ (y : Option ObjectValue). cond (bytes_eq p q) y (cond (bytes_eq p q) x (held es q))) b ∙ put_back (held es) p q x) i)
     (λ i q. (ap (λ (y : Bool). cond (bytes_eq p q) y (cond (bytes_eq p q) true (is_among old q))) w ∙ put_back (is_among old) p q true) i))
 
 pub story_of-touched :

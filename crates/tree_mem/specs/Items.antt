@@ -7,12 +7,12 @@ use Rattle.std.specs.Ordering.{nat_cmp, Ordering-set}
 use mathlib.Core.HLevel.{×_prop, Unit-prop}
 use Rattle.std.specs.List.{starts_with}
 use Rattle.basics.specs.Members.{AreDistinct}
-use Rattle.file_tree.specs.Thing.{Thing}
+use Rattle.file_tree.specs.ObjectValue.{ObjectValue}
 use Rattle.file_tree.specs.Disk.{Map}
 
 -- an object and its path
 abbrev pub Item : Type 0
-Item = List ℕ × Thing
+Item = List ℕ × ObjectValue
 
 -- the order of the bytes of two paths
 abbrev pub path_cmp : List ℕ → List ℕ → Ordering
@@ -56,11 +56,11 @@ pub IsRising-prop : (es : List Item) → IsProp (IsRising es)
 IsRising-prop [] = Unit-prop
 IsRising-prop (e ∷ es) = ×_prop (AllAbove-prop e.0 es) (IsRising-prop es)
 
--- the item at this place has the path p and holds the thing
+-- the item at this place has the path p and holds the object
 pub record StandsAt (es : List Item) (p : List ℕ) (at : ℕ) : Type 0 where
-  pub thing : Thing
+  pub object : ObjectValue
   pub in_range : at < length es
-  pub here : (d : Item) → slice_index_or es at d ≡ (p, thing)
+  pub here : (d : Item) → slice_index_or es at d ≡ (p, object)
 
 -- no item has the path p, which belongs at this place
 pub record GoesAt (es : List Item) (p : List ℕ) (at : ℕ) : Type 0 where

@@ -6,7 +6,7 @@
 //!
 //! **Proved**: both meet [`Tree`](file_tree::Tree) and [`Sink`](file_tree::Sink), fail exactly at
 //! the calls that were listed and where a growth is refused, and count their calls and failures;
-//! an image of a tree is the one that its choice names.
+//! a crash image of a tree is the one that its choice names.
 //!
 //! **Only tested**: with ample memory no growth is refused.
 //!

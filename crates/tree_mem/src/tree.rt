@@ -21,7 +21,7 @@ impl MemTree {
     ghost use Rattle.std.specs.Cmp.Lexicographic.{slice_cmp};
     ghost use Rattle.std.specs.List.Sorted.{IsStrictlySortedBy};
     ghost use Rattle.std.specs.Ordering.{nat_cmp};
-    ghost use Rattle.file_tree.specs.Thing.{Thing};
+    ghost use Rattle.file_tree.specs.ObjectValue.{ObjectValue};
     ghost use Rattle.tree_mem.specs.Items.{paths};
     ghost use Rattle.basics.specs.Members.{AreDistinct};
     ghost use Rattle.file_tree.specs.Disk.{IsImage, IsUntouched, Rose};
@@ -32,7 +32,7 @@ impl MemTree {
 
     /// A tree that holds these objects. Nothing is touched, no call was made, and none is to fail.
     pub fn new(alloc: Global, objects: Vec<(Path, Object)>) -> Result<MemTree, MemFault>
-        ensures held { IfOk result (λ t. (p : List ℕ) (x : Thing) →
+        ensures held { IfOk result (λ t. (p : List ℕ) (x : ObjectValue) →
             Contains objects.items (p, x) ↔ (mem_holds t p ≡ Some x)) }
         ensures distinct { IfOk result (λ t. AreDistinct (paths objects.items)) }
         ensures untouched { IfOk result (λ t. IsUntouched (mem_story t).now) }
@@ -97,7 +97,7 @@ impl MemTree {
     /// All objects, in byte order of their paths.
     pub fn objects(&self) -> &[(Path, Object)]
         ensures rising { IsStrictlySortedBy (slice_cmp nat_cmp) (paths result.now) }
-        ensures held { (p : List ℕ) (x : Thing) → Contains result.now (p, x) ↔
+        ensures held { (p : List ℕ) (x : ObjectValue) → Contains result.now (p, x) ↔
             (mem_holds self.now p ≡ Some x) }
     {
         self.disk.objects()

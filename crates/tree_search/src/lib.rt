@@ -22,7 +22,7 @@
 //! **Only tested**: that with ample memory it ends with one of these.
 //!
 //! ```
-//! match first_good(alloc, &mut tree, root, 10)? {
+//! match first_good(alloc, &mut tree, 10)? {
 //!     Outcome::Found(choice) => ..,
 //!     Outcome::NoneGood => ..,
 //!     Outcome::Limit(dead) => ..,

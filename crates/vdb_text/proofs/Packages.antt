@@ -2,7 +2,7 @@
 use Rattle.std.proofs.Common.{◌≡◌, ◌∙◌, ℕ, true, List, [], ◌∷◌, ◌++◌, drop, refl, ap, sym, append_assoc}
 use Rattle.std.specs.Prelude.{codes}
 use Rattle.std.proofs.lemmas.List.{append_cancel_left}
-use Rattle.version_text.specs.Grammar.{IsVersion, Parts, spelling}
+use Rattle.version_text.specs.Grammar.{IsVersion, VersionValue, spelling}
 use Rattle.pms_names.specs.declared.kind.Kind.TheVariants.{Category, Package}
 use Rattle.dep_atom.specs.Cuts.{Lacks}
 use Rattle.dep_atom.specs.Ids.{IsId, id_text, name_and_version}
@@ -11,7 +11,7 @@ use Rattle.dep_atom.specs.declared.package.PackageId.{PackageId}
 use Rattle.dep_atom.proofs.Cuts.{cut_once}
 use Rattle.dep_atom.proofs.Joined.{ComesApart, id_same}
 use Rattle.dep_atom.proofs.Plain.{lacks-append, lacks_plain, plain_name, plain_version}
-use Rattle.vdb_text.specs.Files.{database_path, record_path}
+use Rattle.vdb_text.specs.Files.{database_path, package_file_path}
 
 category_lacks : (id : PackageId) → IsId id → Lacks 47 47 id.name.category
 category_lacks id is = lacks_plain 47 47 id.name.category refl refl (plain_name Category id.name.category is.category)
@@ -21,13 +21,13 @@ pf_lacks id is =
     lacks-append 47 47 id.name.«package» (45 ∷ spelling id.version) (lacks_plain 47 47 id.name.«package» refl refl (plain_name Package id.name.«package» is.«package»)) (lacks_plain 47 47 (spelling id.version) refl refl (plain_version id.version is.version.version))
 
 -- a path of a package's folder, by its parts
-pub record_path-parts : (id : PackageId) (name : List ℕ) → record_path id name ≡ codes "var/db/pkg/" ++ (id.name.category ++ (47 ∷ (name_and_version id ++ (47 ∷ name))))
-unfolding record_path
-record_path-parts id name = ap (λ (t : List ℕ). codes "var/db/pkg/" ++ t) (append_assoc id.name.category (47 ∷ name_and_version id) (47 ∷ name))
+pub package_file_path-parts : (id : PackageId) (name : List ℕ) → package_file_path id name ≡ codes "var/db/pkg/" ++ (id.name.category ++ (47 ∷ (name_and_version id ++ (47 ∷ name))))
+unfolding package_file_path
+package_file_path-parts id name = ap (λ (t : List ℕ). codes "var/db/pkg/" ++ t) (append_assoc id.name.category (47 ∷ name_and_version id) (47 ∷ name))
 
 -- a version is spelled in one way
 abbrev pub OneSpelling : Type 0
-OneSpelling = (p q : Parts) → IsVersion p → IsVersion q → spelling p ≡ spelling q → p ≡ q
+OneSpelling = (p q : VersionValue) → IsVersion p → IsVersion q → spelling p ≡ spelling q → p ≡ q
 
 same_id : ComesApart → OneSpelling → (a b : PackageId) → IsId a → IsId b → a.name.category ≡ b.name.category → name_and_version a ≡ name_and_version b → a ≡ b
 same_id apart once a b is-a is-b category e =
@@ -35,22 +35,22 @@ same_id apart once a b is-a is-b category e =
     id_same a.name.category a.name.«package» a.version b category parts.0 (once a.version b.version is-a.version.version is-b.version.version parts.1)
 
 -- no two packages have one path in their folders
-pub one_id : ComesApart → OneSpelling → (a b : PackageId) (x y : List ℕ) → IsId a → IsId b → record_path a x ≡ record_path b y → a ≡ b
+pub one_id : ComesApart → OneSpelling → (a b : PackageId) (x y : List ℕ) → IsId a → IsId b → package_file_path a x ≡ package_file_path b y → a ≡ b
 one_id apart once a b x y is-a is-b same =
     let front : List ℕ = name_and_version a ++ (47 ∷ x) in
     let back : List ℕ = name_and_version b ++ (47 ∷ y) in
-    let e : a.name.category ++ (47 ∷ front) ≡ b.name.category ++ (47 ∷ back) = append_cancel_left (codes "var/db/pkg/") (a.name.category ++ (47 ∷ front)) (b.name.category ++ (47 ∷ back)) (sym (record_path-parts a x) ∙ same ∙ record_path-parts b y) in
+    let e : a.name.category ++ (47 ∷ front) ≡ b.name.category ++ (47 ∷ back) = append_cancel_left (codes "var/db/pkg/") (a.name.category ++ (47 ∷ front)) (b.name.category ++ (47 ∷ back)) (sym (package_file_path-parts a x) ∙ same ∙ package_file_path-parts b y) in
     let one = cut_once 47 47 a.name.category (47 ∷ front) b.name.category (47 ∷ back) (category_lacks a is-a) (category_lacks b is-b) refl refl e in
     let two = cut_once 47 47 (name_and_version a) (47 ∷ x) (name_and_version b) (47 ∷ y) (pf_lacks a is-a) (pf_lacks b is-b) refl refl (ap (drop 1) one.1) in
     same_id apart once a b is-a is-b one.0 two.0
 
 -- files of other names have other paths
-pub record_names_differ : (id : PackageId) (a b : List ℕ) → record_path id a ≡ record_path id b → a ≡ b
-unfolding record_path
+pub record_names_differ : (id : PackageId) (a b : List ℕ) → package_file_path id a ≡ package_file_path id b → a ≡ b
+unfolding package_file_path
 record_names_differ id a b e =
     let rest = append_cancel_left (id_text id) (47 ∷ a) (47 ∷ b) (append_cancel_left (codes "var/db/pkg/") (id_text id ++ (47 ∷ a)) (id_text id ++ (47 ∷ b)) e) in
     append_cancel_left (47 ∷ []) a b rest
 
-pub record_is_below : (id : PackageId) (name : List ℕ) → is_below database_path (record_path id name) ≡ true
-unfolding database_path record_path
+pub record_is_below : (id : PackageId) (name : List ℕ) → is_below database_path (package_file_path id name) ≡ true
+unfolding database_path package_file_path
 record_is_below id name = refl

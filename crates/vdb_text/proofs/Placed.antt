@@ -13,7 +13,7 @@ use Rattle.dep_atom.specs.declared.package.PackageId.{PackageId}
 use Rattle.dep_atom.proofs.Plain.{ArePlain, plain_name, plain_version}
 use Rattle.file_tree.specs.Paths.{is_path}
 use Rattle.file_tree.proofs.PlainParts.{has_plain_parts, plain_parts_path}
-use Rattle.vdb_text.specs.Files.{is_capital, is_file_name, most_name_bytes, package_folder, record_path}
+use Rattle.vdb_text.specs.Files.{is_capital, is_file_name, most_name_bytes, package_folder, package_file_path}
 
 plain_is_high : (b : ℕ) → is_plain b ≡ true → 32 < b
 plain_is_high b h = grind (arith, nat_tests)
@@ -99,15 +99,15 @@ capitals_part (b ∷ bs) h some =
     ap (has_plain_parts true) (sym (append-nil (b ∷ bs))) ∙ new_part (b ∷ bs) [] (plain_capitals (b ∷ bs) h) some (capital_is_no_stop b parts.0)
 
 -- the file of a package's folder is at a path
-pub record_is_path : (id : PackageId) (name : List ℕ) → IsId id → is_file_name name ≡ true → is_path (record_path id name) ≡ true
-unfolding record_path
+pub record_is_path : (id : PackageId) (name : List ℕ) → IsId id → is_file_name name ≡ true → is_path (package_file_path id name) ≡ true
+unfolding package_file_path
 record_is_path id name is named =
     let sized = and_parts (ltb 0 (length name)) (leb (length name) most_name_bytes && list_all is_capital name) named in
     let made = and_parts (leb (length name) most_name_bytes) (list_all is_capital name) sized.1 in
     let some : 0 < length name = ltb-true 0 (length name) sized.0 in
     let short : length name ≤ 100 = leb-true (length name) most_name_bytes made.0 in
     let size : length (id_text id ++ (47 ∷ name)) ≡ length (id_text id) + length (47 ∷ name) = length-append (id_text id) (47 ∷ name) in
-    plain_parts_path (record_path id name) (id_parts id is (47 ∷ name) ∙ capitals_part name made.1 some) (omega arith) (omega (arith, short, size, id_is_short id is))
+    plain_parts_path (package_file_path id name) (id_parts id is (47 ∷ name) ∙ capitals_part name made.1 some) (omega arith) (omega (arith, short, size, id_is_short id is))
 
 -- and so is that folder
 pub folder_is_path : (id : PackageId) → IsId id → is_path (package_folder id) ≡ true

@@ -2,7 +2,7 @@
 use Rattle.std.specs.Prelude.{◌≡◌, ℕ, Bool, ◌&&◌, ◌||◌, ◌==◌, ltb, leb, List, [], ◌∷◌, ◌++◌, codes, length}
 use Rattle.std.specs.Int.{is_in_range}
 use Rattle.std.specs.List.{list_all}
-use Rattle.file_tree.specs.Thing.{plain}
+use Rattle.file_tree.specs.ObjectValue.{plain}
 use Rattle.file_tree.specs.declared.objects.Entry.{Entry}
 use Rattle.dep_atom.specs.Ids.{id_text}
 use Rattle.dep_atom.specs.declared.package.Facts.{Facts}
@@ -19,8 +19,8 @@ abbrev pub package_folder : PackageId → List ℕ
 package_folder id = codes "var/db/pkg/" ++ id_text id
 
 -- a file of that folder
-unfoldable pub record_path : PackageId → List ℕ → List ℕ
-record_path id name = codes "var/db/pkg/" ++ (id_text id ++ (47 ∷ name))
+unfoldable pub package_file_path : PackageId → List ℕ → List ℕ
+package_file_path id name = codes "var/db/pkg/" ++ (id_text id ++ (47 ∷ name))
 
 -- a capital letter or an underscore
 abbrev pub is_capital : ℕ → Bool
@@ -41,7 +41,7 @@ eapi_text = 56 ∷ 10 ∷ []
 
 -- a file of the record with this text
 abbrev pub record_file : PackageId → List ℕ → List ℕ → Entry
-record_file id name text = record { path = record_path id name; object = plain text }
+record_file id name text = record { path = package_file_path id name; object = plain text }
 
 -- the files of a package's record, where CONTENTS has this text, in the order in which they are put
 abbrev pub record_files : Facts → List ℕ → List Entry

@@ -1,9 +1,9 @@
 ghost use Rattle.std.specs.Prelude.{◌≡◌, ◌++◌, ◌∷◌, [], IfOk, string_bytes, true};
 ghost use Rattle.dep_atom.specs.Ids.{IsId};
-ghost use Rattle.file_tree.specs.Thing.{plain};
+ghost use Rattle.file_tree.specs.ObjectValue.{plain};
 ghost use Rattle.slot_value.specs.Slots.{slot_text};
 ghost use Rattle.vdb_text.specs.Files.{AreRecordOf, database_path, is_file_name, package_folder};
-ghost use Rattle.vdb_text.specs.Files.{record_file, record_files, record_path};
+ghost use Rattle.vdb_text.specs.Files.{record_file, record_files, package_file_path};
 
 use crate::written::text_of_contents;
 use dep_atom::{Facts, PackageId};
@@ -45,10 +45,10 @@ pub fn path_of_package(alloc: Global, id: &PackageId) -> Result<Path, AllocError
 }
 
 /// The path of a file of the package's record.
-#[tactic(auto, unfolding(crate::specs::Files::record_path))]
+#[tactic(auto, unfolding(crate::specs::Files::package_file_path))]
 pub fn path_of_record(alloc: Global, id: &PackageId, name: &str) -> Result<Path, AllocError>
     requires { is_file_name name.now ≡ true }
-    ensures { IfOk result (λ p. p ≡ record_path id.now name.now) }
+    ensures { IfOk result (λ p. p ≡ package_file_path id.now name.now) }
 {
     id_is_one(id);
     let id = id.print(alloc)?;

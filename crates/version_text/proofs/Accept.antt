@@ -4,7 +4,7 @@ use Rattle.std.specs.List.{AllByRecursion, flat_map}
 use Rattle.std.proofs.Common.{◌≡◌, ◌∙◌, ℕ, List, [], ◌∷◌, ◌++◌, ◌≤◌, refl, sym, ap, subst, arith}
 use Rattle.std.proofs.lemmas.List.Sums.{fold-append}
 use Rattle.basics.specs.Bytes.{is_digit, is_lower}
-use Rattle.version_text.specs.Grammar.{AreDigits, IsInteger, IsLetter, SuffixKind, SuffixText, Parts, IsVersion, word, spell_number, spell_suffix, spell_revision, spell_ending, spelling}
+use Rattle.version_text.specs.Grammar.{AreDigits, IsInteger, IsLetter, SuffixKind, SuffixValue, VersionValue, IsVersion, word, spell_number, spell_suffix, spell_revision, spell_ending, spelling}
 use Rattle.version_text.specs.Grammar.SuffixKind.{Alpha, Beta, Pre, Rc, P}
 use Rattle.version_text.specs.declared.place.Place.{Place}
 use Rattle.version_text.specs.declared.place.Place.TheVariants.{Number, MoreNumber, Letter, Underscore, GotP, Suffix, Hyphen, HyphenR, Revision}
@@ -85,7 +85,7 @@ run-word Pre ds h = run-suffix_digits ds h
 run-word Rc ds h = run-suffix_digits ds h
 run-word P ds h = run-p_digits ds h
 
-run-suffixes : (q : Place) (ss : List SuffixText) → IsOpen q → AllByRecursion (λ (s : SuffixText). AreDigits s.digits) ss → IsOpen (run q (flat_map spell_suffix ss))
+run-suffixes : (q : Place) (ss : List SuffixValue) → IsOpen q → AllByRecursion (λ (s : SuffixValue). AreDigits s.digits) ss → IsOpen (run q (flat_map spell_suffix ss))
 run-suffixes q [] o h = o
 run-suffixes q (s ∷ ss) o h =
     let one : IsOpen (run q (spell_suffix s)) = subst (λ p. IsOpen (run p (word s.kind ++ s.digits))) (sym o.suffix) (run-word s.kind s.digits h.0) in
@@ -97,10 +97,10 @@ run-revision q (d ∷ ds) o h =
     let first : next HyphenR d ≡ Revision = rw h.0 in
     ap (λ p. may_end (run p (114 ∷ d ∷ ds))) o.hyphen ∙ (ap (λ p. may_end (run p ds)) first ∙ ap may_end (run-digits Revision digit_in_revision ds h.1))
 
-run-ending : (q : Place) (ss : List SuffixText) (r : List ℕ) → IsOpen q → AllByRecursion (λ (s : SuffixText). AreDigits s.digits) ss → AreDigits r → may_end (run q (spell_ending ss r)) ≡ true
+run-ending : (q : Place) (ss : List SuffixValue) (r : List ℕ) → IsOpen q → AllByRecursion (λ (s : SuffixValue). AreDigits s.digits) ss → AreDigits r → may_end (run q (spell_ending ss r)) ≡ true
 run-ending q ss r o h k = ap may_end (run-append q (flat_map spell_suffix ss) (spell_revision r)) ∙ run-revision (run q (flat_map spell_suffix ss)) r (run-suffixes q ss o h) k
 
-pub accepted : (p : Parts) → IsVersion p → may_end (run Number (spelling p)) ≡ true
+pub accepted : (p : VersionValue) → IsVersion p → may_end (run Number (spelling p)) ≡ true
 accepted p v =
     let ending : List ℕ = spell_ending p.suffixes p.revision in
     let behind : List ℕ = p.letter ++ ending in

@@ -4,7 +4,7 @@ use Rattle.std.specs.List.{AllByRecursion, flat_map}
 use Rattle.std.proofs.Common.{◌≡◌, ◌∙◌, ◌⊎◌, inl, inr, ℕ, List, [], ◌∷◌, ◌++◌, refl, sym, ap, subst, append_assoc}
 use Rattle.std.proofs.lemmas.Bool.{eqb-true}
 use Rattle.basics.specs.Bytes.{is_digit, is_lower}
-use Rattle.version_text.specs.Grammar.{AreDigits, IsInteger, IsLetter, SuffixKind, SuffixText, IsVersionText, word, spell_number, spell_suffix, spell_revision, spell_ending}
+use Rattle.version_text.specs.Grammar.{AreDigits, IsInteger, IsLetter, SuffixKind, SuffixValue, IsVersionText, word, spell_number, spell_suffix, spell_revision, spell_ending}
 use Rattle.version_text.specs.Grammar.SuffixKind.{Alpha, Beta, Pre, Rc, P}
 use Rattle.version_text.specs.declared.place.Place.{Place}
 use Rattle.version_text.specs.declared.place.Place.TheVariants.{Number, MoreNumber, Letter, Underscore, GotA, GotAl, GotAlp, GotAlph, GotB, GotBe, GotBet, GotR, GotP, GotPr, Suffix, Hyphen, HyphenR, Revision, Nowhere}
@@ -12,9 +12,9 @@ use Rattle.version_text.specs.Machine.{next, next_part, behind_number, behind_p,
 
 -- the suffixes and the revision that are left
 pub record Ending (bytes : List ℕ) : Type 0 where
-  pub suffixes : List SuffixText
+  pub suffixes : List SuffixValue
   pub revision : List ℕ
-  pub each : AllByRecursion (λ (s : SuffixText). AreDigits s.digits) suffixes
+  pub each : AllByRecursion (λ (s : SuffixValue). AreDigits s.digits) suffixes
   pub digits : AreDigits revision
   pub spelled : bytes ≡ spell_ending suffixes revision
 

@@ -5,7 +5,7 @@ use Rattle.std.proofs.Common.{◌≡◌, ◌∙◌, ◌⊎◌, inl, inr, ℕ, Li
 use Rattle.std.proofs.lemmas.List.{append_cancel_left}
 use Rattle.basics.specs.Bytes.{is_digit, is_lower}
 use Rattle.basics.proofs.Lists.{heads_differ}
-use Rattle.version_text.specs.Grammar.{AreDigits, IsInteger, IsLetter, SuffixKind, SuffixText, Parts, IsVersion, IsVersionText, kind_at, word, spell_number, spell_suffix, spell_revision, spell_ending, spelling}
+use Rattle.version_text.specs.Grammar.{AreDigits, IsInteger, IsLetter, SuffixKind, SuffixValue, VersionValue, IsVersion, IsVersionText, kind_at, word, spell_number, spell_suffix, spell_revision, spell_ending, spelling}
 use Rattle.version_text.specs.Grammar.SuffixKind.{Alpha, Beta, Pre, Rc, P}
 use Rattle.version_text.specs.declared.place.Place.{Place}
 use Rattle.version_text.specs.declared.place.Place.TheVariants.{Number, MoreNumber, Letter, Underscore, GotA, GotAl, GotAlp, GotAlph, GotB, GotBe, GotBet, GotR, GotP, GotPr, Suffix, Hyphen, HyphenR, Revision, Nowhere}
@@ -22,13 +22,13 @@ Behind h = (h ≤ 45) ⊎ (95 ≤ h)
 unfoldable pub BehindSuffix : ℕ → Type 0
 BehindSuffix h = (h ≤ 45) ⊎ (h ≡ 95)
 
-pub behind_suffix : (ss : List SuffixText) (r : List ℕ) → BehindSuffix (get_or (spell_ending ss r) 0 0)
+pub behind_suffix : (ss : List SuffixValue) (r : List ℕ) → BehindSuffix (get_or (spell_ending ss r) 0 0)
 unfolding BehindSuffix
 behind_suffix [] [] = inl (omega arith)
 behind_suffix [] (d ∷ r) = inl (omega arith)
 behind_suffix (s ∷ ss) r = inr refl
 
-pub behind_numbers : (l : List ℕ) (ss : List SuffixText) (r : List ℕ) → IsLetter l → Behind (get_or (l ++ spell_ending ss r) 0 0)
+pub behind_numbers : (l : List ℕ) (ss : List SuffixValue) (r : List ℕ) → IsLetter l → Behind (get_or (l ++ spell_ending ss r) 0 0)
 unfolding Behind BehindSuffix
 behind_numbers [] ss r h = elim (behind_suffix ss r) [ inl k ↦ inl k | inr k ↦ inr (omega arith) ]
 behind_numbers (b ∷ []) ss r h = let range : (97 ≤ b) × (b ≤ 122) = lower_range b h in inr (omega arith)
@@ -42,7 +42,7 @@ pub suffix_is_no_digit : (h : ℕ) → BehindSuffix h → is_digit h ≡ false
 unfolding BehindSuffix
 suffix_is_no_digit h b = elim b [ inl k ↦ below_is_no_digit h (omega arith) | inr k ↦ above_is_no_digit h (omega arith) ]
 
-pub behind_number : (more : List (List ℕ)) (l : List ℕ) (ss : List SuffixText) (r : List ℕ) → IsLetter l → is_digit (get_or (flat_map spell_number more ++ (l ++ spell_ending ss r)) 0 0) ≡ false
+pub behind_number : (more : List (List ℕ)) (l : List ℕ) (ss : List SuffixValue) (r : List ℕ) → IsLetter l → is_digit (get_or (flat_map spell_number more ++ (l ++ spell_ending ss r)) 0 0) ≡ false
 behind_number [] l ss r h = behind_is_no_digit (get_or (l ++ spell_ending ss r) 0 0) (behind_numbers l ss r h)
 behind_number (ds ∷ more) l ss r h = refl
 
@@ -65,7 +65,7 @@ unfolding BehindSuffix
 not_r x b = elim b [ inl k ↦ tests_below x 114 (omega arith) | inr k ↦ tests_below x 114 (omega arith) ]
 
 -- the word's first two bytes tell the kind
-pub kind_at-word : (k : SuffixKind) (ds : List ℕ) (ss : List SuffixText) (r : List ℕ) → AreDigits ds → kind_at (word k ++ (ds ++ spell_ending ss r)) ≡ k
+pub kind_at-word : (k : SuffixKind) (ds : List ℕ) (ss : List SuffixValue) (r : List ℕ) → AreDigits ds → kind_at (word k ++ (ds ++ spell_ending ss r)) ≡ k
 kind_at-word Alpha ds ss r h = refl
 kind_at-word Beta ds ss r h = refl
 kind_at-word Pre ds ss r h = refl
@@ -91,7 +91,7 @@ no_suffix_here (d ∷ ds) xs e = heads_differ 45 95 (114 ∷ d ∷ ds) xs (λ n.
 pub shift_suffix : (w d f r : List ℕ) → ((w ++ d) ++ f) ++ r ≡ w ++ (d ++ (f ++ r))
 shift_suffix w d f r = simp append_assoc
 
-pub one_ending : (ss ts : List SuffixText) (r q : List ℕ) → AllByRecursion (λ (s : SuffixText). AreDigits s.digits) ss → AllByRecursion (λ (s : SuffixText). AreDigits s.digits) ts → spell_ending ss r ≡ spell_ending ts q → (ss ≡ ts) × (r ≡ q)
+pub one_ending : (ss ts : List SuffixValue) (r q : List ℕ) → AllByRecursion (λ (s : SuffixValue). AreDigits s.digits) ss → AllByRecursion (λ (s : SuffixValue). AreDigits s.digits) ts → spell_ending ss r ≡ spell_ending ts q → (ss ≡ ts) × (r ≡ q)
 one_ending [] [] r q h k e = (refl, one_revision r q e)
 one_ending [] (t ∷ ts) r q h k e = absurd (no_suffix_here r ((word t.kind ++ t.digits) ++ flat_map spell_suffix ts ++ spell_revision q) e)
 one_ending (s ∷ ss) [] r q h k e = absurd (no_suffix_here q ((word s.kind ++ s.digits) ++ flat_map spell_suffix ss ++ spell_revision r) (sym e))
@@ -108,7 +108,7 @@ one_ending (s ∷ ss) (t ∷ ts) r q h k e =
     let same : s ≡ t = ap (λ w. record { kind = w; digits = s.digits }) kinds ∙ ap (λ ds. record { kind = t.kind; digits = ds }) apart.0 in
     (ap (λ x. x ∷ ss) same ∙ ap (λ l. t ∷ l) rest.0, rest.1)
 
-letter_is_no_suffix : (b : ℕ) (bs : List ℕ) (ss : List SuffixText) (r : List ℕ) → is_lower b ≡ true → spell_ending ss r ≡ b ∷ bs → ⊥
+letter_is_no_suffix : (b : ℕ) (bs : List ℕ) (ss : List SuffixValue) (r : List ℕ) → is_lower b ≡ true → spell_ending ss r ≡ b ∷ bs → ⊥
 unfolding BehindSuffix
 letter_is_no_suffix b bs ss r h e =
     let range : (97 ≤ b) × (b ≤ 122) = lower_range b h in
@@ -117,7 +117,7 @@ letter_is_no_suffix b bs ss r h e =
     apart : BehindSuffix b → 97 ≤ b → ⊥
     apart x l = elim x [ inl k ↦ omega arith | inr k ↦ omega arith ]
 
-one_letter : (l m : List ℕ) (ss ts : List SuffixText) (r q : List ℕ) → IsLetter l → IsLetter m → l ++ spell_ending ss r ≡ m ++ spell_ending ts q → (l ≡ m) × (spell_ending ss r ≡ spell_ending ts q)
+one_letter : (l m : List ℕ) (ss ts : List SuffixValue) (r q : List ℕ) → IsLetter l → IsLetter m → l ++ spell_ending ss r ≡ m ++ spell_ending ts q → (l ≡ m) × (spell_ending ss r ≡ spell_ending ts q)
 one_letter [] [] ss ts r q h k e = (refl, e)
 one_letter [] (b ∷ []) ss ts r q h k e = absurd (letter_is_no_suffix b (spell_ending ts q) ss r k e)
 one_letter (b ∷ []) [] ss ts r q h k e = absurd (letter_is_no_suffix b (spell_ending ss r) ts q h (sym e))
@@ -136,7 +136,7 @@ pub all_digits : (ds : List ℕ) → IsInteger ds → AreDigits ds
 all_digits [] h = absurd h
 all_digits (d ∷ ds) h = h
 
-one_list_of_numbers : (more less : List (List ℕ)) (l m : List ℕ) (ss ts : List SuffixText) (r q : List ℕ) → AllByRecursion IsInteger more → AllByRecursion IsInteger less → IsLetter l → IsLetter m → flat_map spell_number more ++ (l ++ spell_ending ss r) ≡ flat_map spell_number less ++ (m ++ spell_ending ts q) → (more ≡ less) × (l ++ spell_ending ss r ≡ m ++ spell_ending ts q)
+one_list_of_numbers : (more less : List (List ℕ)) (l m : List ℕ) (ss ts : List SuffixValue) (r q : List ℕ) → AllByRecursion IsInteger more → AllByRecursion IsInteger less → IsLetter l → IsLetter m → flat_map spell_number more ++ (l ++ spell_ending ss r) ≡ flat_map spell_number less ++ (m ++ spell_ending ts q) → (more ≡ less) × (l ++ spell_ending ss r ≡ m ++ spell_ending ts q)
 one_list_of_numbers [] [] l m ss ts r q h k a b e = (refl, e)
 one_list_of_numbers [] (ds ∷ less) l m ss ts r q h k a b e = absurd (no_dot_here (l ++ spell_ending ss r) (ds ++ flat_map spell_number less ++ (m ++ spell_ending ts q)) (behind_numbers l ss r a) e)
 one_list_of_numbers (ds ∷ more) [] l m ss ts r q h k a b e = absurd (no_dot_here (m ++ spell_ending ts q) (ds ++ flat_map spell_number more ++ (l ++ spell_ending ss r)) (behind_numbers m ts q b) (sym e))
@@ -148,7 +148,7 @@ one_list_of_numbers (ds ∷ more) (es ∷ less) l m ss ts r q h k a b e =
     let rest : (more ≡ less) × (l ++ spell_ending ss r ≡ m ++ spell_ending ts q) = one_list_of_numbers more less l m ss ts r q h.1 k.1 a b apart.1 in
     (ap (λ x. x ∷ more) apart.0 ∙ ap (λ xs. es ∷ xs) rest.0, rest.1)
 
-pub spelled_once : (p q : Parts) → IsVersion p → IsVersion q → spelling p ≡ spelling q → p ≡ q
+pub spelled_once : (p q : VersionValue) → IsVersion p → IsVersion q → spelling p ≡ spelling q → p ≡ q
 spelled_once p q h k e =
     let numbers : (p.first ≡ q.first) × (flat_map spell_number p.more ++ (p.letter ++ spell_ending p.suffixes p.revision) ≡ flat_map spell_number q.more ++ (q.letter ++ spell_ending q.suffixes q.revision)) =
     digits_apart p.first q.first (flat_map spell_number p.more ++ (p.letter ++ spell_ending p.suffixes p.revision)) (flat_map spell_number q.more ++ (q.letter ++ spell_ending q.suffixes q.revision)) (all_digits p.first h.first) (all_digits q.first k.first) (behind_number p.more p.letter p.suffixes p.revision h.letter) (behind_number q.more q.letter q.suffixes q.revision k.letter) e in
@@ -192,7 +192,7 @@ digit_behind_hyphen q d h =
     let stuck : next Hyphen d ≡ Nowhere = rw no in
     elim (behind_hyphen q) [ inl e ↦ ap (λ p. next p d) e ∙ stuck | inr e ↦ ap (λ p. next p d) e ]
 
-begins_with_digit : (p : Parts) → IsVersion p → (d : ℕ) × (rest : List ℕ) × (is_digit d ≡ true) × (spelling p ≡ d ∷ rest)
+begins_with_digit : (p : VersionValue) → IsVersion p → (d : ℕ) × (rest : List ℕ) × (is_digit d ≡ true) × (spelling p ≡ d ∷ rest)
 begins_with_digit p v = digit_first p.first (flat_map spell_number p.more ++ (p.letter ++ spell_ending p.suffixes p.revision)) v.first
   where
     digit_first : (ds behind : List ℕ) → IsInteger ds → (d : ℕ) × (rest : List ℕ) × (is_digit d ≡ true) × (ds ++ behind ≡ d ∷ rest)

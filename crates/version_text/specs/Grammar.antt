@@ -27,18 +27,18 @@ pub data SuffixKind : Type 0 where
   P : SuffixKind
 
 -- a suffix: its kind, and the digits of its integer, [] where none is written
-pub record SuffixText : Type 0 where
+pub record SuffixValue : Type 0 where
   pub kind : SuffixKind
   pub digits : List ℕ
 
 -- the parts of a version, integers as their digits
-pub record Parts : Type 0 where
+pub record VersionValue : Type 0 where
   pub first : List ℕ
   -- the numbers after the first, each behind a dot
   pub more : List (List ℕ)
   -- one letter, or none
   pub letter : List ℕ
-  pub suffixes : List SuffixText
+  pub suffixes : List SuffixValue
   -- the digits behind "-r", or [] where no revision is written
   pub revision : List ℕ
 
@@ -63,7 +63,7 @@ abbrev pub spell_number : List ℕ → List ℕ
 spell_number ds = 46 ∷ ds
 
 -- an underscore, the word and the digits
-abbrev pub spell_suffix : SuffixText → List ℕ
+abbrev pub spell_suffix : SuffixValue → List ℕ
 spell_suffix s = 95 ∷ (word s.kind ++ s.digits)
 
 -- "-r" and the digits; nothing where there are none
@@ -72,25 +72,25 @@ spell_revision [] = []
 spell_revision (d ∷ ds) = 45 ∷ 114 ∷ d ∷ ds
 
 -- the suffixes and the revision as they are written
-abbrev pub spell_ending : List SuffixText → List ℕ → List ℕ
+abbrev pub spell_ending : List SuffixValue → List ℕ → List ℕ
 spell_ending suffixes revision = flat_map spell_suffix suffixes ++ spell_revision revision
 
 -- the text of the parts
-abbrev pub spelling : Parts → List ℕ
+abbrev pub spelling : VersionValue → List ℕ
 spelling p =
     p.first ++ (flat_map spell_number p.more ++ (p.letter ++ spell_ending p.suffixes p.revision))
 
 -- parts that a version may have
-pub record IsVersion (p : Parts) : Type 0 where
+pub record IsVersion (p : VersionValue) : Type 0 where
   pub first : IsInteger p.first
   pub more : AllByRecursion IsInteger p.more
   pub letter : IsLetter p.letter
-  pub suffixes : AllByRecursion (λ (s : SuffixText). AreDigits s.digits) p.suffixes
+  pub suffixes : AllByRecursion (λ (s : SuffixValue). AreDigits s.digits) p.suffixes
   pub revision : AreDigits p.revision
 
 -- the text of a version
 abbrev pub IsVersionText : List ℕ → Type 0
-IsVersionText bytes = (p : Parts) × IsVersion p × (bytes ≡ spelling p)
+IsVersionText bytes = (p : VersionValue) × IsVersion p × (bytes ≡ spelling p)
 
 -- a text that some bytes, or none, complete to a version
 abbrev pub BeginsVersion : List ℕ → Type 0

@@ -1,5 +1,6 @@
 ghost use Rattle.std.specs.Prelude.{◌≡◌, ◌++◌, ◌↔◌, ◌∷◌, IfNone, IfSome, IsTrue, List, ℕ};
-ghost use Rattle.version_text.specs.Grammar.{IsVersion, IsVersionText, Parts, StopsAt, spelling};
+ghost use Rattle.version_text.specs.Grammar.{IsVersion, IsVersionText, StopsAt, VersionValue};
+ghost use Rattle.version_text.specs.Grammar.{spelling};
 
 use crate::place::Place;
 
@@ -34,7 +35,7 @@ pub fn version_stop(bytes: &[u8]) -> Option<usize>
 
 /// A law: a version is spelled in one way.
 pub fn one_spelling()
-    ensures { (p q : Parts) → IsVersion p → IsVersion q → spelling p ≡ spelling q → p ≡ q }
+    ensures { (p q : VersionValue) → IsVersion p → IsVersion q → spelling p ≡ spelling q → p ≡ q }
 {}
 
 /// A law: what a name, a hyphen and a version make together comes apart in one way.

@@ -11,7 +11,7 @@ returns-in-Ok-recover g c =
     let start = c.args.tree.now in
     let mid = c.recover.new.tree in
     let found = c.find_work.result in
-    let has : IsTrue T.tells → HasRecovered (T.story start) (T.story mid) = λ t. (let r = c.in-Ok-recover.ensures.recovered t in record { moments = c.recover.ensures.moments t; recovered = r.0; rest = at_rest (T.story start).now.holds (T.story mid) r }) in
+    let has : IsTrue T.tells → HasRecovered (T.story start) (T.story mid) = λ t. (let r = c.in-Ok-recover.ensures.recovered t in record { moments = c.recover.ensures.moments t; recovered = r.0.0; rest = at_rest (T.story start).now.holds (T.story mid) (r.0.0, r.1) }) in
     chooses_found T (map string_bytes c.args.words.now) start mid c.find_work.new.tree found.opening c.in-Ok.asked c.in-Ok.ensures.found has c.recover.ensures.faults.later found.answer c.find_work.ensures
 
 pub returns-in-Err-recover : goal.returns-in-Err-recover

@@ -2,7 +2,7 @@ use Rattle.std.proofs.Common.{◌≡◌, ◌∙◌, refl, sym, subst}
 use Rattle.std.specs.Prelude.{IfErr}
 use Rattle.std.proofs.lemmas.Result.{err_from_is_err_and}
 use Rattle.merge_core.specs.Event.{Claim}
-use Rattle.merge_core.specs.Keeping.{machine_of}
+use Rattle.merge_core.specs.CoreValue.{machine_of}
 use Rattle.merge_core.specs.declared.phase.Phase.TheVariants as phases
 use Rattle.merge_core.proofs.Standings.{set_here}
 use Rattle.group_run.specs.declared.stop.Stop.TheVariants as stops

@@ -1,7 +1,7 @@
 use Rattle.std.proofs.Common.{refl, sym}
 use Rattle.std.specs.Prelude.{is_ok}
 use Rattle.merge_core.specs.Event.{SyncPlaced}
-use Rattle.merge_core.specs.Keeping.{machine_of}
+use Rattle.merge_core.specs.CoreValue.{machine_of}
 use Rattle.merge_core.specs.declared.phase.Phase.TheVariants as phases
 use Rattle.merge_core.specs.declared.step.Step.TheVariants as steps
 use Rattle.merge_core.proofs.Standings.{set_here}

@@ -4,7 +4,7 @@ use Rattle.std.proofs.lemmas.Result.{err_from_is_err_and}
 use Rattle.group_run.specs.declared.stop.Stop.TheVariants as stops
 use Rattle.group_run.proofs.Stopped.{tree_quiet}
 use Rattle.merge_core.specs.Event.{PutToken, SyncSealed}
-use Rattle.merge_core.specs.Keeping.{machine_of}
+use Rattle.merge_core.specs.CoreValue.{machine_of}
 use Rattle.merge_core.specs.declared.phase.Phase.TheVariants as phases
 use Rattle.merge_core.specs.declared.step.Step.TheVariants as steps
 use Rattle.merge_core.proofs.Standings.{set_here}

@@ -1,6 +1,6 @@
 use Rattle.std.proofs.Common.{ap, refl, true}
 use Rattle.merge_core.specs.Event.{Begin}
-use Rattle.merge_core.specs.Keeping.{machine_of}
+use Rattle.merge_core.specs.CoreValue.{machine_of}
 use Rattle.merge_core.specs.Roll.{Standing}
 use Rattle.merge_core.specs.declared.phase.Phase.TheVariants as phases
 use Rattle.merge_core.specs.declared.step.Step.TheVariants as steps

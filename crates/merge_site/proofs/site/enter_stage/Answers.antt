@@ -1,6 +1,6 @@
 use Rattle.std.proofs.Common.{ℕ, List, Some, subst}
 use Rattle.merge_core.specs.Event.{Answers, Asks, PutStage}
-use Rattle.merge_core.specs.Keeping.{machine_of}
+use Rattle.merge_core.specs.CoreValue.{machine_of}
 use Rattle.merge_site.proofs.Device.{performed}
 use Rattle.merge_site.proofs.site.enter_stage.Goals as goal
 

@@ -1,6 +1,6 @@
 use Rattle.std.proofs.Common.{◌∙◌, sym}
 use Rattle.std.specs.Prelude.{is_ok}
-use Rattle.merge_core.specs.Keeping.{machine_of}
+use Rattle.merge_core.specs.CoreValue.{machine_of}
 use Rattle.merge_site.proofs.Device.{sync_performs}
 use Rattle.merge_site.proofs.site.sync_step.Goals as goal
 

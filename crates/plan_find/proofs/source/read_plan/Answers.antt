@@ -2,7 +2,7 @@ use Rattle.std.proofs.Common.{◌≡◌, Option, Err, Some, ap, refl, subst, sym
 use Rattle.std.proofs.lemmas.Result.{err_from_is_err_and}
 use Rattle.database_law.specs.Fields.{text_of}
 use Rattle.file_tree.specs.Disk.{Map}
-use Rattle.file_tree.specs.Thing.{Thing}
+use Rattle.file_tree.specs.ObjectValue.{ObjectValue}
 use Rattle.plan_text.specs.Plans.{plan_value}
 use Rattle.plan_text.specs.Texts.{plan_text}
 use Rattle.plan_find.specs.Files.{IsRefusal}
@@ -31,13 +31,13 @@ returns-in-Err-clause-refused g c t =
     let m : Map = (g.T.Tree.story c.args.tree.now).now.holds in
     let fault = c.in-Err.fault in
     subst (λ (e : NoPlan). MissesFile m c.args.path e) (sym c.unread.ensures)
-    (misses_of m c.args.path fault (subst (λ (o : Option Thing). IsRefusal (text_of o) fault) (c.in_ok-object.ensures.answer t) c.in-Err.ensures.fault))
+    (misses_of m c.args.path fault (subst (λ (o : Option ObjectValue). IsRefusal (text_of o) fault) (c.in_ok-object.ensures.answer t) c.in-Err.ensures.fault))
 
 pub returns-in-Ok-clause-found : goal.returns-in-Ok-clause-found
 returns-in-Ok-clause-found g c t = (
   refl,
   record {
     form = c.in-Ok.ensures.form;
-    text = subst (λ (o : Option Thing). text_of o ≡ Some (plan_text (plan_value c.in-Ok.text))) (c.in_ok-object.ensures.answer t) c.in-Ok.ensures.text;
+    text = subst (λ (o : Option ObjectValue). text_of o ≡ Some (plan_text (plan_value c.in-Ok.text))) (c.in_ok-object.ensures.answer t) c.in-Ok.ensures.text;
   },
 )

@@ -1,6 +1,6 @@
 use Rattle.std.specs.Option.{option_to_list}
 use Rattle.std.proofs.Common.{◌∙◌, ◌≡◌, ◌++◌, ap, sym, subst}
-use Rattle.version_text.specs.Grammar.{AreDigits, Parts, spelling}
+use Rattle.version_text.specs.Grammar.{AreDigits, VersionValue, spelling}
 use Rattle.pms_version.specs.Limits.{IsReadable}
 use Rattle.pms_version.proofs.Steps.{all_read, readable_text}
 use Rattle.pms_version.proofs.reading.read.Goals as goal
@@ -14,7 +14,7 @@ returns c p v e =
 
 pub invariant_of-result : goal.invariant_of-result
 invariant_of-result c =
-    let p : Parts = c.requires.version.0 in
+    let p : VersionValue = c.requires.version.0 in
     let e : c.args.text.now ≡ spelling p = c.requires.version.2 in
     let digits : AreDigits c.in_ok-first.first = subst AreDigits (sym c.in_ok-first.ensures) c.split_digits.ensures.digits in
     let whole : c.args.text.now ≡ c.in_ok-first.first ++ c.split_digits.result.1.now =

@@ -7,7 +7,7 @@ use Rattle.journal.specs.Judging.{path_of}
 use Rattle.journal.specs.Names.{jobs, stage_path}
 use Rattle.journal.specs.Names.Part.{Stage}
 use Rattle.merge_record.specs.declared.record.Placement.{Placement}
-use Rattle.recovery.specs.Stages.{Stages}
+use Rattle.recovery.specs.Stages.{StagePathsValue}
 use Rattle.recovery.proofs.Asked.{asked_whole, placed_asked}
 use Rattle.recovery.proofs.Stages.{placed_step, stage_at, stage_stays}
 use Rattle.recovery.proofs.Places.{journal_apart}
@@ -19,8 +19,8 @@ loop-index-init g c = ((λ t. refl), (λ t. c.requires.there t), omega arith, λ
 
 pub place-requires-clause-differ : goal.place-requires-clause-differ
 place-requires-clause-differ g c e =
-    let count = ap (λ (f : Stages). f.count) c.paths.view_is in
-    let named = ap (λ (f : Stages). f.group) c.paths.view_is in
+    let count = ap (λ (f : StagePathsValue). f.count) c.paths.view_is in
+    let named = ap (λ (f : StagePathsValue). f.group) c.paths.view_is in
     let lt : c.loop-index.index < length c.paths.inside.stages.items = omega (arith, count, c.requires.count, c.loop-index-test.true) in
     let path = c.index.ensures ∙ (ap (λ (l : List (List ℕ)). get_or l c.loop-index.index c.index.result.now) c.paths.invariant.2 ∙ stage_at c.paths.inside.group (length c.paths.inside.stages.items) c.loop-index.index c.index.result.now lt) in
     let has = has-at c.args.placements.now c.loop-index.index c.index-placements-index.result c.loop-index-test.true c.index-placements-index.is in
@@ -30,16 +30,16 @@ place-requires-clause-differ g c e =
 
 pub place-requires-clause-there : goal.place-requires-clause-there
 place-requires-clause-there g c t =
-    let count = ap (λ (f : Stages). f.count) c.paths.view_is in
-    let named = ap (λ (f : Stages). f.group) c.paths.view_is in
+    let count = ap (λ (f : StagePathsValue). f.count) c.paths.view_is in
+    let named = ap (λ (f : StagePathsValue). f.group) c.paths.view_is in
     let lt : c.loop-index.index < length c.paths.inside.stages.items = omega (arith, count, c.requires.count, c.loop-index-test.true) in
     let path = c.index.ensures ∙ (ap (λ (l : List (List ℕ)). get_or l c.loop-index.index c.index.result.now) c.paths.invariant.2 ∙ stage_at c.paths.inside.group (length c.paths.inside.stages.items) c.loop-index.index c.index.result.now lt) in
     subst (λ (q : List ℕ). IsSome ((g.T.Tree.story c.loop-index.tree).now.holds q)) (sym (path ∙ ap (λ (n : ℕ). stage_path n c.loop-index.index) named)) (c.loop-index.invariant.1 t c.loop-index.index c.loop-index-test.true)
 
 pub loop-index-preserved : goal.loop-index-preserved
 loop-index-preserved g c =
-    let count = ap (λ (f : Stages). f.count) c.paths.view_is in
-    let named = ap (λ (f : Stages). f.group) c.paths.view_is in
+    let count = ap (λ (f : StagePathsValue). f.count) c.paths.view_is in
+    let named = ap (λ (f : StagePathsValue). f.group) c.paths.view_is in
     let lt : c.loop-index.index < length c.paths.inside.stages.items = omega (arith, count, c.requires.count, c.loop-index-test.true) in
     let path = c.index.ensures ∙ (ap (λ (l : List (List ℕ)). get_or l c.loop-index.index c.index.result.now) c.paths.invariant.2 ∙ stage_at c.paths.inside.group (length c.paths.inside.stages.items) c.loop-index.index c.index.result.now lt) in
     let has = has-at c.args.placements.now c.loop-index.index c.index-placements-index.result c.loop-index-test.true c.index-placements-index.is in

@@ -1,8 +1,7 @@
 use Rattle.std.proofs.Common.{◌∙◌, ℕ, List, ap, subst, sym}
 use Rattle.file_tree.specs.Disk.{Map}
-use Rattle.recovery.specs.Found.{Found}
+use Rattle.recovery.specs.Found.{JournalValue}
 use Rattle.recovery.specs.Phases.{IsRedone}
-use Rattle.recovery.proofs.Gates.{few_gates}
 use Rattle.recovery.proofs.Stretches.{AtRest, recovered_at_end, same_holds, stays_cleared, stays_on, stays_redone, still_found}
 use Rattle.recovery.proofs.run.recover.Goals as goal
 
@@ -15,7 +14,7 @@ returns-in_err-redo-clause-moments g c t =
     let f = c.in_ok-journal.journal in
     let rest : AtRest s s1 s2 = (c.in_ok-sync.ensures.ok t, c.read_journal.ensures.same t) in
     let found = still_found s s1 s2 f rest (c.in_ok-journal.ensures.found t) in
-    stays_redone s s1 s2 s3 f.records rest found.records (c.redo.ensures.walks t)
+    stays_redone s s1 s2 s3 f rest found (c.redo.ensures.walks t)
 
 pub returns-in_err-remove_gates-clause-moments : goal.returns-in_err-remove_gates-clause-moments
 returns-in_err-remove_gates-clause-moments g c t =
@@ -27,10 +26,10 @@ returns-in_err-remove_gates-clause-moments g c t =
     let f = c.in_ok-journal.journal in
     let rest : AtRest s s1 s2 = (c.in_ok-sync.ensures.ok t, c.read_journal.ensures.same t) in
     let found = still_found s s1 s2 f rest (c.in_ok-journal.ensures.found t) in
-    let first = stays_redone s s1 s2 s3 f.records rest found.records (c.redo.ensures.walks t) in
-    let gates = c.deref.ensures.value ∙ ap (λ (x : Found). x.gates) c.journal.view_is in
+    let first = stays_redone s s1 s2 s3 f rest found (c.redo.ensures.walks t) in
+    let gates = c.deref.ensures.value ∙ ap (λ (x : JournalValue). x.gates) c.journal.view_is in
     let redone = subst (λ (m : Map). IsRedone m f.gates s3.now) (same_holds s s1 s2 rest) (c.in_ok-redo.ensures.ok t) in
-    stays_on s.now f.records s s3 s4 found.records first (c.remove_gates.ensures.moments t s.now.holds (subst (λ (l : List ℕ). IsRedone s.now.holds l s3.now) (sym gates) redone))
+    stays_on s.now f s s3 s4 found first (c.remove_gates.ensures.moments t s.now.holds (subst (λ (l : List ℕ). IsRedone s.now.holds l s3.now) (sym gates) redone))
 
 pub returns-in_err-clear_journal-clause-moments : goal.returns-in_err-clear_journal-clause-moments
 returns-in_err-clear_journal-clause-moments g c t =
@@ -43,13 +42,13 @@ returns-in_err-clear_journal-clause-moments g c t =
     let f = c.in_ok-journal.journal in
     let rest : AtRest s s1 s2 = (c.in_ok-sync.ensures.ok t, c.read_journal.ensures.same t) in
     let found = still_found s s1 s2 f rest (c.in_ok-journal.ensures.found t) in
-    let first = stays_redone s s1 s2 s3 f.records rest found.records (c.redo.ensures.walks t) in
-    let gates = c.deref.ensures.value ∙ ap (λ (x : Found). x.gates) c.journal.view_is in
+    let first = stays_redone s s1 s2 s3 f rest found (c.redo.ensures.walks t) in
+    let gates = c.deref.ensures.value ∙ ap (λ (x : JournalValue). x.gates) c.journal.view_is in
     let redone = subst (λ (m : Map). IsRedone m f.gates s3.now) (same_holds s s1 s2 rest) (c.in_ok-redo.ensures.ok t) in
     let redone' = subst (λ (l : List ℕ). IsRedone s.now.holds l s3.now) (sym gates) redone in
-    let second = stays_on s.now f.records s s3 s4 found.records first (c.remove_gates.ensures.moments t s.now.holds redone') in
+    let second = stays_on s.now f s s3 s4 found first (c.remove_gates.ensures.moments t s.now.holds redone') in
     let shut = c.in_ok-remove_gates.ensures.ok t s.now.holds redone' in
-    stays_cleared s.now f.records s s4 s5 found.records second (c.clear_journal.ensures.moments t _ shut)
+    stays_cleared s.now f s s4 s5 found second (c.clear_journal.ensures.moments t _ shut)
 
 pub returns-clause-moments : goal.returns-clause-moments
 returns-clause-moments g c t =
@@ -62,13 +61,13 @@ returns-clause-moments g c t =
     let f = c.in_ok-journal.journal in
     let rest : AtRest s s1 s2 = (c.in_ok-sync.ensures.ok t, c.read_journal.ensures.same t) in
     let found = still_found s s1 s2 f rest (c.in_ok-journal.ensures.found t) in
-    let first = stays_redone s s1 s2 s3 f.records rest found.records (c.redo.ensures.walks t) in
-    let gates = c.deref.ensures.value ∙ ap (λ (x : Found). x.gates) c.journal.view_is in
+    let first = stays_redone s s1 s2 s3 f rest found (c.redo.ensures.walks t) in
+    let gates = c.deref.ensures.value ∙ ap (λ (x : JournalValue). x.gates) c.journal.view_is in
     let redone = subst (λ (m : Map). IsRedone m f.gates s3.now) (same_holds s s1 s2 rest) (c.in_ok-redo.ensures.ok t) in
     let redone' = subst (λ (l : List ℕ). IsRedone s.now.holds l s3.now) (sym gates) redone in
-    let second = stays_on s.now f.records s s3 s4 found.records first (c.remove_gates.ensures.moments t s.now.holds redone') in
+    let second = stays_on s.now f s s3 s4 found first (c.remove_gates.ensures.moments t s.now.holds redone') in
     let shut = c.in_ok-remove_gates.ensures.ok t s.now.holds redone' in
-    stays_cleared s.now f.records s s4 s5 found.records second (c.clear_journal.ensures.moments t _ shut)
+    stays_cleared s.now f s s4 s5 found second (c.clear_journal.ensures.moments t _ shut)
 
 pub returns-clause-recovered : goal.returns-clause-recovered
 returns-clause-recovered g c t =
@@ -80,16 +79,7 @@ returns-clause-recovered g c t =
     let f = c.in_ok-journal.journal in
     let rest : AtRest s s1 s2 = (c.in_ok-sync.ensures.ok t, c.read_journal.ensures.same t) in
     let found = still_found s s1 s2 f rest (c.in_ok-journal.ensures.found t) in
-    let gates = c.deref.ensures.value ∙ ap (λ (x : Found). x.gates) c.journal.view_is in
+    let gates = c.deref.ensures.value ∙ ap (λ (x : JournalValue). x.gates) c.journal.view_is in
     let redone = subst (λ (m : Map). IsRedone m f.gates s3.now) (same_holds s s1 s2 rest) (c.in_ok-redo.ensures.ok t) in
     let shut = c.in_ok-remove_gates.ensures.ok t s.now.holds (subst (λ (l : List ℕ). IsRedone s.now.holds l s3.now) (sym gates) redone) in
-    (recovered_at_end s.now.holds f.records s5.now found.records (c.in_ok-clear_journal.ensures.cleared t _ shut), c.in_ok-clear_journal.ensures.settled t)
-
-pub returns-clause-few : goal.returns-clause-few
-returns-clause-few g c t many =
-    let s = g.T.Tree.story c.args.tree.now in
-    let s1 = g.T.Tree.story c.sync.new.self in
-    let s2 = g.T.Tree.story c.read_journal.new.tree in
-    let rest : AtRest s s1 s2 = (c.in_ok-sync.ensures.ok t, c.read_journal.ensures.same t) in
-    let found = still_found s s1 s2 c.in_ok-journal.journal rest (c.in_ok-journal.ensures.found t) in
-    few_gates s.now.holds c.in_ok-journal.journal.gates found.gates found.few many
+    (recovered_at_end s.now.holds f s5.now found (c.in_ok-clear_journal.ensures.cleared t _ shut), c.in_ok-clear_journal.ensures.settled t)

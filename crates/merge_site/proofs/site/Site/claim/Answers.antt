@@ -4,7 +4,7 @@ use Rattle.std.specs.List.{AllByRecursion}
 use Rattle.owner_book.specs.Book.{owner_in}
 use Rattle.owner_book.specs.declared.wish.Wish.{Wish}
 use Rattle.merge_core.specs.Event.{Claim}
-use Rattle.merge_core.specs.Keeping.{machine_of}
+use Rattle.merge_core.specs.CoreValue.{machine_of}
 use Rattle.merge_core.specs.Payloads.{IsAt}
 use Rattle.merge_core.specs.declared.phase.Phase.TheVariants as phases
 use Rattle.merge_site.specs.Booking.{lists_of}

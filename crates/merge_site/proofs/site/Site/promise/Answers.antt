@@ -1,6 +1,6 @@
 use Rattle.std.proofs.Common.{subst}
 use Rattle.file_tree.specs.Moments.{Leaves, Since}
-use Rattle.merge_core.specs.Keeping.{machine_of}
+use Rattle.merge_core.specs.CoreValue.{machine_of}
 use Rattle.merge_core.specs.Roll.{RecoversCommitted, idle}
 use Rattle.merge_core.proofs.Images.{image_stands}
 use Rattle.merge_site.specs.Site.{StoodDuring}

@@ -1,5 +1,5 @@
 use Rattle.std.proofs.Common.{◌<◌, ◌^◌, arith, subst, sym, refl}
-use Rattle.merge_core.specs.Keeping.{machine_of}
+use Rattle.merge_core.specs.CoreValue.{machine_of}
 use Rattle.merge_core.specs.Steps.{IsTaken, event_of}
 use Rattle.merge_core.specs.declared.step.Step.TheVariants as steps
 use Rattle.merge_site.specs.Booking.{lists_of}

@@ -1,10 +1,10 @@
 use Rattle.std.proofs.Common.{◌≡◌, ◌<◌, ◌++◌, ◌∷◌, ◌∙◌, [], ℕ, Bool, List, not, ap, inl, length, subst, sym, arith}
 use Rattle.owner_book.specs.declared.wish.Wish.{Wish}
 use Rattle.merge_record.specs.declared.record.Placement.{Placement}
-use Rattle.file_tree.specs.Thing.{Thing}
+use Rattle.file_tree.specs.ObjectValue.{ObjectValue}
 use Rattle.journal.specs.Names.{stage_path}
 use Rattle.merge_core.specs.Event.{PutStage, answered}
-use Rattle.merge_core.specs.Keeping.{machine_of}
+use Rattle.merge_core.specs.CoreValue.{machine_of}
 use Rattle.merge_core.specs.Payloads.{IsAt}
 use Rattle.merge_core.specs.declared.phase.Phase.TheVariants as phases
 use Rattle.merge_site.specs.Staging.{HasPast}
@@ -47,7 +47,7 @@ invariant_of-self-in-Ok-true g c =
     let jobs = c.make_place.new.jobs.items in
     let xs = c.self.inside.groups.items in
     let p = c.placement_of-placement.result in
-    let o : Thing = record { kind = c.entry.inside.0.1.0.kind; bytes = c.entry.inside.0.1.0.bytes.items } in
+    let o : ObjectValue = record { kind = c.entry.inside.0.1.0.kind; bytes = c.entry.inside.0.1.0.bytes.items } in
     let ok = c.in-Ok-true.field-0 in
     let said = c.in-Ok-true.ensures in
     let at : IsAt k c.args.group phases.Building = subst (λ a. IsAt a.keeping c.args.group phases.Building) (sym c.self.view_is) c.requires.at in
@@ -74,7 +74,7 @@ invariant_of-self-in-Ok-false g c =
     let jobs = c.make_place.new.jobs.items in
     let xs = c.self.inside.groups.items in
     let p = c.placement_of-placement.result in
-    let o : Thing = record { kind = c.entry.inside.0.1.0.kind; bytes = c.entry.inside.0.1.0.bytes.items } in
+    let o : ObjectValue = record { kind = c.entry.inside.0.1.0.kind; bytes = c.entry.inside.0.1.0.bytes.items } in
     let ok = c.in-Ok-false.field-0 in
     let said = c.in-Ok-false.ensures in
     let at : IsAt k c.args.group phases.Building = subst (λ a. IsAt a.keeping c.args.group phases.Building) (sym c.self.view_is) c.requires.at in

@@ -4,16 +4,16 @@ use denote.Ref.{Bor}
 use Rattle.basics.specs.Members.{Has}
 use Rattle.basics.proofs.Membership.{has-append_right}
 use Rattle.file_tree.specs.Paths.{is_below}
-use Rattle.path_overlap.specs.Indexes.{Seen}
+use Rattle.path_overlap.specs.Indexes.{PathIndexValue}
 use Rattle.path_overlap.specs.Overlaps.{IsFirst, IsOver, IsUnder}
 use Rattle.path_overlap.proofs.Below.{distinct_of, first_over, none_over_more}
 use Rattle.path_overlap.proofs.index.PathIndex.first_overlap.Goals as goal
 
 pub returns-in-Some-2 : goal.returns-in-Some-2
 returns-in-Some-2 c ps seen =
-    let x : Seen = c.args.self.now in
-    let texts = ap (λ (y : Seen). y.texts) c.self.view_is in
-    let twice : ◌≡◌ {A = Option (List ℕ)} x.twice None = sym (ap (λ (y : Seen). y.twice) c.self.view_is) ∙ c.in_default.is in
+    let x : PathIndexValue = c.args.self.now in
+    let texts = ap (λ (y : PathIndexValue). y.texts) c.self.view_is in
+    let twice : ◌≡◌ {A = Option (List ℕ)} x.twice None = sym (ap (λ (y : PathIndexValue). y.twice) c.self.view_is) ∙ c.in_default.is in
     let inv = c.loop-text.invariant in
     let q : List ℕ = c.in-Some-text.text.now in
     let is = inv.1 ∙ ap (λ (l : List (List ℕ)). inv.0 ++ l) c.in-Some-text.ensures.steps in
@@ -29,7 +29,7 @@ returns-in-Some-2 c ps seen =
 
 pub loop-text-preserved : goal.loop-text-preserved
 loop-text-preserved c =
-    let texts = ap (λ (y : Seen). y.texts) c.self.view_is in
+    let texts = ap (λ (y : PathIndexValue). y.texts) c.self.view_is in
     let inv = c.loop-text.invariant in
     let q : List ℕ = c.in-Some-text.text.now in
     let is = inv.1 ∙ ap (λ (l : List (List ℕ)). inv.0 ++ l) c.in-Some-text.ensures.steps in
@@ -41,7 +41,7 @@ loop-text-preserved c =
 
 pub path_of-requires-in-Some-2 : goal.path_of-requires-in-Some-2
 path_of-requires-in-Some-2 c =
-    let texts = ap (λ (y : Seen). y.texts) c.self.view_is in
+    let texts = ap (λ (y : PathIndexValue). y.texts) c.self.view_is in
     let inv = c.loop-text.invariant in
     let q : List ℕ = c.in-Some-text.text.now in
     let is = inv.1 ∙ ap (λ (l : List (List ℕ)). inv.0 ++ l) c.in-Some-text.ensures.steps in

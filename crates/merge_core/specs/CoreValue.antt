@@ -5,14 +5,14 @@ use Rattle.journal.specs.Group.{Group}
 use Rattle.merge_core.specs.Core.{standing_in}
 use Rattle.merge_core.specs.Roll.{Machine, Standing, resting, settled_behind, syncs_behind}
 
-pub record Keeping : Type 0 where
+pub record CoreValue : Type 0 where
   pub standings : List Standing
   pub order : List Group
   pub syncs : ℕ
   pub stopped : Bool
 
 -- the machine that is kept
-abbrev pub machine_of : Keeping → Machine
+abbrev pub machine_of : CoreValue → Machine
 machine_of k = record {
   roll = record { standing = standing_in k.standings; order = k.order };
   syncs = k.syncs;
@@ -20,7 +20,7 @@ machine_of k = record {
 }
 
 -- some groups, none of which has begun
-abbrev pub at_rest : ℕ → Keeping
+abbrev pub at_rest : ℕ → CoreValue
 at_rest n = record { standings = replicate n resting; order = []; syncs = 0; stopped = false }
 
 -- the counts of syncs and of groups in the order are bounded by what the groups have behind them,
