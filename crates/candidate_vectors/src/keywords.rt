@@ -1,10 +1,10 @@
 //! Which keywords are accepted, of what is configured.
 
 use basics::Text;
-use candidate_rules::KeywordLine;
 use config_text::Assignment;
-use profile_read::Item;
+use profile_lines::Item;
 use std::alloc::{AllocError, Global};
+use visible_rules::KeywordLine;
 
 /// Which keywords are accepted.
 #[derive(Drop)]

@@ -20,19 +20,19 @@
 mod keywords;
 mod told;
 
-use asked_lines::{answer_each, cut, exit_of, not_in_form};
-use candidate_rules::{Keywords, Masks};
-use candidate_set::{Candidates, VisibleRules, candidates};
+use ask_lines::{answer_each, cut, exit_of, not_in_form};
+use ask_trees::{number_of, objects_of};
 use file_tree::{Path, TreeFault};
 use keywords::{Accepted, accepted_of};
-use profile_read::{Item, ReadFault, read};
+use profile_lines::{Item, ReadFault, read};
+use profile_stack::{MAKE_PROFILE, UserConfig, read_user};
 use std::alloc::{AllocError, Global};
 use std::io;
 use std::process::ExitCode;
 use told::{fault_text, told};
-use tree_lines::{number_of, objects_of};
 use tree_mem::MemTree;
-use user_read::{MAKE_PROFILE, UserConfig, read_user};
+use visible_rules::{Keywords, Masks};
+use visible_verdicts::{Candidates, VisibleRules, candidates};
 
 fn main(rt: HostRuntime) -> ExitCode {
     exit_of(answer_each(&rt, rt.alloc(), answer))

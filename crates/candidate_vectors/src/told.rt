@@ -1,12 +1,12 @@
 //! What is answered, as the fields of a line.
 
-use candidate_set::{Candidates, Reason};
+use ask_trees::push_between;
 use dep_atom::PackageId;
 use file_tree::TreeFault;
-use profile_read::ReadFault;
-use profile_stack::ProfileFault;
+use profile_folders::ProfileFault;
+use profile_lines::ReadFault;
 use std::alloc::{AllocError, Global};
-use tree_lines::push_between;
+use visible_verdicts::{Candidates, Reason};
 
 /// The candidates, those that are visible first.
 pub(crate) fn told(alloc: Global, found: &Candidates) -> Result<String, AllocError> {

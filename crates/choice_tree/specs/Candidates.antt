@@ -4,7 +4,7 @@ use Rattle.std.specs.List.{flat_map}
 use Rattle.std.specs.Ordering.{is_gt, ordering_then}
 use Rattle.std.specs.declared.cmp.Ordering.{Ordering}
 use Rattle.std.specs.declared.cmp.Ordering.TheVariants.{Equal, Greater, Less}
-use Rattle.version_text.specs.Grammar.{spelling}
+use Rattle.pms_grammar.specs.Grammar.{spelling}
 use Rattle.pms_version.specs.Order.{version_cmp}
 use Rattle.pms_names.specs.Flags.{byte_order}
 use Rattle.pkg_state.specs.Package.{Package}

@@ -1,8 +1,8 @@
 ghost use Rattle.std.specs.Prelude.{◌≡◌, ◌≤◌, ◌+◌, ◌∷◌, [], IfOk, length, vec_capacity, vec_len};
-ghost use Rattle.group_run.specs.Turns.{numbers};
+ghost use Rattle.merge_group.specs.Turns.{numbers};
 
 use file_tree::{Entry, Kind, Object, Path};
-use group_run::{Batch, Files, Turn};
+use merge_group::{Batch, Files, Turn};
 use merge_record::{OwnerKey, Placement, Record, digest_of, encode};
 use merge_site::SiteGroup;
 use owner_book::{OwnerBook, Wish};

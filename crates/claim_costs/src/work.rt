@@ -1,10 +1,10 @@
 ghost use Rattle.std.specs.Prelude.{◌≡◌, ◌≤◌, ◌+◌, ◌∷◌, [], length, vec_capacity, vec_len};
-ghost use Rattle.group_run.specs.Turns.{numbers};
+ghost use Rattle.merge_group.specs.Turns.{numbers};
 
 use crate::parts::filed_of;
 use crate::still::StillTree;
-use group_run::{Batch, Merged, merge_groups};
-use journal::gate_path;
+use merge_group::{Batch, Merged, merge_groups};
+use merge_journal::gate_path;
 use owner_book::{OwnerBook, Wish};
 use recovery::recover;
 use std::alloc::{AllocError, Global};

@@ -13,7 +13,7 @@ use Rattle.dep_group.specs.declared.word.Word.{Word}
 use Rattle.dep_group.proofs.WordLemmas.{each_at}
 use Rattle.pms_names.specs.Names.{IsName}
 use Rattle.pms_names.specs.declared.kind.Kind.TheVariants.{Flag}
-use Rattle.profile_stack.specs.Stacks.{hyphen, unsigned}
+use Rattle.profile_folders.specs.Stacks.{hyphen, unsigned}
 use Rattle.use_flags.specs.Changes.{IsChange, IsWellNamed}
 use Rattle.use_flags.specs.declared.change.Change.TheVariants.{Add, Clear, Take}
 use Rattle.config_vars.specs.Judged.{IsBad, IsBadAt, IsBadFile, IsFine, IsGood, IsGoodFile, counted}

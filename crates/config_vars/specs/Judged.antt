@@ -7,7 +7,7 @@ use Rattle.dep_group.specs.Words.{words_of}
 use Rattle.pms_names.specs.Flags.{has}
 use Rattle.pms_names.specs.Names.{IsName}
 use Rattle.pms_names.specs.declared.kind.Kind.TheVariants.{Flag}
-use Rattle.profile_stack.specs.Stacks.{unsigned}
+use Rattle.profile_folders.specs.Stacks.{unsigned}
 use Rattle.use_flags.specs.Changes.{IsChange}
 use Rattle.config_vars.specs.Values.{expanded, flag_of, is_clear, is_of}
 use Rattle.config_vars.specs.declared.fault.VarFault.{VarFault}

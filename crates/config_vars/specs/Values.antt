@@ -7,7 +7,7 @@ use Rattle.std.specs.Option.{option_map, option_map_or}
 use mathlib.Core.List.{reverse}
 use Rattle.config_text.specs.declared.assignment.Assignment.{Assignment}
 use Rattle.dep_group.specs.Words.{words_of}
-use Rattle.profile_stack.specs.Stacks as stacks
+use Rattle.profile_folders.specs.Stacks as stacks
 use Rattle.config_vars.specs.declared.vars.FileVars.{FileVars}
 
 -- the assignment is one of the variable

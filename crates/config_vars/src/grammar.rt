@@ -9,7 +9,7 @@ ghost use Rattle.config_vars.specs.Judged.{AreItemsOf, AreWordsOf, IsItemOf, IsW
 use crate::stack::flag_of;
 use dep_group::{Word, words};
 use pms_names::Flag;
-use profile_stack::unsigned;
+use profile_folders::unsigned;
 use std::alloc::{AllocError, Global};
 
 /// Which words a variable may have.

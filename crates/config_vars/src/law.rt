@@ -1,7 +1,7 @@
 ghost use Rattle.std.specs.Prelude.{◌≡◌, ◌↔◌, ◌∷◌, ◌++◌, ℕ, List, codes, false};
 ghost use Rattle.std.specs.List.{AllByRecursion};
 ghost use Rattle.basics.specs.Members.{AreDistinct, Has};
-ghost use Rattle.profile_stack.specs.Stacks.{Stands};
+ghost use Rattle.profile_folders.specs.Stacks.{Stands};
 ghost use Rattle.config_vars.specs.Values.{is_clear, since_clear, stacked, words_said};
 ghost use Rattle.config_vars.specs.declared.vars.FileVars.{FileVars as FileVarsValue};
 

@@ -22,7 +22,7 @@ pub fn stacked<'a>(
     for file in files {
         add_words(alloc, &mut since, file, key)?;
     }
-    profile_stack::stacked(alloc, &since)
+    profile_folders::stacked(alloc, &since)
 }
 
 /// Puts the words of the file's value behind those since the last `-*`.

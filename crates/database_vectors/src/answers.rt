@@ -1,12 +1,12 @@
 //! The packages of a database with a bar behind each, or its fault.
 
 use crate::trees::tree_of;
-use asked_lines::cut;
-use database_read::{DatabaseFault, read_database};
+use ask_lines::cut;
 use file_tree::{Path, Quantity, TreeFault};
-use record_read::Installed;
 use std::alloc::{AllocError, Global};
 use tree_mem::MemTree;
+use vdb_record::Installed;
+use vdb_text::{DatabaseFault, read_database};
 
 /// Adds the package and its slot, and the paths that it owns.
 fn push_package(alloc: Global, out: &mut String, package: &Installed) -> Result<(), AllocError> {

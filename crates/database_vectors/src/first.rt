@@ -1,13 +1,13 @@
 //! What the first package of a database has recorded, and what is written of it.
 
 use crate::trees::tree_of;
-use database_read::read_database;
 use file_tree::Entry;
 use pkg_state::Pkg;
 use pms_names::Flags;
-use record_read::Installed;
-use record_write::{folder_files, recorded_flags};
 use std::alloc::{AllocError, Global};
+use vdb_files::{folder_files, recorded_flags};
+use vdb_record::Installed;
+use vdb_text::read_database;
 
 /// Adds the flags, with a space behind each.
 fn push_flags(out: &mut String, flags: &Flags) -> Result<(), AllocError> {

@@ -19,7 +19,7 @@ mod answers;
 mod first;
 mod trees;
 
-use asked_lines::{answer_each, cut, escaped, exit_of};
+use ask_lines::{answer_each, cut, escaped, exit_of};
 use std::alloc::Global;
 use std::io;
 use std::process::ExitCode;

@@ -1,6 +1,6 @@
 //! Trees of the objects of a case.
 
-use asked_lines::unescaped;
+use ask_lines::unescaped;
 use file_tree::{Kind, Object, Path};
 use std::alloc::Global;
 use tree_mem::MemTree;

@@ -2,7 +2,7 @@
 use Rattle.std.proofs.Common.{◌≡◌, ℕ, suc, ◌+◌, ◌<◌, List, ◌∷◌, ◌++◌, length, get_or, take, drop, sym, ◌∙◌, ap, subst, arith, length-append, add-one}
 use Rattle.std.proofs.Math.Seq.{drop-append_seam, drop-cons}
 use Rattle.std.proofs.lemmas.List.{take-append-drop, drop-drop, get_or-drop}
-use Rattle.version_text.specs.Grammar.{IsVersionText, VersionValue}
+use Rattle.pms_grammar.specs.Grammar.{IsVersionText, VersionValue}
 use Rattle.dep_atom.specs.declared.package.PackageId.{PackageId}
 use Rattle.dep_atom.specs.Ids.{PartsAt}
 

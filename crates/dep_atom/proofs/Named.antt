@@ -4,8 +4,8 @@ use Rattle.std.specs.List.{flat_map}
 use Rattle.std.proofs.Math.Seq.{take-append_seam, drop-append_seam}
 use Rattle.std.proofs.lemmas.List.{drop-drop, get_or-drop}
 use Rattle.basics.specs.Bytes.{is_digit}
-use Rattle.version_text.specs.Grammar.{IsInteger, IsVersionText, VersionValue, spell_number, spell_ending, spelling}
-use Rattle.version_text.proofs.Unique.{cut_once as apart, spelled_once}
+use Rattle.pms_grammar.specs.Grammar.{IsInteger, IsVersionText, VersionValue, spell_number, spell_ending, spelling}
+use Rattle.pms_grammar.proofs.Unique.{cut_once as apart, spelled_once}
 use Rattle.pms_version.specs.Limits.{IsReadable}
 use Rattle.pms_names.specs.Names.{IsName}
 use Rattle.pms_names.specs.declared.kind.Kind.TheVariants as kinds

@@ -1,7 +1,7 @@
 -- What is spelled comes apart in one way.
 use Rattle.std.proofs.Common.{◌≡◌, ◌∙◌, ℕ, Bool, true, false, List, [], ◌∷◌, ◌++◌, Option, Some, None, ◌==◌, length, get_or, refl, sym, ap, arith, append_assoc, append-nil}
 use Rattle.std.proofs.lemmas.Bool.Decides.{nat_tests}
-use Rattle.version_text.specs.Grammar.{VersionValue, spelling}
+use Rattle.pms_grammar.specs.Grammar.{VersionValue, spelling}
 use Rattle.pms_version.specs.Limits.{IsReadable}
 use Rattle.pms_names.specs.declared.kind.Kind.TheVariants as kinds
 use Rattle.pms_names.specs.Bytes.{begins_badly}
@@ -18,7 +18,7 @@ use Rattle.dep_atom.specs.Text.{name_text, version_part, star_text, subslot_text
 use Rattle.dep_atom.proofs.Cuts.{cut_once, ends_once}
 use Rattle.dep_atom.proofs.Parts.{kind_once}
 use Rattle.dep_atom.proofs.Plain.{plain_name, plain_version, lacks_plain, lacks-append}
-use Rattle.slot_value.specs.Slots.{IsWritten, Writes, slot_value}
+use Rattle.pms_slot.specs.Slots.{IsWritten, Writes, slot_value}
 
 pub name_once : (text category rest : List ℕ) (n : Name) → IsNameForm n → text ≡ category ++ rest → Lacks 47 47 category → Starts 47 47 rest → text ≡ name_text n → (category ≡ n.category) × (rest ≡ 47 ∷ n.«package»)
 name_once text category rest n is e lacks starts k = cut_once 47 47 category rest n.category (47 ∷ n.«package») lacks (lacks_plain 47 47 n.category refl refl (plain_name kinds.Category n.category is.category)) starts refl (sym e ∙ k)

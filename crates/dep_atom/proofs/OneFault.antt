@@ -2,7 +2,7 @@
 use Rattle.std.proofs.Common.{◌≡◌, ◌∙◌, ◌⊎◌, ℕ, ◌+◌, inl, inr, Bool, true, false, List, [], ◌∷◌, ◌++◌, Option, Some, None, length, get_or, refl, sym, ap, subst, arith, append-nil}
 use Rattle.std.specs.List.{AllByRecursion}
 use Rattle.std.proofs.lemmas.List.{append_cancel_left, append_cancel_right}
-use Rattle.version_text.specs.Grammar.{IsVersionText, VersionValue, spelling}
+use Rattle.pms_grammar.specs.Grammar.{IsVersionText, VersionValue, spelling}
 use Rattle.pms_version.specs.Limits.{IsReadable}
 use Rattle.pms_names.specs.declared.name.Name.{Name as FullName}
 use Rattle.dep_atom.specs.declared.atom.Op.{Op}

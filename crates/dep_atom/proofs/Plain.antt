@@ -5,8 +5,8 @@ use Rattle.std.specs.Str.{IsAscii}
 use Rattle.std.proofs.lemmas.Bool.Decides.{nat_tests}
 use Rattle.std.proofs.lemmas.List.Folds.{list_any-append}
 use Rattle.basics.specs.Bytes.{is_digit, is_lower}
-use Rattle.version_text.specs.Grammar.{AreDigits, IsInteger, IsLetter, SuffixKind, SuffixValue, VersionValue, IsVersion, word, spell_number, spell_suffix, spell_revision, spell_ending, spelling}
-use Rattle.version_text.specs.Grammar.SuffixKind.{Alpha, Beta, Pre, Rc, P}
+use Rattle.pms_grammar.specs.Grammar.{AreDigits, IsInteger, IsLetter, SuffixKind, SuffixValue, VersionValue, IsVersion, word, spell_number, spell_suffix, spell_revision, spell_ending, spelling}
+use Rattle.pms_grammar.specs.Grammar.SuffixKind.{Alpha, Beta, Pre, Rc, P}
 use Rattle.pms_names.specs.declared.kind.Kind.{Kind}
 use Rattle.pms_names.specs.declared.kind.Kind.TheVariants.{Category, Package, Slot, Flag}
 use Rattle.pms_names.specs.Bytes.{may_contain}

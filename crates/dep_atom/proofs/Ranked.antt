@@ -1,7 +1,7 @@
 -- The order of packages by their versions is total.
 use Rattle.std.specs.Cmp.{IsTotalOrder}
 use Rattle.std.proofs.lemmas.Cmp.{back_total, nat_list_cmp_total, on_total, then_total}
-use Rattle.version_text.specs.Grammar.{spelling}
+use Rattle.pms_grammar.specs.Grammar.{spelling}
 use Rattle.pms_version.specs.Keys.{key_cmp}
 use Rattle.dep_atom.specs.Ids.{version_rank}
 use Rattle.dep_atom.specs.declared.package.PackageId.{PackageId}

@@ -1,6 +1,6 @@
 -- A whole atom comes apart in one way.
 use Rattle.std.proofs.Common.{◌≡◌, ◌∙◌, ℕ, ◌<◌, Bool, true, false, List, [], ◌∷◌, ◌++◌, Option, Some, None, length, get_or, refl, sym, ap, subst, arith, append_assoc}
-use Rattle.version_text.specs.Grammar.{VersionValue, spelling}
+use Rattle.pms_grammar.specs.Grammar.{VersionValue, spelling}
 use Rattle.pms_names.specs.declared.kind.Kind.TheVariants as kinds
 use Rattle.pms_names.specs.declared.name.Name.{Name}
 use Rattle.dep_atom.specs.Values.{AtomValue}

@@ -1,7 +1,7 @@
 -- Which fault of a text that is no atom comes first, from left to right.
 use Rattle.std.specs.Prelude.{◌≡◌, ℕ, ◌+◌, ◌-◌, ◌<◌, ◌⊎◌, Bool, true, false, List, [], ◌∷◌, ◌++◌, length, slice_index, Option, ⊤}
 use Rattle.std.specs.List.{AllByRecursion}
-use Rattle.version_text.specs.Grammar.{IsVersionText, VersionValue}
+use Rattle.pms_grammar.specs.Grammar.{IsVersionText, VersionValue}
 use Rattle.pms_names.specs.declared.name.Name.{Name}
 use Rattle.dep_atom.specs.declared.atom.Block.{Block}
 use Rattle.dep_atom.specs.declared.atom.Op.{Op}

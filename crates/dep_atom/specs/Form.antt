@@ -1,6 +1,6 @@
 -- Which atoms some text writes.
 use Rattle.std.specs.Prelude.{◌≡◌, ℕ, Bool, false, List, Option, Some, None, ⊤}
-use Rattle.version_text.specs.Grammar.{VersionValue}
+use Rattle.pms_grammar.specs.Grammar.{VersionValue}
 use Rattle.pms_version.specs.Limits.{IsReadable}
 use Rattle.pms_names.specs.Names.{IsName}
 use Rattle.pms_names.specs.declared.kind.Kind.TheVariants as kinds

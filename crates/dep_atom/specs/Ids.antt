@@ -3,7 +3,7 @@ use Rattle.std.specs.Prelude.{◌≡◌, ℕ, ◌+◌, ◌<◌, ◌⊎◌, List,
 use Rattle.std.specs.Cmp.Lexicographic.{slice_cmp}
 use Rattle.std.specs.Ordering.{nat_cmp, ordering_then}
 use Rattle.std.specs.declared.cmp.Ordering.{Ordering}
-use Rattle.version_text.specs.Grammar.{IsVersionText, spelling}
+use Rattle.pms_grammar.specs.Grammar.{IsVersionText, spelling}
 use Rattle.pms_version.specs.Keys.{key_cmp}
 use Rattle.pms_version.specs.Limits.{IsReadable}
 use Rattle.pms_names.specs.Names.{IsName}

@@ -2,7 +2,7 @@
 use Rattle.std.specs.Prelude.{ℕ, Bool, true, false, not, ◌&&◌, ◌||◌, List, Option, Some, None, bytes_eq, if◌then◌else◌}
 use Rattle.std.specs.List.{list_all}
 use Rattle.std.specs.Ordering.{is_lt, is_le, is_eq, is_ge, is_gt}
-use Rattle.version_text.specs.Grammar.{VersionValue}
+use Rattle.pms_grammar.specs.Grammar.{VersionValue}
 use Rattle.pms_version.specs.Order.{version_cmp, without_revision}
 use Rattle.pms_version.specs.Begins.{version_begins}
 use Rattle.pms_names.specs.Flags.{has}

@@ -1,7 +1,7 @@
 -- How atoms are written (PMS 8.3), and which atoms some text writes.
 use Rattle.std.specs.Prelude.{◌≡◌, ℕ, Bool, true, false, List, [], ◌∷◌, ◌++◌, Option, Some, None}
 use Rattle.std.specs.List.{flat_map}
-use Rattle.version_text.specs.Grammar.{VersionValue, spelling}
+use Rattle.pms_grammar.specs.Grammar.{VersionValue, spelling}
 use Rattle.pms_names.specs.declared.name.Name.{Name}
 use Rattle.dep_atom.specs.declared.atom.Block.{Block}
 use Rattle.dep_atom.specs.declared.atom.Block.TheVariants.{No, Weak, Strong}

@@ -1,6 +1,6 @@
 -- Atoms as plain data: what an atom says, without the room of its list of items.
 use Rattle.std.specs.Prelude.{Bool, List, Option}
-use Rattle.version_text.specs.Grammar.{VersionValue}
+use Rattle.pms_grammar.specs.Grammar.{VersionValue}
 use Rattle.pms_names.specs.declared.name.Name.{Name}
 use Rattle.dep_atom.specs.declared.atom.Block.{Block}
 use Rattle.dep_atom.specs.declared.atom.Op.{Op}

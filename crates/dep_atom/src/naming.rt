@@ -1,6 +1,6 @@
 ghost use Rattle.std.specs.Prelude.{◌≡◌, ◌<◌, length, slice_index, IsTrue, ◌↔◌, MatchOption};
 ghost use Rattle.basics.specs.Bytes.{is_digit};
-ghost use Rattle.version_text.specs.Grammar.{IsVersionText, spelling};
+ghost use Rattle.pms_grammar.specs.Grammar.{IsVersionText, spelling};
 ghost use Rattle.pms_version.specs.Limits.{IsReadable};
 ghost use Rattle.pms_names.specs.Names.{IsName};
 ghost use Rattle.dep_atom.specs.Form.{IsNameForm};

@@ -137,7 +137,7 @@ pub(crate) fn version_hyphen(bytes: &[u8]) -> Option<usize>
     for (at, b) in bytes.iter().enumerate() {
         if *b == b'-' {
             let (_, behind) = bytes.split_at(at + 1);
-            if version_text::is_version(behind) {
+            if pms_grammar::is_version(behind) {
                 return Some(at);
             }
         }

@@ -26,8 +26,8 @@ use crate::package::name_fault;
 use crate::slot::SlotPart;
 use crate::uses::{UseDep, UseKind};
 use pms_names::{Flag, Name};
+use pms_slot::WrittenSlot;
 use pms_version::Version;
-use slot_value::WrittenSlot;
 use std::alloc::Global;
 
 /// The block with which the text begins, and the rest.

@@ -1,12 +1,12 @@
 //! The files of a package's record.
 
+use ask_trees::{cut, entries_of, not_in_form, push_between, push_object};
 use dep_atom::{Facts, PackageId};
 use file_tree::Entry;
 use pms_names::{Flags, SlotName};
 use std::alloc::{AllocError, Global};
 use std::io;
-use tree_lines::{cut, entries_of, not_in_form, push_between, push_object};
-use vdb_text::record_files;
+use vdb_paths::record_files;
 
 /// The files of the record of a package with an image.
 pub fn files(alloc: Global, fields: &str) -> io::Result<String> {

@@ -31,11 +31,11 @@ mod sinks;
 mod texts;
 mod trees;
 
-use asked_lines::{answer_each, exit_of};
+use ask_lines::{answer_each, exit_of};
+use ask_trees::{cut, not_in_form};
 use std::alloc::Global;
 use std::io;
 use std::process::ExitCode;
-use tree_lines::{cut, not_in_form};
 
 fn main(rt: HostRuntime) -> ExitCode {
     exit_of(answer_each(&rt, rt.alloc(), answer))

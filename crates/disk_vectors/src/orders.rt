@@ -1,11 +1,11 @@
 //! Orders to builders.
 
+use ask_trees::{cut, not_in_form};
 use build_pool::{Binds, Order};
 use dep_atom::PackageId;
 use pms_names::{Flags, SlotName};
 use std::alloc::Global;
 use std::io;
-use tree_lines::{cut, not_in_form};
 
 /// The package that the copy of an order is of.
 pub fn order(alloc: Global, fields: &str) -> io::Result<String> {

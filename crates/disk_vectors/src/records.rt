@@ -1,13 +1,13 @@
 //! The journal's records, their names and digests.
 
+use ask_trees::{
+    bytes_of, cut, kind_of, letter_of, not_in_form, number_of, path_of, push_hex, small_number_of,
+};
 use file_tree::Path;
-use journal::{gate_path, jobs_folder, record_path, stage_path, token_path};
+use merge_journal::{gate_path, jobs_folder, record_path, stage_path, token_path};
 use merge_record::{DecodeFault, Placement, Record, decode, decode_encode, digest_of, encode};
 use std::alloc::{AllocError, Global};
 use std::io;
-use tree_lines::{
-    bytes_of, cut, kind_of, letter_of, not_in_form, number_of, path_of, push_hex, small_number_of,
-};
 
 /// The digest of bytes.
 pub fn digest(alloc: Global, field: &str) -> io::Result<String> {

@@ -2,10 +2,10 @@
 //! `write BYTES` writes, `written` tells the bytes so far, and `refused` how many growths were
 //! refused.
 
+use ask_trees::{bytes_of, cut, not_in_form, number_of, push_between, push_hex};
 use file_tree::Sink;
 use std::alloc::{AllocError, Global};
 use std::io;
-use tree_lines::{bytes_of, cut, not_in_form, number_of, push_between, push_hex};
 use tree_mem::MemSink;
 
 /// The answers of a sink to these steps.

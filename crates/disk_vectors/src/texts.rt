@@ -1,12 +1,12 @@
 //! Bytes, texts and paths.
 
+use ask_trees::{bytes_of, cut, path_of};
 use basics::{Text, is_digit, is_lower};
 use file_tree::{Path, PathFault};
 use std::alloc::{AllocError, Global};
 use std::cmp::Ordering;
 use std::io;
 use std::str::from_utf8;
-use tree_lines::{bytes_of, cut, path_of};
 
 /// For each byte whether it is a digit, a small letter or neither.
 pub fn kinds(alloc: Global, field: &str) -> io::Result<String> {

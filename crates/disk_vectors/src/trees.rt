@@ -5,12 +5,12 @@
 //! `image` takes the tree as a crash leaves it, where each path that is named holds that object, or
 //! nothing by `gone PATH`.
 
+use ask_trees::{
+    THEN, cut, entry_of, letter_of, not_in_form, number_of, path_of, push_between, push_object,
+};
 use file_tree::{Entry, Look, Object, Path, Tree, TreeFault};
 use std::alloc::{AllocError, Global};
 use std::io;
-use tree_lines::{
-    THEN, cut, entry_of, letter_of, not_in_form, number_of, path_of, push_between, push_object,
-};
 use tree_mem::{ImageFault, MemFault, MemTree};
 
 /// The answers of a tree to these steps, or the first path of it that stands twice.

@@ -15,7 +15,7 @@ use emerge_run::{Ended, emerge};
 use emerge_words::{Host, host_of};
 use file_tree::{Sink, Tree};
 use host_side::{CommandBuilder, FolderBuilder, HostSink, HostTree, OpenFault};
-use run_status::Status;
+use merge_report::Status;
 use std::alloc::{AllocError, Global};
 use std::env;
 use std::process::ExitCode;

@@ -7,36 +7,36 @@ use Rattle.file_tree.specs.Paths.{is_below}
 use Rattle.file_tree.proofs.Moments.{since_same, since_start, since_then, since_weaker}
 use Rattle.file_tree.specs.declared.limits.Quantity.TheVariants.{Candidates, Groups, Packages, Paths, RecordBytes}
 use Rattle.dep_atom.specs.declared.package.PackageId.{PackageId}
-use Rattle.database_law.specs.Packages.{Installed}
-use Rattle.journal.specs.Group as journal
-use Rattle.journal.specs.Group.{applied}
+use Rattle.vdb_law.specs.Packages.{Installed}
+use Rattle.merge_journal.specs.Group as journal
+use Rattle.merge_journal.specs.Group.{applied}
 use Rattle.merge_core.specs.Trail.{IsAtRest}
-use Rattle.journal.specs.Names.{jobs}
-use Rattle.journal.specs.Recovered.{IsRecovered}
+use Rattle.merge_journal.specs.Names.{jobs}
+use Rattle.merge_journal.specs.Recovered.{IsRecovered}
 use Rattle.owner_book.specs.declared.fault.ImageBad.{ImageBad}
 use Rattle.recovery.specs.Promise as promises
 use Rattle.recovery.specs.Promise.{IsFaultOf}
 use Rattle.file_tree.specs.declared.fault.TreeFault.TheVariants as trees
 use Rattle.recovery.specs.declared.fault.RecoverFault.{RecoverFault}
 use Rattle.recovery.specs.declared.fault.RecoverFault.TheVariants as recovery
-use Rattle.group_run.specs.Applied.{LeavesWith, ReadsWith, RecoversWith}
-use Rattle.run_law.specs.Ends.{IsImageOrAlike}
+use Rattle.merge_group.specs.Applied.{LeavesWith, ReadsWith, RecoversWith}
+use Rattle.law_run.specs.Ends.{IsImageOrAlike}
 use Rattle.plan_law.specs.Plans.{Group}
-use Rattle.plan_find.specs.declared.asked.Asked.{Asked}
-use Rattle.plan_make.specs.declared.job.Job.{Job}
-use Rattle.plan_run.specs.Runs.{upto}
-use Rattle.plan_sound.specs.Ends.{Course, Images, IsReached, IsRunOf}
+use Rattle.emerge_find.specs.declared.asked.Asked.{Asked}
+use Rattle.run_turns.specs.declared.job.Job.{Job}
+use Rattle.run_plan.specs.Runs.{upto}
+use Rattle.run_sound.specs.Ends.{Course, Images, IsReached, IsRunOf}
 use Rattle.emerge_run.specs.Answers.{Asks, AsksEarly, AsksMerge, AsksPlan}
 use Rattle.emerge_run.specs.Outcomes.{EndsEarly, HasRecovered, IsChoice, IsChosenFor, IsEarly, IsOfMerge, IsOfTree, IsRefusal, IsToShow, KeepsJournal, MergedTo, Outcome}
 use Rattle.emerge_run.specs.Openings.{HasPlan, IsUnread}
 use Rattle.emerge_run.specs.Package.{AreMade, Making}
 use Rattle.emerge_run.specs.Words.{AskForMerge, AskForOther, EndsAtWords, IsOfWords, IsRequest, IsUsage}
 use Rattle.emerge_words.specs.declared.request.WordFault.{WordFault}
-use Rattle.run_status.specs.Faults.{status_of_recovery}
-use Rattle.run_status.specs.declared.collision.Collision.{Collision}
-use Rattle.run_status.specs.declared.status.Part.TheVariants as part
-use Rattle.run_status.specs.declared.status.Status.{Status}
-use Rattle.run_status.specs.declared.status.Status.TheVariants as status
+use Rattle.merge_report.specs.Faults.{status_of_recovery}
+use Rattle.merge_report.specs.declared.collision.Collision.{Collision}
+use Rattle.merge_report.specs.declared.status.Part.TheVariants as part
+use Rattle.merge_report.specs.declared.status.Status.{Status}
+use Rattle.merge_report.specs.declared.status.Status.TheVariants as status
 
 -- ---- what reading the words answers
 

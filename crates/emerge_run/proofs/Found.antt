@@ -5,20 +5,20 @@ use Rattle.emerge_words.specs.declared.request.WordFault.{WordFault}
 use Rattle.file_tree.specs.Disk.{Map, Story}
 use Rattle.file_tree.specs.declared.fault.TreeFault.TheVariants as trees
 use Rattle.file_tree.specs.declared.limits.Quantity.TheVariants.{Groups}
-use Rattle.journal.specs.Recovered.{IsRecovered}
+use Rattle.merge_journal.specs.Recovered.{IsRecovered}
 use Rattle.owner_book.specs.Book.{Book}
-use Rattle.database_law.specs.Packages.{Installed}
-use Rattle.database_read.specs.declared.fault.DatabaseFault.TheVariants as databases
-use Rattle.offer_read.specs.declared.fault.OffersFault.TheVariants as offers
-use Rattle.opening.specs.declared.fault.OpeningFault.TheVariants as openings
-use Rattle.run_law.specs.Openings.{AreOwners}
+use Rattle.vdb_law.specs.Packages.{Installed}
+use Rattle.vdb_text.specs.declared.fault.DatabaseFault.TheVariants as databases
+use Rattle.visible_set.specs.declared.fault.OffersFault.TheVariants as offers
+use Rattle.run_opening.specs.declared.fault.OpeningFault.TheVariants as openings
+use Rattle.law_run.specs.Openings.{AreOwners}
 use Rattle.plan_law.specs.Plans.{Group}
-use Rattle.plan_choose.specs.declared.chosen.Chosen.{Chosen}
-use Rattle.plan_find.specs.Ends.{IsDeviceFailure}
-use Rattle.plan_find.specs.declared.asked.Asked.{Asked}
-use Rattle.plan_find.specs.declared.ends.NoPlan.{NoPlan}
-use Rattle.plan_find.specs.declared.ends.NoPlan.TheVariants as ends
-use Rattle.plan_make.specs.Plans.{AreJobs, line_for}
+use Rattle.emerge_choose.specs.declared.chosen.Chosen.{Chosen}
+use Rattle.emerge_find.specs.Ends.{IsDeviceFailure}
+use Rattle.emerge_find.specs.declared.asked.Asked.{Asked}
+use Rattle.emerge_find.specs.declared.ends.NoPlan.{NoPlan}
+use Rattle.emerge_find.specs.declared.ends.NoPlan.TheVariants as ends
+use Rattle.run_turns.specs.Plans.{AreJobs, line_for}
 use Rattle.emerge_run.specs.Answers.{AsksEarly, IsRefused, IsRefusedAfter}
 use Rattle.emerge_run.specs.Builds.{line_of}
 use Rattle.emerge_run.specs.Openings.{IsUnread}
@@ -28,8 +28,8 @@ use Rattle.emerge_run.specs.Tasks.{IsAsked, IsPrepared, IsTaskOf, IsWanted}
 use Rattle.emerge_run.specs.Words.{AskForMerge, IsOfWords, IsRequest}
 use Rattle.emerge_run.specs.declared.choosing.Work.{Work}
 use Rattle.emerge_run.specs.declared.choosing.Work.TheVariants as work
-use Rattle.run_status.specs.declared.status.Status.{Status}
-use Rattle.run_status.specs.declared.status.Status.TheVariants as status
+use Rattle.merge_report.specs.declared.status.Status.{Status}
+use Rattle.merge_report.specs.declared.status.Status.TheVariants as status
 use Rattle.emerge_run.proofs.Endings.{early_kept}
 
 -- ---- a run without a plan

@@ -4,19 +4,19 @@ use Rattle.std.specs.Prelude.{IfSome, MatchOption}
 use Rattle.file_tree.specs.Disk.{Map, Story}
 use Rattle.file_tree.specs.declared.limits.Quantity.{Quantity}
 use Rattle.file_tree.specs.declared.limits.Quantity.TheVariants.{Paths, RecordBytes}
-use Rattle.database_law.specs.Packages.{Installed}
-use Rattle.database_read.specs.declared.fault.DatabaseFault.TheVariants as databases
-use Rattle.journal.specs.Recovered.{IsRecovered}
-use Rattle.offer_read.specs.declared.fault.OffersFault.TheVariants as offers
-use Rattle.opening.specs.Faults as openings
-use Rattle.opening.specs.declared.fault.OpeningFault.TheVariants as opens
+use Rattle.vdb_law.specs.Packages.{Installed}
+use Rattle.vdb_text.specs.declared.fault.DatabaseFault.TheVariants as databases
+use Rattle.merge_journal.specs.Recovered.{IsRecovered}
+use Rattle.visible_set.specs.declared.fault.OffersFault.TheVariants as offers
+use Rattle.run_opening.specs.Faults as openings
+use Rattle.run_opening.specs.declared.fault.OpeningFault.TheVariants as opens
 use Rattle.plan_law.specs.Plans.{Group}
-use Rattle.plan_find.specs.Choices.{AreChoices, Choices, IsFound, flips_of}
-use Rattle.plan_find.specs.Refusals.{HasNoPlan, Refuses}
-use Rattle.plan_find.specs.declared.asked.Asked.{Asked}
-use Rattle.plan_find.specs.declared.ends.NoPlan.{NoPlan}
-use Rattle.plan_find.specs.declared.ends.NoPlan.TheVariants as ends
-use Rattle.plan_find.specs.declared.found.Found.{Found}
+use Rattle.emerge_find.specs.Choices.{AreChoices, Choices, IsFound, flips_of}
+use Rattle.emerge_find.specs.Refusals.{HasNoPlan, Refuses}
+use Rattle.emerge_find.specs.declared.asked.Asked.{Asked}
+use Rattle.emerge_find.specs.declared.ends.NoPlan.{NoPlan}
+use Rattle.emerge_find.specs.declared.ends.NoPlan.TheVariants as ends
+use Rattle.emerge_find.specs.declared.found.Found.{Found}
 use Rattle.file_tree.specs.declared.fault.TreeFault.TheVariants as trees
 use Rattle.recovery.specs.declared.fault.RecoverFault.{RecoverFault}
 use Rattle.recovery.specs.declared.fault.RecoverFault.TheVariants as recovery
@@ -26,9 +26,9 @@ use Rattle.emerge_run.specs.Refusals.{packages_with, status_of}
 use Rattle.emerge_run.specs.Words.{EndsAtWords}
 use Rattle.emerge_run.specs.declared.choosing.Work.{Work}
 use Rattle.emerge_run.specs.declared.choosing.Work.TheVariants as work
-use Rattle.run_status.specs.Faults.{status_of_recovery}
-use Rattle.run_status.specs.declared.status.Status.{Status}
-use Rattle.run_status.specs.declared.status.Status.TheVariants as status
+use Rattle.merge_report.specs.Faults.{status_of_recovery}
+use Rattle.merge_report.specs.declared.status.Status.{Status}
+use Rattle.merge_report.specs.declared.status.Status.TheVariants as status
 use Rattle.emerge_run.proofs.Endings.{at_words}
 
 -- the words are refused before anything is read

@@ -7,25 +7,25 @@ use Rattle.pms_names.specs.Flags.{has}
 use Rattle.pms_names.proofs.Sets.{one_set}
 use Rattle.file_tree.specs.Disk.{Map, Story}
 use Rattle.file_tree.proofs.Moments.{since_weaker}
-use Rattle.commit_law.specs.Commits.{IsSoundTree}
-use Rattle.commit_law.specs.Lit.{packages_of}
-use Rattle.database_law.specs.Packages.{Installed}
+use Rattle.law_commit.specs.Commits.{IsSoundTree}
+use Rattle.law_commit.specs.Lit.{packages_of}
+use Rattle.vdb_law.specs.Packages.{Installed}
 use Rattle.pkg_state.specs.Package.{Package}
 use Rattle.plan_law.specs.Accepted.{IsAccepted}
 use Rattle.plan_law.specs.Plans.{Group}
-use Rattle.run_law.specs.Ends.{BeginsWith}
-use Rattle.run_law.specs.Openings.{HasOpening}
-use Rattle.exchange_make.specs.Laws.{CanBeRecorded}
-use Rattle.plan_find.specs.Choices.{IsFound, flips_of}
-use Rattle.plan_find.specs.Laws.{FoundPlansAreFit, IsFit}
-use Rattle.plan_find.specs.declared.asked.Asked.{Asked}
-use Rattle.plan_find.specs.declared.found.Found.{Found}
-use Rattle.plan_make.specs.Plans.{coming}
-use Rattle.plan_sound.specs.Ends.{ChoosesPlans, FirstTurnsLeaveSoundTrees, Images, IsFitPlan, IsReached, StaysSound}
-use Rattle.plan_sound.proofs.Ended.{all_ended, all_reached}
+use Rattle.law_run.specs.Ends.{BeginsWith}
+use Rattle.law_run.specs.Openings.{HasOpening}
+use Rattle.run_files.specs.Laws.{CanBeRecorded}
+use Rattle.emerge_find.specs.Choices.{IsFound, flips_of}
+use Rattle.emerge_find.specs.Laws.{FoundPlansAreFit, IsFit}
+use Rattle.emerge_find.specs.declared.asked.Asked.{Asked}
+use Rattle.emerge_find.specs.declared.found.Found.{Found}
+use Rattle.run_turns.specs.Plans.{coming}
+use Rattle.run_sound.specs.Ends.{ChoosesPlans, FirstTurnsLeaveSoundTrees, Images, IsFitPlan, IsReached, StaysSound}
+use Rattle.run_sound.proofs.Ended.{all_ended, all_reached}
 use Rattle.emerge_run.specs.Headline.{Headline, TurnsOn}
 use Rattle.emerge_run.specs.Outcomes.{IsChoice, IsChosenFor, IsWantedPlan, Outcome}
-use Rattle.run_status.specs.declared.status.Status.{Status}
+use Rattle.merge_report.specs.declared.status.Status.{Status}
 
 -- a sound tree has an opening
 opening_of : (flags : List (List ℕ)) (m : Map) (ps : List Installed) → IsSoundTree flags m ps → HasOpening flags m ps

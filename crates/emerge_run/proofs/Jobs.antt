@@ -4,15 +4,15 @@ use Rattle.std.specs.Prelude.{◌==◌, slice_get}
 use Rattle.std.specs.List.{AllZip}
 use Rattle.std.proofs.lemmas.List.{get_or-map, length-map, map-append, take_more}
 use Rattle.plan_law.specs.Plans.{Group, group_at}
-use Rattle.plan_choose.specs.declared.chosen.Chosen.{Chosen}
-use Rattle.plan_find.specs.Shapes.{HaveAsMany, IsInShape}
-use Rattle.plan_make.specs.Plans.{bytes_of_job, line_for, line_of_job, orders_at}
-use Rattle.plan_make.specs.declared.job.Job.{Job}
-use Rattle.plan_orders.specs.Orders.{order_of}
+use Rattle.emerge_choose.specs.declared.chosen.Chosen.{Chosen}
+use Rattle.emerge_find.specs.Shapes.{HaveAsMany, IsInShape}
+use Rattle.run_turns.specs.Plans.{bytes_of_job, line_for, line_of_job, orders_at}
+use Rattle.run_turns.specs.declared.job.Job.{Job}
+use Rattle.run_orders.specs.Orders.{order_of}
 use Rattle.plan_text.specs.Plans.{GroupValue, group_value, plan_value}
 use Rattle.plan_text.specs.declared.plan.Group.{Group as TextGroup}
 use Rattle.emerge_run.specs.Builds.{AreJobsOf, line_of, line_or_none, lines_from, ordered_of_job, orders_in, orders_or_none}
-use Rattle.run_status.specs.Texts.{done_line}
+use Rattle.merge_report.specs.Texts.{done_line}
 
 -- ---- what is at a place
 

@@ -1,16 +1,16 @@
 -- What a run writes, from its groups' lines to its last line.
 use Rattle.std.proofs.Common.{◌≡◌, ◌≤◌, ℕ, Bool, List, [], ◌∷◌, ◌++◌, inl, inr, refl, ap, sym, ◌∙◌, subst, append_assoc, append-nil, length, take}
 use Rattle.file_tree.specs.Disk.{Map, Rose}
-use Rattle.group_run.specs.Lines.{AreLines, Wrote}
+use Rattle.merge_group.specs.Lines.{AreLines, Wrote}
 use Rattle.plan_law.specs.Plans.{Group}
-use Rattle.plan_make.specs.Plans.{line_for}
-use Rattle.plan_make.specs.declared.job.Job.{Job}
+use Rattle.run_turns.specs.Plans.{line_for}
+use Rattle.run_turns.specs.declared.job.Job.{Job}
 use Rattle.emerge_run.specs.Builds.{line_of}
 use Rattle.emerge_run.specs.Outcomes.{IsDone, IsEarly, IsNamed, IsShownAs}
 use Rattle.emerge_run.specs.Output.{IsCut, IsOutput, IsSaid, merging, showing, silent}
-use Rattle.run_status.specs.Last.{IsEnd}
-use Rattle.run_status.specs.declared.status.Status.{Status}
-use Rattle.run_status.specs.declared.status.Status.TheVariants as status
+use Rattle.merge_report.specs.Last.{IsEnd}
+use Rattle.merge_report.specs.declared.status.Status.{Status}
+use Rattle.merge_report.specs.declared.status.Status.TheVariants as status
 
 -- a run that found no plan wasn't done
 undone_early : (s : Status) → IsEarly s → IsDone s → ⊥

@@ -10,11 +10,11 @@ use Rattle.file_tree.specs.declared.limits.Quantity.{Quantity}
 use Rattle.file_tree.specs.declared.limits.Quantity.TheVariants.{Paths, RecordBytes}
 use Rattle.file_tree.specs.declared.objects.Entry.{Entry}
 use Rattle.file_tree.specs.declared.objects.Kind.TheVariants.{Plain}
-use Rattle.image_build.specs.Images.{IsBuilt}
-use Rattle.image_build.specs.Images as seen
-use Rattle.image_fit.specs.declared.limits.TheConstants.{MOST_ENTRIES}
-use Rattle.database_law.specs.Packages.{Installed}
-use Rattle.run_law.specs.Openings.{AreOwners}
+use Rattle.merge_image.specs.Images.{IsBuilt}
+use Rattle.merge_image.specs.Images as seen
+use Rattle.merge_fit.specs.declared.limits.TheConstants.{MOST_ENTRIES}
+use Rattle.vdb_law.specs.Packages.{Installed}
+use Rattle.law_run.specs.Openings.{AreOwners}
 use Rattle.owner_book.specs.Book.{Book}
 use Rattle.owner_book.specs.declared.fault.Collision as books
 use Rattle.owner_book.specs.declared.fault.ImageBad.{ImageBad}
@@ -22,24 +22,24 @@ use Rattle.owner_book.specs.declared.fault.Collision.TheVariants as met
 use Rattle.plan_law.specs.Plans.{Group}
 use Rattle.merge_site.specs.declared.fault.ClaimStop.{ClaimStop}
 use Rattle.merge_site.specs.declared.fault.ClaimStop.TheVariants as claims
-use Rattle.group_run.specs.Causes.{IsOfGroup}
-use Rattle.group_run.specs.Went.{WentWith}
-use Rattle.group_run.specs.declared.stop.Stop.{Stop}
-use Rattle.group_run.specs.declared.stop.Stop.TheVariants as stops
-use Rattle.plan_make.specs.Plans.{orders_at}
-use Rattle.plan_make.specs.declared.job.Job.{Job}
-use Rattle.plan_run.specs.Runs.{SaysBuild, WentFor, WentOn, merge_end, upto}
-use Rattle.plan_run.specs.declared.stop.PlanStop.{PlanStop}
-use Rattle.plan_run.specs.declared.stop.PlanStop.TheVariants as plans
-use Rattle.plan_sound.specs.Ends.{Images}
+use Rattle.merge_group.specs.Causes.{IsOfGroup}
+use Rattle.merge_group.specs.Went.{WentWith}
+use Rattle.merge_group.specs.declared.stop.Stop.{Stop}
+use Rattle.merge_group.specs.declared.stop.Stop.TheVariants as stops
+use Rattle.run_turns.specs.Plans.{orders_at}
+use Rattle.run_turns.specs.declared.job.Job.{Job}
+use Rattle.run_plan.specs.Runs.{SaysBuild, WentFor, WentOn, merge_end, upto}
+use Rattle.run_plan.specs.declared.stop.PlanStop.{PlanStop}
+use Rattle.run_plan.specs.declared.stop.PlanStop.TheVariants as plans
+use Rattle.run_sound.specs.Ends.{Images}
 use Rattle.emerge_run.specs.Answers.{AsksMerge}
 use Rattle.emerge_run.specs.Outcomes.{IsOfMerge, IsTold, MergedTo}
 use Rattle.emerge_run.specs.Package.{AreMade, Making, StopsAt}
 use Rattle.emerge_run.specs.Collisions.{ids_with, owned_by, status_of_collision}
 use Rattle.emerge_run.specs.Refusals.{EndsAtCollision, IsStatusOf, status_of_claim, status_of_end, status_of_stop}
-use Rattle.run_status.specs.declared.collision.Collision.{Collision}
-use Rattle.run_status.specs.declared.status.Status.{Status}
-use Rattle.run_status.specs.declared.status.Status.TheVariants as status
+use Rattle.merge_report.specs.declared.collision.Collision.{Collision}
+use Rattle.merge_report.specs.declared.status.Status.{Status}
+use Rattle.merge_report.specs.declared.status.Status.TheVariants as status
 
 -- ---- images with too many entries
 

@@ -6,7 +6,7 @@ use Rattle.basics.proofs.Lists.{at_drop}
 use Rattle.dep_atom.specs.declared.package.PackageId.{PackageId}
 use Rattle.pkg_state.specs.Package.{Package}
 use Rattle.plan_law.specs.Plans.{Group}
-use Rattle.plan_make.specs.Plans.{coming}
+use Rattle.run_turns.specs.Plans.{coming}
 use Rattle.emerge_run.specs.Collisions.{id_of_package}
 
 slice_left : {A : Type 0} (xs ys : List A) (k : ℕ) → k < length xs → slice_get (xs ++ ys) k ≡ slice_get xs k

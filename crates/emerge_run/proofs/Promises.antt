@@ -12,30 +12,30 @@ use Rattle.file_tree.specs.declared.fault.TreeFault.TheVariants as causes
 use Rattle.file_tree.specs.declared.limits.Quantity.TheVariants.{Paths}
 use Rattle.file_tree.specs.declared.traits.Sink.{Ghosts as Sink}
 use Rattle.file_tree.specs.declared.traits.Tree.{Ghosts as Tree}
-use Rattle.database_law.specs.Packages.{Installed}
+use Rattle.vdb_law.specs.Packages.{Installed}
 use Rattle.merge_core.specs.CoreValue.{CoreValue}
-use Rattle.group_run.specs.Applied.{number}
-use Rattle.group_run.specs.Lines.{Wrote}
-use Rattle.group_run.specs.Went.{HaveRun}
-use Rattle.group_run.proofs.Rising.{rose_earlier, rose_later}
-use Rattle.image_build.specs.Images.{IsBuilt, IsPastLimit}
-use Rattle.opening.specs.Faults as openings
-use Rattle.plan_find.specs.Choices.{IsFound}
-use Rattle.plan_find.specs.declared.asked.Asked.{Asked}
-use Rattle.plan_find.specs.declared.found.Found.{Found}
+use Rattle.merge_group.specs.Applied.{number}
+use Rattle.merge_group.specs.Lines.{Wrote}
+use Rattle.merge_group.specs.Went.{HaveRun}
+use Rattle.merge_group.proofs.Rising.{rose_earlier, rose_later}
+use Rattle.merge_image.specs.Images.{IsBuilt, IsPastLimit}
+use Rattle.run_opening.specs.Faults as openings
+use Rattle.emerge_find.specs.Choices.{IsFound}
+use Rattle.emerge_find.specs.declared.asked.Asked.{Asked}
+use Rattle.emerge_find.specs.declared.found.Found.{Found}
 use Rattle.plan_law.specs.Plans.{Group}
-use Rattle.plan_make.specs.Plans.{orders_at}
-use Rattle.plan_run.specs.Merges.{MergesPlan}
-use Rattle.plan_run.specs.Runs.{upto}
-use Rattle.plan_run.specs.declared.merge.Merged.{Merged}
-use Rattle.plan_run.specs.declared.merge.Task.{Task}
-use Rattle.plan_sound.specs.Ends.{HasGroups, Images}
+use Rattle.run_turns.specs.Plans.{orders_at}
+use Rattle.run_plan.specs.Merges.{MergesPlan}
+use Rattle.run_plan.specs.Runs.{upto}
+use Rattle.run_plan.specs.declared.merge.Merged.{Merged}
+use Rattle.run_plan.specs.declared.merge.Task.{Task}
+use Rattle.run_sound.specs.Ends.{HasGroups, Images}
 use Rattle.recovery.specs.Promise as promises
 use Rattle.recovery.specs.Promise.{IsFaultOf}
 use Rattle.recovery.specs.declared.fault.RecoverFault.{RecoverFault}
 use Rattle.recovery.specs.declared.fault.RecoverFault.TheVariants as recovery
-use Rattle.run_law.specs.Ends.{IsImageOrAlike}
-use Rattle.run_law.specs.Openings.{AreOwners}
+use Rattle.law_run.specs.Ends.{IsImageOrAlike}
+use Rattle.law_run.specs.Openings.{AreOwners}
 use Rattle.emerge_run.specs.Answers.{Asks, IsRefused}
 use Rattle.emerge_run.specs.Choosing.{ChoosesWork, FindsWork}
 use Rattle.emerge_run.specs.Collisions.{ids_with}
@@ -52,10 +52,10 @@ use Rattle.emerge_run.specs.declared.choosing.Seen.{Seen}
 use Rattle.emerge_run.specs.declared.choosing.Work.{Work}
 use Rattle.emerge_run.specs.declared.choosing.Work.TheVariants as work
 use Rattle.emerge_run.specs.declared.run.Ended.{Ended}
-use Rattle.run_status.specs.Faults.{status_of_recovery}
-use Rattle.run_status.specs.Last.{IsEnd}
-use Rattle.run_status.specs.declared.status.Status.{Status}
-use Rattle.run_status.specs.declared.status.Status.TheVariants as status
+use Rattle.merge_report.specs.Faults.{status_of_recovery}
+use Rattle.merge_report.specs.Last.{IsEnd}
+use Rattle.merge_report.specs.declared.status.Status.{Status}
+use Rattle.merge_report.specs.declared.status.Status.TheVariants as status
 use Rattle.emerge_run.proofs.Endings.{Comes, early_no_plan, early_recovery, early_words, ends_at_recovery, ends_at_words, merge_not_refused, merge_not_unread, outcome_merged, outcome_rest, outcome_shown, outcome_unfound, recovered_same, recovery_failed, usage_recovery, words_or_memory}
 use Rattle.emerge_run.proofs.Found.{asked_prepared, asks_of, ended_after, named_after, task_after, task_prepared, todo_after}
 use Rattle.emerge_run.proofs.Givens.{beside_work, gives_after, gives_all, gives_none, is_there, plan_beside, plan_in, recovery_no_paths, recovery_not_read, words_no_paths, words_not_read}

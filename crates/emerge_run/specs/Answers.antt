@@ -3,31 +3,31 @@ use Rattle.std.specs.Prelude.{◌≡◌, ◌⊎◌, ℕ, true, false, List, leng
 use Rattle.file_tree.specs.Disk.{Map}
 use Rattle.file_tree.specs.declared.limits.Quantity.TheVariants.{Groups, Paths, RecordBytes}
 use Rattle.merge_site.specs.declared.fault.ClaimStop.TheVariants as claims
-use Rattle.group_run.specs.declared.stop.Stop.TheVariants as stops
-use Rattle.journal.specs.Recovered.{IsRecovered}
+use Rattle.merge_group.specs.declared.stop.Stop.TheVariants as stops
+use Rattle.merge_journal.specs.Recovered.{IsRecovered}
 use Rattle.owner_book.specs.declared.fault.Collision as books
 use Rattle.recovery.specs.Found.{HasTooManyGates}
 use Rattle.recovery.specs.Promise.{IsFaultOf}
 use Rattle.recovery.specs.declared.fault.RecoverFault.{RecoverFault}
 use Rattle.recovery.specs.declared.fault.RecoverFault.TheVariants as recovery
-use Rattle.database_law.specs.Packages.{Installed}
+use Rattle.vdb_law.specs.Packages.{Installed}
 use Rattle.plan_law.specs.Plans.{Group}
-use Rattle.plan_find.specs.Choices.{IsFound}
-use Rattle.plan_find.specs.Refusals.{Refuses}
-use Rattle.plan_find.specs.declared.asked.Asked.{Asked}
-use Rattle.plan_find.specs.declared.ends.NoPlan.{NoPlan}
-use Rattle.plan_find.specs.declared.found.Found.{Found}
-use Rattle.plan_make.specs.declared.job.Job.{Job}
-use Rattle.plan_run.specs.Runs.{upto}
-use Rattle.plan_sound.specs.Ends.{Images}
+use Rattle.emerge_find.specs.Choices.{IsFound}
+use Rattle.emerge_find.specs.Refusals.{Refuses}
+use Rattle.emerge_find.specs.declared.asked.Asked.{Asked}
+use Rattle.emerge_find.specs.declared.ends.NoPlan.{NoPlan}
+use Rattle.emerge_find.specs.declared.found.Found.{Found}
+use Rattle.run_turns.specs.declared.job.Job.{Job}
+use Rattle.run_plan.specs.Runs.{upto}
+use Rattle.run_sound.specs.Ends.{Images}
 use Rattle.emerge_run.specs.Builds.{AreJobsOf, IsOrdered, IsPastLimit}
 use Rattle.emerge_run.specs.Collisions.{ids_with, status_of_collision}
 use Rattle.emerge_run.specs.Package.{StopsAt}
 use Rattle.emerge_run.specs.Refusals.{status_of}
 use Rattle.emerge_run.specs.Words.{AskForMerge, AskForOther, IsRequest, IsUsage}
-use Rattle.run_status.specs.declared.status.Part.TheVariants.{Command}
-use Rattle.run_status.specs.declared.status.Status.{Status}
-use Rattle.run_status.specs.declared.status.Status.TheVariants as status
+use Rattle.merge_report.specs.declared.status.Part.TheVariants.{Command}
+use Rattle.merge_report.specs.declared.status.Status.{Status}
+use Rattle.merge_report.specs.declared.status.Status.TheVariants as status
 
 -- this is found in a map for what is asked, and it is merged
 pub record IsReady (m : Map) (asked : Asked) (found : Found) : Type 0 where

@@ -4,15 +4,15 @@ use Rattle.basics.specs.Members.{Has}
 use Rattle.build_pool.specs.declared.orders.Order.{Order}
 use Rattle.dep_atom.specs.declared.package.PackageId.{PackageId}
 use Rattle.file_tree.specs.declared.objects.Entry.{Entry}
-use Rattle.image_fit.specs.declared.limits.TheConstants.{MOST_ENTRIES}
+use Rattle.merge_fit.specs.declared.limits.TheConstants.{MOST_ENTRIES}
 use Rattle.plan_law.specs.Plans.{Group}
-use Rattle.plan_choose.specs.declared.chosen.Chosen.{Chosen}
-use Rattle.plan_make.specs.Plans.{AreJobs, line_for, orders_at}
-use Rattle.plan_make.specs.declared.job.Job.{Job}
-use Rattle.plan_orders.specs.Orders.{order_of}
-use Rattle.plan_sound.specs.Ends.{Images}
+use Rattle.emerge_choose.specs.declared.chosen.Chosen.{Chosen}
+use Rattle.run_turns.specs.Plans.{AreJobs, line_for, orders_at}
+use Rattle.run_turns.specs.declared.job.Job.{Job}
+use Rattle.run_orders.specs.Orders.{order_of}
+use Rattle.run_sound.specs.Ends.{Images}
 use Rattle.plan_text.specs.Plans.{GroupValue, plan_value}
-use Rattle.run_status.specs.Texts.{done_line}
+use Rattle.merge_report.specs.Texts.{done_line}
 
 -- what is ordered for the additions of a group
 abbrev pub orders_in : GroupValue → List Order

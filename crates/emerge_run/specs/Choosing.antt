@@ -5,16 +5,16 @@ use Rattle.emerge_words.specs.declared.request.WordFault.{WordFault}
 use Rattle.file_tree.specs.Disk.{CountsFault, Map}
 use Rattle.file_tree.specs.declared.limits.Quantity.{Quantity}
 use Rattle.file_tree.specs.declared.traits.Tree.{Ghosts as Tree}
-use Rattle.database_law.specs.Packages.{Installed}
-use Rattle.opening.specs.Faults.{HasTooMuch}
-use Rattle.plan_find.specs.declared.asked.Asked.{Asked}
+use Rattle.vdb_law.specs.Packages.{Installed}
+use Rattle.run_opening.specs.Faults.{HasTooMuch}
+use Rattle.emerge_find.specs.declared.asked.Asked.{Asked}
 use Rattle.emerge_run.specs.Answers.{IsRefused}
 use Rattle.emerge_run.specs.Openings.{AreInstalled, AreInstalledAfter, GivesBack, HasTooMuchAfter, IsUnread}
 use Rattle.emerge_run.specs.Outcomes.{EndsEarly, HasRecovered, IsEarly, IsToDo, IsWork}
 use Rattle.emerge_run.specs.Tasks.{IsAsked, IsTaskOf, IsWanted}
 use Rattle.emerge_run.specs.Words.{AskForMerge, IsOfWords, IsUsage}
 use Rattle.emerge_run.specs.declared.choosing.Seen.{Seen}
-use Rattle.run_status.specs.declared.status.Status.TheVariants as status
+use Rattle.merge_report.specs.declared.status.Status.TheVariants as status
 
 -- a run that found nothing to do gives back what was installed where it came to read it
 pub record GivesBackSeen (tells : Bool) (Such : List Installed → Type 0)

@@ -3,13 +3,13 @@ use Rattle.std.specs.Prelude.{◌++◌, ℕ, List, Option, None, Some, map, slic
 use Rattle.dep_atom.specs.declared.package.PackageId.{PackageId}
 use Rattle.pkg_state.specs.Package.{Package}
 use Rattle.plan_law.specs.Plans.{Group}
-use Rattle.database_law.specs.Packages.{Installed, id_of}
+use Rattle.vdb_law.specs.Packages.{Installed, id_of}
 use Rattle.owner_book.specs.declared.fault.Collision as books
 use Rattle.owner_book.specs.declared.fault.Collision.TheVariants as met
-use Rattle.plan_make.specs.Plans.{coming}
-use Rattle.run_status.specs.declared.collision.Collision.TheVariants as collisions
-use Rattle.run_status.specs.declared.status.Status.{Status}
-use Rattle.run_status.specs.declared.status.Status.TheVariants as status
+use Rattle.run_turns.specs.Plans.{coming}
+use Rattle.merge_report.specs.declared.collision.Collision.TheVariants as collisions
+use Rattle.merge_report.specs.declared.status.Status.{Status}
+use Rattle.merge_report.specs.declared.status.Status.TheVariants as status
 
 abbrev pub id_of_package : Package → PackageId
 id_of_package p = p.facts.id

@@ -7,17 +7,17 @@ use Rattle.emerge_words.specs.declared.request.WordFault.{WordFault}
 use Rattle.file_tree.specs.Disk.{CountsFault, Map}
 use Rattle.file_tree.specs.declared.traits.Sink.{Ghosts as Sink}
 use Rattle.file_tree.specs.declared.traits.Tree.{Ghosts as Tree}
-use Rattle.group_run.specs.Applied.{number}
-use Rattle.group_run.specs.Lines.{AreTold, Wrote}
-use Rattle.image_build.specs.Images.{IsBuilt}
-use Rattle.plan_sound.specs.Ends.{Images}
+use Rattle.merge_group.specs.Applied.{number}
+use Rattle.merge_group.specs.Lines.{AreTold, Wrote}
+use Rattle.merge_image.specs.Images.{IsBuilt}
+use Rattle.run_sound.specs.Ends.{Images}
 use Rattle.emerge_run.specs.Answers.{Asks}
 use Rattle.emerge_run.specs.Openings.{AreInstalledAfter, GivesBack, HasPlan, HasTooMuchAfter, IsUnread}
 use Rattle.emerge_run.specs.Outcomes.{IsPlanOf, IsRefusal, IsTold, Outcome}
 use Rattle.emerge_run.specs.Output.{IsWritten}
 use Rattle.emerge_run.specs.Words.{AskForMerge, AskToMerge, IsOfWords, IsUsage}
 use Rattle.emerge_run.specs.declared.run.Ended.{Ended}
-use Rattle.run_status.specs.declared.status.Status.TheVariants as status
+use Rattle.merge_report.specs.declared.status.Status.TheVariants as status
 
 -- A command, by these words: what its run was lent, and what it gives back, once its last line is
 -- written or before that.

@@ -3,13 +3,13 @@ use Rattle.std.specs.Prelude.{◌≡◌, ℕ, List, []}
 use Rattle.pms_names.specs.Flags.{IsRising, has}
 use Rattle.file_tree.specs.Disk.{Map, Story}
 use Rattle.file_tree.specs.Moments.{Leaves, Since}
-use Rattle.database_law.specs.Packages.{Installed}
-use Rattle.offer_flags.specs.declared.candidate.Candidate.{Candidate}
-use Rattle.offer_read.specs.Offers.{AreOffers}
-use Rattle.offer_read.specs.declared.offers.Hidden.{Hidden}
-use Rattle.plan_sound.specs.Ends.{EndsSoundly, StaysSound}
+use Rattle.vdb_law.specs.Packages.{Installed}
+use Rattle.visible_offers.specs.declared.candidate.Candidate.{Candidate}
+use Rattle.visible_set.specs.Offers.{AreOffers}
+use Rattle.visible_set.specs.declared.offers.Hidden.{Hidden}
+use Rattle.run_sound.specs.Ends.{EndsSoundly, StaysSound}
 use Rattle.emerge_run.specs.Outcomes.{IsOfTree, IsWantedPlan}
-use Rattle.run_status.specs.declared.status.Status.{Status}
+use Rattle.merge_report.specs.declared.status.Status.{Status}
 
 -- these are, in byte order, the flags that are on for every package by what the map offers
 pub record TurnsOn (m : Map) (flags : List (List ℕ)) : Type 0 where

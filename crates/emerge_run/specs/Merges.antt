@@ -6,18 +6,18 @@ use Rattle.dep_atom.specs.declared.package.PackageId.{PackageId}
 use Rattle.file_tree.specs.Disk.{CountsFault, Rose}
 use Rattle.file_tree.specs.declared.traits.Sink.{Ghosts as Sink}
 use Rattle.file_tree.specs.declared.traits.Tree.{Ghosts as Tree}
-use Rattle.database_law.specs.Packages.{Installed}
-use Rattle.group_run.specs.Applied.{number}
-use Rattle.group_run.specs.Lines.{AreLines, AreTold, Wrote}
-use Rattle.image_build.specs.Images.{IsBuilt}
+use Rattle.vdb_law.specs.Packages.{Installed}
+use Rattle.merge_group.specs.Applied.{number}
+use Rattle.merge_group.specs.Lines.{AreLines, AreTold, Wrote}
+use Rattle.merge_image.specs.Images.{IsBuilt}
 use Rattle.plan_law.specs.Plans.{Group}
-use Rattle.plan_run.specs.declared.merge.Task.{Task}
-use Rattle.plan_sound.specs.Ends.{Images}
+use Rattle.run_plan.specs.declared.merge.Task.{Task}
+use Rattle.run_sound.specs.Ends.{Images}
 use Rattle.emerge_run.specs.Answers.{AsksMerge}
 use Rattle.emerge_run.specs.Builds.{line_of}
 use Rattle.emerge_run.specs.Outcomes.{IsOfMerge, IsTold, MergedTo}
 use Rattle.emerge_run.specs.declared.run.Ended.{Ended}
-use Rattle.run_status.specs.declared.status.Status.TheVariants as status
+use Rattle.merge_report.specs.declared.status.Status.TheVariants as status
 
 -- the groups of a plan are merged, with its task, into a tree where these packages are installed;
 -- the merge took these, and gave back these

@@ -3,13 +3,13 @@ use Rattle.std.specs.Prelude.{◌≡◌, ◌⊎◌, List, [], ⊤}
 use Rattle.file_tree.specs.Disk.{Map}
 use Rattle.file_tree.specs.declared.limits.Quantity.{Quantity}
 use Rattle.file_tree.specs.declared.limits.Quantity.TheVariants.{Candidates, Groups, Packages, Paths}
-use Rattle.database_law.specs.Database.{IsDatabase, IsTidy}
-use Rattle.database_law.specs.Packages.{Installed}
-use Rattle.journal.specs.Recovered.{IsRecovered}
-use Rattle.opening.specs.Faults.{HasTooMuch}
-use Rattle.run_status.specs.declared.status.Part.TheVariants.{Command, Result}
-use Rattle.run_status.specs.declared.status.Status.{Status}
-use Rattle.run_status.specs.declared.status.Status.TheVariants as status
+use Rattle.vdb_law.specs.Database.{IsDatabase, IsTidy}
+use Rattle.vdb_law.specs.Packages.{Installed}
+use Rattle.merge_journal.specs.Recovered.{IsRecovered}
+use Rattle.run_opening.specs.Faults.{HasTooMuch}
+use Rattle.merge_report.specs.declared.status.Part.TheVariants.{Command, Result}
+use Rattle.merge_report.specs.declared.status.Status.{Status}
+use Rattle.merge_report.specs.declared.status.Status.TheVariants as status
 
 -- these packages are installed in a map, and apart
 pub record AreInstalled (m : Map) (ps : List Installed) : Type 0 where

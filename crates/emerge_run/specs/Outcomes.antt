@@ -3,18 +3,18 @@ use Rattle.std.specs.Prelude.{◌≡◌, ◌≢◌, ◌⊎◌, true, false, ℕ,
 use Rattle.file_tree.specs.Disk.{Map, Story}
 use Rattle.file_tree.specs.Moments.{Leaves, Since}
 use Rattle.file_tree.specs.declared.limits.Quantity.TheVariants.{Groups, Paths, RecordBytes}
-use Rattle.database_law.specs.Packages.{Installed}
+use Rattle.vdb_law.specs.Packages.{Installed}
 use Rattle.merge_core.specs.Trail.{IsAtRest}
-use Rattle.journal.specs.Recovered.{IsRecovered}
-use Rattle.group_run.specs.Applied.{LeavesWith, ReadsWith, RecoversWith}
-use Rattle.run_law.specs.Ends.{IsImageOrAlike}
+use Rattle.merge_journal.specs.Recovered.{IsRecovered}
+use Rattle.merge_group.specs.Applied.{LeavesWith, ReadsWith, RecoversWith}
+use Rattle.law_run.specs.Ends.{IsImageOrAlike}
 use Rattle.plan_law.specs.Plans.{Group}
-use Rattle.plan_choose.specs.declared.chosen.Chosen.{Chosen}
-use Rattle.plan_find.specs.Choices.{IsFound}
-use Rattle.plan_find.specs.declared.asked.Asked.{Asked}
-use Rattle.plan_find.specs.declared.found.Found.{Found}
-use Rattle.plan_make.specs.declared.job.Job.{Job}
-use Rattle.plan_sound.specs.Ends.{HasGroups, Images, IsReached, LeavesGroups}
+use Rattle.emerge_choose.specs.declared.chosen.Chosen.{Chosen}
+use Rattle.emerge_find.specs.Choices.{IsFound}
+use Rattle.emerge_find.specs.declared.asked.Asked.{Asked}
+use Rattle.emerge_find.specs.declared.found.Found.{Found}
+use Rattle.run_turns.specs.declared.job.Job.{Job}
+use Rattle.run_sound.specs.Ends.{HasGroups, Images, IsReached, LeavesGroups}
 use Rattle.plan_text.specs.Plans.{plan_value}
 use Rattle.plan_text.specs.Texts.{plan_text}
 use Rattle.emerge_run.specs.Answers.{AsksEarly, IsReady}
@@ -23,9 +23,9 @@ use Rattle.emerge_run.specs.Package.{AreMade, Making}
 use Rattle.emerge_run.specs.Words.{IsOfWords, IsRequest}
 use Rattle.emerge_run.specs.declared.choosing.Work.{Work}
 use Rattle.emerge_run.specs.declared.choosing.Work.TheVariants as work
-use Rattle.run_status.specs.declared.status.Part.TheVariants.{Command}
-use Rattle.run_status.specs.declared.status.Status.{Status}
-use Rattle.run_status.specs.declared.status.Status.TheVariants as status
+use Rattle.merge_report.specs.declared.status.Part.TheVariants.{Command}
+use Rattle.merge_report.specs.declared.status.Status.{Status}
+use Rattle.merge_report.specs.declared.status.Status.TheVariants as status
 
 -- What the merge of a plan leaves of a tree at rest, with what was made for its groups, if memory
 -- and the device let it. Its first groups are the history. Each crash image of each moment recovers

@@ -1,10 +1,10 @@
 -- What a run writes: the lines of its groups, or the plan that it shows, and its last line.
 use Rattle.std.specs.Prelude.{◌≡◌, ◌⊎◌, ◌≤◌, ℕ, Bool, true, false, List, [], ◌++◌}
 use Rattle.file_tree.specs.Disk.{Map, Rose}
-use Rattle.group_run.specs.Lines.{AreLines, IsBeginning}
+use Rattle.merge_group.specs.Lines.{AreLines, IsBeginning}
 use Rattle.plan_law.specs.Plans.{Group}
-use Rattle.run_status.specs.Last.{IsLast}
-use Rattle.run_status.specs.declared.status.Status.{Status}
+use Rattle.merge_report.specs.Last.{IsLast}
+use Rattle.merge_report.specs.declared.status.Status.{Status}
 use Rattle.emerge_run.specs.Builds.{line_of}
 use Rattle.emerge_run.specs.Outcomes.{IsDone, IsNamed, IsShownAs}
 use Rattle.emerge_run.specs.Words.{AskToMerge}

@@ -1,19 +1,19 @@
 -- The plan that a run merges, and what is made for its groups.
 use Rattle.std.specs.Prelude.{◌≡◌, ℕ, Bool, true, List, [], Option, None, Some, IsTrue}
 use Rattle.file_tree.specs.Disk.{Map}
-use Rattle.database_law.specs.Packages.{Installed}
-use Rattle.run_law.specs.Openings.{AreOwners}
-use Rattle.journal.specs.Group as journal
+use Rattle.vdb_law.specs.Packages.{Installed}
+use Rattle.law_run.specs.Openings.{AreOwners}
+use Rattle.merge_journal.specs.Group as journal
 use Rattle.merge_site.specs.declared.group.SiteGroup.{SiteGroup}
 use Rattle.owner_book.specs.Book.{Book}
-use Rattle.group_run.specs.Applied.{AreOf}
-use Rattle.group_run.specs.Turns.{AreFirst, StopsBehind}
-use Rattle.group_run.specs.declared.stop.Stop.{Stop}
-use Rattle.group_run.specs.declared.turn.Turn.{Turn}
+use Rattle.merge_group.specs.Applied.{AreOf}
+use Rattle.merge_group.specs.Turns.{AreFirst, StopsBehind}
+use Rattle.merge_group.specs.declared.stop.Stop.{Stop}
+use Rattle.merge_group.specs.declared.turn.Turn.{Turn}
 use Rattle.plan_law.specs.Plans.{Group}
-use Rattle.plan_make.specs.Plans.{AreJobs, line_for}
-use Rattle.plan_make.specs.declared.job.Job.{Job}
-use Rattle.plan_sound.specs.Ends.{AreMadeOver, Images}
+use Rattle.run_turns.specs.Plans.{AreJobs, line_for}
+use Rattle.run_turns.specs.declared.job.Job.{Job}
+use Rattle.run_sound.specs.Ends.{AreMadeOver, Images}
 use Rattle.emerge_run.specs.Builds.{line_of}
 
 -- what is made of a plan, over a map with these packages: its turns, each when those before it are

@@ -4,19 +4,19 @@ use Rattle.dep_atom.specs.declared.package.PackageId.{PackageId}
 use Rattle.file_tree.specs.declared.limits.Quantity.TheVariants.{Groups, Paths, RecordBytes}
 use Rattle.merge_site.specs.declared.fault.ClaimStop.{ClaimStop}
 use Rattle.merge_site.specs.declared.fault.ClaimStop.TheVariants as claims
-use Rattle.group_run.specs.declared.stop.Stop.{Stop}
-use Rattle.group_run.specs.declared.stop.Stop.TheVariants as stops
-use Rattle.database_law.specs.Packages.{Installed}
-use Rattle.opening.specs.declared.fault.OpeningFault.{OpeningFault}
-use Rattle.opening.specs.declared.fault.OpeningFault.TheVariants as openings
-use Rattle.plan_find.specs.declared.ends.NoPlan.{NoPlan}
-use Rattle.plan_find.specs.declared.ends.NoPlan.TheVariants as ends
-use Rattle.plan_run.specs.declared.stop.PlanStop.{PlanStop}
-use Rattle.plan_run.specs.declared.stop.PlanStop.TheVariants as plans
-use Rattle.run_status.specs.Faults.{status_of_database, status_of_offers, status_of_tree}
-use Rattle.run_status.specs.declared.status.Part.TheVariants.{Result as PlanResult}
-use Rattle.run_status.specs.declared.status.Status.{Status}
-use Rattle.run_status.specs.declared.status.Status.TheVariants as status
+use Rattle.merge_group.specs.declared.stop.Stop.{Stop}
+use Rattle.merge_group.specs.declared.stop.Stop.TheVariants as stops
+use Rattle.vdb_law.specs.Packages.{Installed}
+use Rattle.run_opening.specs.declared.fault.OpeningFault.{OpeningFault}
+use Rattle.run_opening.specs.declared.fault.OpeningFault.TheVariants as openings
+use Rattle.emerge_find.specs.declared.ends.NoPlan.{NoPlan}
+use Rattle.emerge_find.specs.declared.ends.NoPlan.TheVariants as ends
+use Rattle.run_plan.specs.declared.stop.PlanStop.{PlanStop}
+use Rattle.run_plan.specs.declared.stop.PlanStop.TheVariants as plans
+use Rattle.merge_report.specs.Faults.{status_of_database, status_of_offers, status_of_tree}
+use Rattle.merge_report.specs.declared.status.Part.TheVariants.{Result as PlanResult}
+use Rattle.merge_report.specs.declared.status.Status.{Status}
+use Rattle.merge_report.specs.declared.status.Status.TheVariants as status
 use Rattle.emerge_run.specs.Collisions.{status_of_collision}
 
 -- why no run begins with what is installed

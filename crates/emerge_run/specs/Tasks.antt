@@ -2,11 +2,11 @@
 use Rattle.std.specs.Prelude.{◌≡◌, Bool, true, false, List, [], string_bytes, ⊤}
 use Rattle.file_tree.specs.Disk.{Map}
 use Rattle.owner_book.specs.Book.{Book}
-use Rattle.database_law.specs.Packages.{Installed}
-use Rattle.plan_choose.specs.declared.chosen.Chosen.{Chosen}
-use Rattle.plan_find.specs.Choices.{IsFound}
-use Rattle.plan_find.specs.declared.asked.Asked.{Asked}
-use Rattle.plan_find.specs.declared.found.Found.{Found}
+use Rattle.vdb_law.specs.Packages.{Installed}
+use Rattle.emerge_choose.specs.declared.chosen.Chosen.{Chosen}
+use Rattle.emerge_find.specs.Choices.{IsFound}
+use Rattle.emerge_find.specs.declared.asked.Asked.{Asked}
+use Rattle.emerge_find.specs.declared.found.Found.{Found}
 use Rattle.emerge_run.specs.Builds.{AreJobsOf}
 use Rattle.emerge_run.specs.Outcomes.{IsTextOf}
 use Rattle.emerge_run.specs.Package.{IsTask}

@@ -5,11 +5,11 @@ use Rattle.emerge_words.specs.Requests as words
 use Rattle.emerge_words.specs.declared.request.Request.{Request}
 use Rattle.emerge_words.specs.declared.request.WordFault.{WordFault}
 use Rattle.emerge_words.specs.declared.request.WordFault.TheVariants.{Memory}
-use Rattle.plan_find.specs.Requests.{IsAsked}
-use Rattle.plan_find.specs.declared.asked.Asked.{Asked}
-use Rattle.run_status.specs.declared.status.Part.TheVariants as part
-use Rattle.run_status.specs.declared.status.Status.{Status}
-use Rattle.run_status.specs.declared.status.Status.TheVariants as status
+use Rattle.emerge_find.specs.Requests.{IsAsked}
+use Rattle.emerge_find.specs.declared.asked.Asked.{Asked}
+use Rattle.merge_report.specs.declared.status.Part.TheVariants as part
+use Rattle.merge_report.specs.declared.status.Status.{Status}
+use Rattle.merge_report.specs.declared.status.Status.TheVariants as status
 
 -- the words ask for a merge of what their atoms match, and this of it
 pub record IsRequest (texts : List (List ℕ)) (asked : Asked) : Type 0 where

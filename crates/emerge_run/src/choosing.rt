@@ -1,5 +1,5 @@
 ghost use Rattle.std.specs.Prelude.{◌≡◌, [], IfOk, IsErrOf, map, string_bytes};
-ghost use Rattle.plan_find.specs.Shapes.{IsInShape};
+ghost use Rattle.emerge_find.specs.Shapes.{IsInShape};
 ghost use Rattle.emerge_run.specs.Choosing.{ChoosesWork, FindsWork};
 ghost use Rattle.emerge_run.specs.Refusals.{packages_beside, packages_with, status_of};
 ghost use Rattle.emerge_run.specs.Refusals.{status_of_opening};
@@ -7,17 +7,17 @@ ghost use Rattle.emerge_run.specs.Tasks.{IsPrepared};
 
 use crate::prepare::jobs_of;
 use crate::words::read_request;
+use emerge_choose::Chosen;
+use emerge_find::{Asked, Found, NoPlan, find_plan};
 use file_tree::{Quantity, Tree};
-use opening::OpeningFault;
+use merge_report::{Part, Status};
 use owner_book::OwnerBook;
-use plan_choose::Chosen;
-use plan_find::{Asked, Found, NoPlan, find_plan};
 use plan_lives::Plan;
-use plan_run::Task;
-use record_read::Installed;
 use recovery::recover;
-use run_status::{Part, Status};
+use run_opening::OpeningFault;
+use run_plan::Task;
 use std::alloc::{AllocError, Global};
+use vdb_record::Installed;
 
 /// What a run finds before it merges anything.
 #[derive(Drop)]

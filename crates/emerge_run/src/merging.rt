@@ -1,7 +1,7 @@
 ghost use Rattle.std.specs.Prelude.{◌≡◌, ◌⊎◌, ◌<◌, ◌^◌, IsTrue, length, map, slice_get};
 ghost use Rattle.std.specs.Option.{option_copied};
 ghost use Rattle.merge_core.specs.Trail.{IsAtRest};
-ghost use Rattle.plan_make.specs.Plans.{coming};
+ghost use Rattle.run_turns.specs.Plans.{coming};
 ghost use Rattle.emerge_run.specs.Merges.{MergesTask};
 ghost use Rattle.emerge_run.specs.Package.{IsTask};
 ghost use Rattle.emerge_run.specs.Collisions.{id_of_package, ids_with, owned_by};
@@ -14,13 +14,13 @@ use crate::run::Ended;
 use build_pool::{BuildPool, Builder};
 use dep_atom::PackageId;
 use file_tree::{Path, Quantity, Sink, Tree};
-use group_run::Stop;
+use merge_group::Stop;
+use merge_report::{Collision, Status};
 use merge_site::ClaimStop;
 use plan_lives::{Group, Plan};
-use plan_run::{Merged, PlanStop, Task, merge_plan};
-use record_read::Installed;
-use run_status::{Collision, Status};
+use run_plan::{Merged, PlanStop, Task, merge_plan};
 use std::alloc::Global;
+use vdb_record::Installed;
 
 /// Merges the groups of a plan, and tells how that ended.
 pub fn merge_ready<T: Tree, S: Sink, B: Builder>(

@@ -1,16 +1,16 @@
 ghost use Rattle.std.specs.Prelude.{◌≡◌, ◌<◌, ◌^◌, All, IfOk, length, map};
 ghost use Rattle.std.specs.List.{AllZip};
-ghost use Rattle.plan_find.specs.Shapes.{HaveAsMany};
-ghost use Rattle.plan_make.specs.Plans.{bytes_of_job};
-ghost use Rattle.plan_orders.specs.Orders.{HasRisingFlags};
+ghost use Rattle.emerge_find.specs.Shapes.{HaveAsMany};
+ghost use Rattle.run_turns.specs.Plans.{bytes_of_job};
+ghost use Rattle.run_orders.specs.Orders.{HasRisingFlags};
 ghost use Rattle.plan_text.specs.Plans.{addition_value, group_value};
-ghost use Rattle.run_status.specs.Texts.{done_line};
+ghost use Rattle.merge_report.specs.Texts.{done_line};
 ghost use Rattle.emerge_run.specs.Builds.{lines_from, ordered_of_job, orders_in};
 
+use merge_report::line_of_group;
 use plan_lives::Group;
-use plan_make::Job;
-use plan_orders::orders_of;
-use run_status::line_of_group;
+use run_orders::orders_of;
+use run_turns::Job;
 use std::alloc::{AllocError, Global};
 
 /// What goes with the groups of a plan, in turn: the line of each, and what is ordered for the

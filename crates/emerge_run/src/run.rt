@@ -1,10 +1,10 @@
 ghost use Rattle.std.specs.Prelude.{◌≡◌, ◌<◌, ◌≤◌, ◌⊎◌, [], ℕ, IsTrue, List, None, false, length};
 ghost use Rattle.std.specs.Prelude.{map, string_bytes, true};
 ghost use Rattle.file_tree.specs.Disk.{Map, Rose};
-ghost use Rattle.database_law.specs.Packages.{Installed};
-ghost use Rattle.group_run.specs.Lines.{Wrote};
-ghost use Rattle.run_law.specs.Ends.{BeginsWith};
-ghost use Rattle.run_status.specs.Last.{IsEnd};
+ghost use Rattle.vdb_law.specs.Packages.{Installed};
+ghost use Rattle.merge_group.specs.Lines.{Wrote};
+ghost use Rattle.law_run.specs.Ends.{BeginsWith};
+ghost use Rattle.merge_report.specs.Last.{IsEnd};
 ghost use Rattle.emerge_run.specs.Commands.{RunsCommand};
 ghost use Rattle.emerge_run.specs.Headline.{Headline, TurnsOn};
 
@@ -14,10 +14,10 @@ use crate::showing::show_plan;
 use build_pool::{BuildPool, Builder};
 use file_tree::{Sink, Tree};
 use merge_core::Core;
+use merge_report::{Status, finish};
 use plan_lives::Plan;
-use record_read::Installed;
-use run_status::{Status, finish};
 use std::alloc::Global;
+use vdb_record::Installed;
 
 /// What a run gives back: how it ended, what it was lent, and its groups.
 #[derive(Drop)]
@@ -71,8 +71,8 @@ pub fn emerge<T: Tree + Send, S: Sink + Send, B: Builder + Send>(
     ensures run { RunsCommand T.Tree S.Sink B.Builder true (map string_bytes words.now) tree out
         pool result }
 {
-    plan_sound::first_turns_leave_sound_trees();
-    plan_find::found_plans_are_fit();
+    run_sound::first_turns_leave_sound_trees();
+    emerge_find::found_plans_are_fit();
     let run = attempt(alloc, words, tree, out, pool);
     finished(alloc, run)
 }

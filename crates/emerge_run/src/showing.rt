@@ -1,10 +1,10 @@
 ghost use Rattle.std.specs.Prelude.{◌≡◌, ◌⊎◌, ◌≤◌, IsTrue, string_bytes};
 ghost use Rattle.file_tree.specs.Disk.{Rose};
-ghost use Rattle.group_run.specs.Lines.{Wrote};
+ghost use Rattle.merge_group.specs.Lines.{Wrote};
 ghost use Rattle.emerge_run.specs.Output.{IsCut};
 
 use file_tree::Sink;
-use run_status::Status;
+use merge_report::Status;
 
 /// Writes the text of a plan, which is only shown.
 pub fn show_plan<S: Sink>(out: &mut S, text: &str) -> Status

@@ -1,9 +1,9 @@
 ghost use Rattle.std.specs.Prelude.{IfErr, IfOk, map, string_bytes};
 ghost use Rattle.emerge_run.specs.Words.{EndsAtWords, IsRequest};
 
+use emerge_find::{Asked, asked_of};
 use emerge_words::read;
-use plan_find::{Asked, asked_of};
-use run_status::{Part, Status};
+use merge_report::{Part, Status};
 use std::alloc::Global;
 
 /// Reads the words of a run as what they ask of a merge.

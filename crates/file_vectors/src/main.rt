@@ -12,7 +12,7 @@ mod records;
 mod variables;
 mod words;
 
-use asked_lines::{answer_each, exit_of};
+use ask_lines::{answer_each, exit_of};
 use percent_encoding::{AsciiSet, CONTROLS, percent_decode, percent_encode};
 use std::alloc::{AllocError, Global};
 use std::io;

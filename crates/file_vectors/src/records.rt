@@ -1,9 +1,9 @@
 //! The texts of an installed package's record.
 
-use contents_text::{Content, Owned, read_contents};
 use pms_names::Flags;
-use record_values::{is_eapi, read_flags, read_known, read_slots};
 use std::alloc::{AllocError, Global};
+use vdb_contents::{Content, Owned, read_contents};
+use vdb_values::{is_eapi, read_flags, read_known, read_slots};
 
 /// The paths that a text of CONTENTS owns, each with the MD5 of its file or the target of its link.
 pub(crate) fn contents(alloc: Global, text: &[u8]) -> Result<String, AllocError> {

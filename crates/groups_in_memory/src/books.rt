@@ -4,12 +4,12 @@ ghost use Rattle.std.specs.Prelude.{◌≡◌, [], IfOk};
 
 use crate::given::{book, brought, paths, said};
 use crate::told::push_fault;
+use ask_trees::{cut, small_number_of};
 use file_tree::Path;
 use merge_record::OwnerKey;
 use owner_book::{ClaimFault, OwnerBook, Wish};
 use std::alloc::{AllocError, Global};
 use std::io;
-use tree_lines::{cut, small_number_of};
 
 /// What each claim is told, and who then owns each path that is asked for.
 pub fn answer(alloc: Global, fields: &str) -> io::Result<String> {

@@ -2,13 +2,13 @@
 
 ghost use Rattle.std.specs.Prelude.{◌≡◌, ◌<◌, [], IfOk, length};
 
+use ask_trees::{cut, entry_of, path_of, small_number_of};
 use file_tree::{Entry, Object, Path};
 use merge_record::OwnerKey;
 use merge_site::SiteGroup;
 use owner_book::OwnerBook;
 use std::alloc::{AllocError, Global};
 use std::io;
-use tree_lines::{cut, entry_of, path_of, small_number_of};
 
 /// What the first field with this word says, or nothing.
 pub fn said<'a>(fields: &'a str, word: &str) -> &'a str {

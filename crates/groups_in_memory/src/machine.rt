@@ -2,14 +2,14 @@
 //! nothing by its `Record`; `needs` asks whether a group needs a sync.
 
 ghost use Rattle.std.specs.Prelude.{◌≡◌, Some, IfOk};
-ghost use Rattle.journal.specs.Judging.{IsStaged};
+ghost use Rattle.merge_journal.specs.Judging.{IsStaged};
 
+use ask_trees::{cut, not_in_form, path_of, push_between, small_number_of};
 use file_tree::{Kind, Object};
 use merge_core::{Core, Refusal, Step};
 use merge_record::{Placement, digest_of};
 use std::alloc::{AllocError, Global};
 use std::io;
-use tree_lines::{cut, not_in_form, path_of, push_between, small_number_of};
 
 /// What each of these steps is told.
 pub fn answer(alloc: Global, fields: &str) -> io::Result<String> {

@@ -2,14 +2,14 @@
 
 ghost use Rattle.std.specs.Prelude.{◌≡◌, ◌≤◌, ◌+◌, ◌∷◌, [], IfOk, length};
 ghost use Rattle.std.specs.Prelude.{vec_capacity, vec_len};
-ghost use Rattle.group_run.specs.Turns.{numbers};
+ghost use Rattle.merge_group.specs.Turns.{numbers};
 ghost use Rattle.merge_core.specs.Trail.{IsAtRest};
 ghost use Rattle.tree_mem.specs.MemTree.{mem_story};
 
 use crate::given::{book, brought, brought_also, entries, group, removals, says_of};
 use crate::opened::stopping;
 use crate::told::{push_image_bad, push_machine, push_stop, push_tree, push_written};
-use group_run::{Batch, Files, Merged, Stop, Turn, merge_groups};
+use merge_group::{Batch, Files, Merged, Stop, Turn, merge_groups};
 use merge_site::SiteGroup;
 use std::alloc::{AllocError, Global};
 use std::io;

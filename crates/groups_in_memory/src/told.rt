@@ -1,11 +1,11 @@
 //! What is told of a tree, a sink and a claim.
 
+use ask_trees::{THEN, cut, path_of, push_hex, push_object};
 use file_tree::{Path, TreeFault};
 use merge_site::ClaimStop;
 use owner_book::{ClaimFault, Collision, ImageBad};
 use std::alloc::{AllocError, Global};
 use std::io;
-use tree_lines::{THEN, cut, path_of, push_hex, push_object};
 use tree_mem::{ImageFault, MemSink, MemTree};
 
 /// The calls of a tree behind these first ones, its syncs, which of the paths that are asked for were

@@ -7,8 +7,8 @@ use crate::fields::push_escaped;
 use build_pool::{BuildPool, Builder};
 use emerge_run::{Ended, emerge};
 use file_tree::{Kind, Object, Path, Sink, Tree};
+use merge_report::Status;
 use recovery::{RecoverFault, Recovered, recover};
-use run_status::Status;
 use std::alloc::{AllocError, Global};
 use tree_mem::{ImageFault, MemSink, MemTree};
 

@@ -3,13 +3,13 @@ use Rattle.std.proofs.Common.{◌≡◌, ◌∙◌, ℕ, Bool, true, false, cond
 use Rattle.std.specs.Prelude.{IsSome, bytes_eq, codes, unwrap_or}
 use Rattle.std.specs.List.{AllByRecursion}
 use Rattle.std.proofs.lemmas.Slice.Eq.{bytes_eq-Decides}
-use Rattle.digest_text.specs.Digests.{IsNoDigestText, WritesDigest}
+use Rattle.file_digest.specs.Digests.{IsNoDigestText, WritesDigest}
 use Rattle.hex.proofs.HexLemmas.{decode_of-encode_lower}
 use Rattle.hex.specs.Hex.{decode_of}
 use Rattle.hex.specs.declared.error.FromHexError.{FromHexError}
 use Rattle.md5.specs.Md5.{md5}
-use Rattle.slot_value.specs.Reading.{SaysNone}
-use Rattle.slot_value.specs.Slots.{IsSlotValue}
+use Rattle.pms_slot.specs.Reading.{SaysNone}
+use Rattle.pms_slot.specs.Slots.{IsSlotValue}
 use Rattle.md5_cache.specs.Entries.{value_of}
 use Rattle.md5_cache.specs.EntryFaults.{FirstEntryFault, IsEntry, IsOutdated, Records, of_fields}
 use Rattle.md5_cache.specs.FieldFaults.{FirstFieldFault}

@@ -2,9 +2,9 @@
 use Rattle.std.proofs.Common.{◌≡◌, ◌≢◌, ◌∙◌, ◌+◌, ◌<◌, ◌≤◌, ℕ, suc, Bool, true, false, cond, List, [], ◌∷◌, ◌++◌, Option, Some, None, length, take, drop, get_or, ap, arith, inl, inr, refl, subst, sym}
 use Rattle.std.specs.Prelude.{IsTrue, MatchOption, bytes_eq, codes, is_some}
 use Rattle.basics.proofs.Each.{all-push}
-use Rattle.slot_value.specs.Reading.{SaysNone}
-use Rattle.slot_value.specs.Slots.{IsSlotValue}
-use Rattle.slot_value.specs.declared.value.SlotValue.{SlotValue}
+use Rattle.pms_slot.specs.Reading.{SaysNone}
+use Rattle.pms_slot.specs.Slots.{IsSlotValue}
+use Rattle.pms_slot.specs.declared.value.SlotValue.{SlotValue}
 use Rattle.std.specs.List.{AllByRecursion}
 use Rattle.std.proofs.lemmas.Bool.{cases_Bool, cond-false, cond-true, false≢true}
 use Rattle.std.proofs.lemmas.Slice.Eq.{bytes_eq-Decides}

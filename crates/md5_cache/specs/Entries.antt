@@ -7,7 +7,7 @@ use Rattle.dep_group.specs.Words.{words_of}
 use Rattle.dep_tree.specs.Texts.{Dependencies}
 use Rattle.dep_tree.specs.Texts as dependencies
 use Rattle.required_use.specs.Texts as expressions
-use Rattle.slot_value.specs.Slots.{IsSlotValue}
+use Rattle.pms_slot.specs.Slots.{IsSlotValue}
 use Rattle.use_flags.specs.Items.{last_is_on, names_flag}
 use Rattle.use_flags.specs.Words.{words}
 use Rattle.pkg_state.specs.Package.{Package}

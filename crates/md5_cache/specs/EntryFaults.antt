@@ -1,6 +1,6 @@
 -- When a text is the entry of an ebuild, and why one is none.
 use Rattle.std.specs.Prelude.{◌≡◌, ◌≢◌, ℕ, List, codes, ⊤}
-use Rattle.digest_text.specs.Digests.{WritesDigest}
+use Rattle.file_digest.specs.Digests.{WritesDigest}
 use Rattle.md5.specs.Md5.{md5}
 use Rattle.md5_cache.specs.Entries.{value_of}
 use Rattle.md5_cache.specs.FieldFaults.{FirstFieldFault}

@@ -2,9 +2,9 @@
 use Rattle.std.specs.Prelude.{◌≡◌, ◌||◌, ℕ, Bool, List, [], ◌∷◌, Option, None, Some, IsSome, bytes_eq, codes, if◌then◌else◌, is_some, ⊤}
 use Rattle.std.specs.List.{AllByRecursion}
 use Rattle.dep_tree.specs.Texts.{AreDependencies}
-use Rattle.digest_text.specs.Digests.{WritesDigest}
+use Rattle.file_digest.specs.Digests.{WritesDigest}
 use Rattle.required_use.specs.Texts.{IsExpression}
-use Rattle.slot_value.specs.Slots.{IsSlotValue}
+use Rattle.pms_slot.specs.Slots.{IsSlotValue}
 use Rattle.use_flags.specs.Items.{IsItem}
 use Rattle.use_flags.specs.Words.{EachWord}
 use Rattle.md5_cache.specs.declared.field.Field.{Field}

@@ -6,7 +6,7 @@ ghost use Rattle.md5_cache.specs.Fields.{AreFields};
 use crate::fault::CacheFault;
 use crate::pair::Pair;
 use crate::parts::value_of;
-use digest_text::digest_from;
+use file_digest::digest_from;
 use md5::{Digest, Md5};
 
 /// Whether the ebuild is the one of which the pairs were made.

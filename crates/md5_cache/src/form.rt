@@ -8,9 +8,9 @@ ghost use Rattle.md5_cache.specs.declared.field.Field.TheVariants as fields;
 
 use crate::field::Field;
 use dep_tree::{DepTree, TreeTextFault};
-use digest_text::digest_from;
+use file_digest::digest_from;
+use pms_slot::SlotValue;
 use required_use::{RequiredFault, RequiredUse};
-use slot_value::SlotValue;
 use std::alloc::{AllocError, Global};
 use use_flags::{Iuse, UseFault};
 

@@ -3,7 +3,7 @@ ghost use Rattle.dep_group.specs.Words.{words_of};
 ghost use Rattle.dep_tree.specs.View.{trees};
 ghost use Rattle.required_use.specs.Texts as expressions;
 ghost use Rattle.required_use.specs.View.{trees as required_trees};
-ghost use Rattle.slot_value.specs.Slots.{IsSlotValue};
+ghost use Rattle.pms_slot.specs.Slots.{IsSlotValue};
 ghost use Rattle.use_flags.specs.Items.{last_is_on, names_flag};
 ghost use Rattle.md5_cache.specs.Entries.{HasJust, Needs, Tells, TellsNeeds, items_of};
 ghost use Rattle.md5_cache.specs.Entries.{value_of};
@@ -18,8 +18,8 @@ use dep_group::words;
 use dep_tree::DepTree;
 use pkg_state::{Eapi, Pkg};
 use pms_names::Flags;
+use pms_slot::SlotValue;
 use required_use::RequiredUse;
-use slot_value::SlotValue;
 use std::alloc::{AllocError, Global};
 use use_flags::Iuse;
 

@@ -4,7 +4,7 @@ use Rattle.std.proofs.lemmas.List.{set-get_or}
 use Rattle.std.proofs.lemmas.List.Elements.{All-from_get_or}
 use Rattle.std.proofs.lemmas.List.Sums.{sum_by-le}
 use Rattle.std.specs.List.{sum_by}
-use Rattle.journal.specs.Group.{Group}
+use Rattle.merge_journal.specs.Group.{Group}
 use Rattle.merge_core.specs.declared.step.Step.{Step}
 use Rattle.merge_core.specs.declared.step.Step.TheVariants as steps
 use Rattle.merge_core.specs.Core.{standing_in}

@@ -1,6 +1,6 @@
 -- Groups whose gates were put stay so, with what they do.
 use Rattle.std.proofs.Common.{◌≡◌, ◌∙◌, ℕ, List, true, false, ap, refl, sym}
-use Rattle.journal.specs.Group.{Group}
+use Rattle.merge_journal.specs.Group.{Group}
 use Rattle.merge_core.specs.Phase.{Phase, was_opened}
 use Rattle.merge_core.specs.Roll.{Roll, Standing, group_at, group_of, phase_at}
 use Rattle.merge_core.proofs.Standings.{by_group, set_with}

@@ -1,7 +1,7 @@
 -- The machine as its code keeps it: the standings of some groups in a list, all others at rest.
 use Rattle.std.specs.Prelude.{◌<◌, ◌≤◌, ◌^◌, ℕ, Bool, false, length, List, [], replicate}
 use Rattle.std.specs.List.{sum_by}
-use Rattle.journal.specs.Group.{Group}
+use Rattle.merge_journal.specs.Group.{Group}
 use Rattle.merge_core.specs.Core.{standing_in}
 use Rattle.merge_core.specs.Roll.{Machine, Standing, resting, settled_behind, syncs_behind}
 

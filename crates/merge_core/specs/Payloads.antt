@@ -2,8 +2,8 @@
 use Rattle.std.specs.Prelude.{◌≡◌, ◌<◌, ◌≤◌, ◌^◌, ◌++◌, ◌||◌, ℕ, Bool, true, false, not, length}
 use Rattle.std.specs.Prelude.{List, [], ◌∷◌, slice_set}
 use Rattle.file_tree.specs.ObjectValue.{ObjectValue, plain}
-use Rattle.journal.specs.Group.{covers}
-use Rattle.journal.specs.Judging.{are_free, footprint}
+use Rattle.merge_journal.specs.Group.{covers}
+use Rattle.merge_journal.specs.Judging.{are_free, footprint}
 use Rattle.merge_record.specs.Spelling.{spelling}
 use Rattle.merge_record.specs.declared.record.Placement.{Placement}
 use Rattle.merge_core.specs.declared.phase.Phase.{Phase}

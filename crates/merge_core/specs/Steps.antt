@@ -2,7 +2,7 @@
 use Rattle.std.specs.Prelude.{◌≡◌, ◌==◌, ◌<◌, ◌+◌, ◌-◌, ◌++◌, ◌&&◌, ◌||◌, ℕ, suc, Bool, true, false, ⊤, if◌then◌else◌}
 use Rattle.std.specs.Prelude.{not}
 use Rattle.std.specs.Prelude.{length, List, [], ◌∷◌, slice_set}
-use Rattle.journal.specs.Group.{Group}
+use Rattle.merge_journal.specs.Group.{Group}
 use Rattle.merge_core.specs.declared.phase.Phase.{Phase}
 use Rattle.merge_core.specs.declared.phase.Phase.TheVariants as phases
 use Rattle.merge_core.specs.declared.refusal.Refusal.{Refusal}

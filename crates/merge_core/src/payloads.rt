@@ -1,6 +1,6 @@
 ghost use Rattle.std.specs.Prelude.{◌≡◌, ◌<◌, ◌≤◌, ◌^◌, false, length, Some, IfErr, IfOk, IsTrue};
 ghost use Rattle.std.specs.Prelude.{IsOk, OnErr, OnOk};
-ghost use Rattle.journal.specs.Judging.{IsStaged};
+ghost use Rattle.merge_journal.specs.Judging.{IsStaged};
 ghost use Rattle.merge_record.specs.Spelling.{IsSpellable, PassesLimit};
 ghost use Rattle.merge_core.specs.Core.{standing_in};
 ghost use Rattle.merge_core.specs.Event.{Admits, Claim, PutRecord, PutStage, answered, in_phase};

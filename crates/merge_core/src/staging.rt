@@ -2,7 +2,7 @@ ghost use Rattle.std.specs.Prelude.{◌≡◌, ◌<◌, ◌⊎◌, ◌++◌, ◌
 ghost use Rattle.std.specs.Prelude.{IfErr};
 ghost use Rattle.std.specs.Prelude.{IfOk, IsErrOf, IsTrue, OnErr, OnOk, vec_capacity, vec_len};
 ghost use Rattle.file_tree.specs.Disk.{CountsFault};
-ghost use Rattle.journal.specs.Judging.{IsStaged};
+ghost use Rattle.merge_journal.specs.Judging.{IsStaged};
 ghost use Rattle.merge_core.specs.Core.{standing_in};
 ghost use Rattle.merge_core.specs.Event.{Admits, Answers, Asks, PutStage, answered};
 ghost use Rattle.merge_core.specs.CoreValue.{machine_of};

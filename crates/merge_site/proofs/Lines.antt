@@ -1,7 +1,7 @@
 -- The stage that a group places next, and the line that it writes.
 use Rattle.std.proofs.Common.{◌≡◌, ◌<◌, ◌++◌, ◌∙◌, ℕ, List, Result, Ok, Err, ap, subst, sym, length, take}
 use Rattle.std.specs.Prelude.{IsTrue, OnOk, is_ok, slice_index_or}
-use Rattle.journal.specs.Names.{stage_path}
+use Rattle.merge_journal.specs.Names.{stage_path}
 use Rattle.merge_core.specs.Core.{standing_in}
 use Rattle.merge_core.specs.CoreValue.{CoreValue}
 use Rattle.merge_site.specs.declared.group.SiteGroup.{SiteGroup}

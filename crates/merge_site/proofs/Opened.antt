@@ -3,7 +3,7 @@ use Rattle.std.proofs.Common.{◌≡◌, ◌≤◌, ◌⊎◌, ◌++◌, ◌∷�
 use Rattle.std.specs.Prelude.{IsTrue, replicate, slice_get}
 use Rattle.file_tree.specs.Disk.{Disk, Story}
 use Rattle.file_tree.specs.ObjectValue.{ObjectValue}
-use Rattle.journal.specs.Group.{token}
+use Rattle.merge_journal.specs.Group.{token}
 use Rattle.merge_core.specs.CoreValue.{CoreValue, at_rest, machine_of}
 use Rattle.merge_core.specs.Order.{IsInOrder}
 use Rattle.merge_core.specs.Roll.{Machine, Standing, idle, resting}

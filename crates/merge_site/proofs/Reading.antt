@@ -5,12 +5,12 @@ use Rattle.basics.proofs.Membership.{has-append_right, has-map, has-slice_get}
 use Rattle.basics.proofs.Tests.{some-IsSome}
 use Rattle.file_tree.specs.Disk.{Disk, Map}
 use Rattle.file_tree.specs.Paths.{is_below}
-use Rattle.journal.specs.Group.{covers, token}
-use Rattle.journal.proofs.Changes.{staged_at}
-use Rattle.journal.proofs.Form.{in_if_has}
-use Rattle.journal.specs.Judging.{footprint, path_of}
-use Rattle.journal.specs.Names.{jobs, stage_path, token_path}
-use Rattle.journal.specs.Names.Part.{Stage, Token}
+use Rattle.merge_journal.specs.Group.{covers, token}
+use Rattle.merge_journal.proofs.Changes.{staged_at}
+use Rattle.merge_journal.proofs.Form.{in_if_has}
+use Rattle.merge_journal.specs.Judging.{footprint, path_of}
+use Rattle.merge_journal.specs.Names.{jobs, stage_path, token_path}
+use Rattle.merge_journal.specs.Names.Part.{Stage, Token}
 use Rattle.merge_record.specs.declared.record.Placement.{Placement}
 use Rattle.merge_core.specs.Order.{IsInOrder}
 use Rattle.merge_core.specs.Phase.{Claimed, Open, Phase, has_token, is_working}

@@ -2,8 +2,8 @@
 use Rattle.std.proofs.Common.{◌≡◌, ◌<◌, ◌≤◌, ◌∷◌, ◌∙◌, ℕ, suc, Bool, true, false, List, [], Some, Result, Ok, Err, ap, refl, subst, sym, length, length-append, arith}
 use Rattle.std.specs.Prelude.{OnOk, is_err, slice_get, slice_index_or}
 use Rattle.file_tree.specs.ObjectValue.{ObjectValue}
-use Rattle.journal.specs.Group.{AreStaged}
-use Rattle.journal.specs.Names.{stage_path}
+use Rattle.merge_journal.specs.Group.{AreStaged}
+use Rattle.merge_journal.specs.Names.{stage_path}
 use Rattle.merge_record.specs.declared.record.Placement.{Placement}
 use Rattle.merge_core.specs.Core.{standing_in}
 use Rattle.merge_core.specs.Event.{PutStage, answered}

@@ -3,7 +3,7 @@ use Rattle.std.specs.Prelude.{◌≡◌, ◌++◌, ◌∷◌, ℕ, Bool, true, f
 use Rattle.std.specs.Global.{Global}
 use Rattle.basics.specs.Members.{Has}
 use Rattle.file_tree.specs.declared.objects.Entry.{Entry}
-use Rattle.journal.specs.Judging.{path_of}
+use Rattle.merge_journal.specs.Judging.{path_of}
 use Rattle.merge_record.specs.declared.record.OwnerKey.{OwnerKey}
 use Rattle.owner_book.specs.Book as books
 use Rattle.owner_book.specs.Book.{Book, ClaimValue, claim_in, owner_in, settled_owner}

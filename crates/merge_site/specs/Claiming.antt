@@ -3,8 +3,8 @@ use Rattle.std.specs.Prelude.{◌≡◌, ◌≤◌, ◌||◌, ◌++◌, ℕ, Boo
 use Rattle.std.specs.List.{AllByRecursion}
 use Rattle.file_tree.specs.Disk.{Map}
 use Rattle.file_tree.specs.declared.fault.TreeFault.TheVariants as trees
-use Rattle.image_fit.specs.Images.{IsClear, IsFirst, IsFirstBlock}
-use Rattle.journal.specs.Judging.{are_free}
+use Rattle.merge_fit.specs.Images.{IsClear, IsFirst, IsFirstBlock}
+use Rattle.merge_journal.specs.Judging.{are_free}
 use Rattle.merge_record.specs.declared.record.OwnerKey.{OwnerKey}
 use Rattle.owner_book.specs.Book.{Book, owner_in, path_count, path_of}
 use Rattle.owner_book.specs.Removing.{AreRemovable, IsFirstKept}

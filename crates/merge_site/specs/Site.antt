@@ -2,8 +2,8 @@
 use Rattle.std.specs.Prelude.{◌≡◌, ◌⊎◌, ◌<◌, ◌≤◌, ◌-◌, ◌++◌, ◌∷◌, ℕ, zero, suc, Bool, true, false, List, [], Some, IsTrue, length, replicate, slice_get, take}
 use Rattle.file_tree.specs.Disk.{Disk, Map, Story}
 use Rattle.file_tree.specs.ObjectValue.{ObjectValue}
-use Rattle.journal.specs.Group.{covers, token}
-use Rattle.journal.specs.Names.{gate_path, record_path, stage_path, token_path}
+use Rattle.merge_journal.specs.Group.{covers, token}
+use Rattle.merge_journal.specs.Names.{gate_path, record_path, stage_path, token_path}
 use Rattle.merge_core.specs.Core.{standing_in}
 use Rattle.owner_book.specs.Book.{Book}
 use Rattle.owner_book.specs.declared.wish.Wish.{Wish}

@@ -1,8 +1,8 @@
 -- When an entry may be staged, and why it may not.
 use Rattle.std.specs.Prelude.{◌≡◌, ◌<◌, ◌≤◌, ℕ, true, List, Some, length, slice_get}
 use Rattle.file_tree.specs.declared.objects.Entry.{Entry}
-use Rattle.image_fit.specs.Images.{is_good}
-use Rattle.image_fit.specs.Misfits.{IsBad}
+use Rattle.merge_fit.specs.Images.{is_good}
+use Rattle.merge_fit.specs.Misfits.{IsBad}
 use Rattle.md5.specs.Md5.{md5}
 use Rattle.merge_record.specs.declared.limits.TheConstants.{MOST_GROUP_PATHS}
 use Rattle.merge_record.specs.declared.record.Placement.{Placement}

@@ -1,7 +1,7 @@
 -- What stops a claim: the book, the paths of the record, or what a look meets.
 use Rattle.std.specs.Prelude.{◌≡◌, true, false, [], List, ℕ, ⊤}
 use Rattle.file_tree.specs.declared.fault.TreeFault.TheVariants as trees
-use Rattle.journal.specs.Judging.{are_free}
+use Rattle.merge_journal.specs.Judging.{are_free}
 use Rattle.owner_book.specs.declared.fault.ClaimFault.{ClaimFault}
 use Rattle.owner_book.specs.declared.fault.ClaimFault.TheVariants as claims
 use Rattle.owner_book.specs.declared.fault.Collision.TheVariants as collisions

@@ -2,9 +2,9 @@ ghost use Rattle.std.specs.Prelude.{◌≡◌, ◌<◌, ◌^◌, ℕ, Bool, fals
 ghost use Rattle.std.specs.Prelude.{length, slice_get};
 ghost use Rattle.std.specs.Prelude.{IsErr, IsErrOf, IsSome, IsTrue};
 ghost use Rattle.file_tree.specs.Disk.{CountsFault};
-ghost use Rattle.journal.specs.Group.{token};
+ghost use Rattle.merge_journal.specs.Group.{token};
 ghost use Rattle.file_tree.specs.ObjectValue.{plain};
-ghost use Rattle.journal.specs.Names.{gate_path, record_path, stage_path, token_path};
+ghost use Rattle.merge_journal.specs.Names.{gate_path, record_path, stage_path, token_path};
 ghost use Rattle.merge_record.specs.Spelling.{spelling};
 ghost use Rattle.merge_record.specs.declared.record.Placement.{Placement};
 ghost use Rattle.merge_core.specs.Event.{CloseGate, OpenGate, PlacePath, PutRecord, PutStage};

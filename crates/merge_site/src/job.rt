@@ -1,7 +1,7 @@
 ghost use Rattle.std.specs.Prelude.{◌≡◌, ◌<◌, ◌≤◌, IfOk, OnOk};
 
 use file_tree::Path;
-use journal::{gate_path, record_path, stage_path, token_path};
+use merge_journal::{gate_path, record_path, stage_path, token_path};
 use std::alloc::{AllocError, Global};
 use std::marker::Model;
 
@@ -30,7 +30,7 @@ impl Model for Job {
 }
 
 impl Job {
-    ghost use Rattle.journal.specs.Names.{gate_path, record_path, stage_path, token_path};
+    ghost use Rattle.merge_journal.specs.Names.{gate_path, record_path, stage_path, token_path};
     ghost use Rattle.merge_site.specs.Site.{new_payload};
 
     pub(crate) fn new(alloc: Global, group: u32) -> Result<Job, AllocError>

@@ -2,8 +2,8 @@ ghost use Rattle.std.specs.Prelude.{◌≡◌, ◌≤◌, None, Some, true, [], 
 ghost use Rattle.std.specs.Prelude.{OnErr, OnOk, map};
 ghost use Rattle.std.specs.List.{AllByRecursion};
 ghost use Rattle.file_tree.specs.Disk.{CountsFault};
-ghost use Rattle.journal.specs.Judging.{are_free};
-ghost use Rattle.journal.specs.Names.{jobs};
+ghost use Rattle.merge_journal.specs.Judging.{are_free};
+ghost use Rattle.merge_journal.specs.Names.{jobs};
 ghost use Rattle.owner_book.specs.Book.{ChangesClaim, HasOwnersOf, claim_in, owner_in, path_of};
 ghost use Rattle.owner_book.specs.Removing.{IsIndexed};
 ghost use Rattle.merge_site.specs.Claiming.{IsClearFor, IsTakenIn, MayClaim, Stops, StopsAt};
@@ -13,8 +13,8 @@ ghost use Rattle.merge_site.specs.Stopping.{EarlyStops, LateStops, LookStops};
 
 use crate::fault::ClaimStop;
 use file_tree::{Path, Tree, TreeFault};
-use image_fit::block_of;
-use journal::{TakenPaths, jobs_folder, take_free, take_paths};
+use merge_fit::block_of;
+use merge_journal::{TakenPaths, jobs_folder, take_free, take_paths};
 use merge_record::OwnerKey;
 use owner_book::{Collision, OwnerBook, Wish};
 use std::alloc::{AllocError, Global};

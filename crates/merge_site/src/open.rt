@@ -1,5 +1,5 @@
 ghost use Rattle.std.specs.Prelude.{◌≡◌, ◌<◌, ◌^◌, [], IfErr, IfOk, IsTrue, length, replicate};
-ghost use Rattle.journal.specs.Group.{token};
+ghost use Rattle.merge_journal.specs.Group.{token};
 ghost use Rattle.merge_core.specs.CoreValue.{at_rest, machine_of};
 ghost use Rattle.merge_core.specs.Roll.{idle};
 ghost use Rattle.merge_core.specs.Trail.{IsAtRest};

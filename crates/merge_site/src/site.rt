@@ -3,8 +3,8 @@ ghost use Rattle.std.specs.Prelude.{Ok, Some, IfOk, IfErr, IsErr, IsTrue, OnErr,
 ghost use Rattle.std.specs.Prelude.{is_ok, length};
 ghost use Rattle.file_tree.specs.Disk.{CountsFault};
 ghost use Rattle.file_tree.specs.ObjectValue.{plain};
-ghost use Rattle.journal.specs.Judging.{IsStaged};
-ghost use Rattle.journal.specs.Names.{stage_path};
+ghost use Rattle.merge_journal.specs.Judging.{IsStaged};
+ghost use Rattle.merge_journal.specs.Names.{stage_path};
 ghost use Rattle.merge_record.specs.Spelling.{IsSpellable, spelling};
 ghost use Rattle.merge_core.specs.Core.{standing_in};
 ghost use Rattle.merge_core.specs.Event.{Admits, Claim, PutRecord, PutStage, answered};

@@ -18,15 +18,15 @@
 
 mod told;
 
-use asked_lines::{answer_each, cut, exit_of, not_in_form};
+use ask_lines::{answer_each, cut, exit_of, not_in_form};
+use ask_trees::{number_of, objects_of};
 use file_tree::TreeFault;
-use offer_read::{Offers, OffersFault, read_offers};
 use std::alloc::{AllocError, Global};
 use std::io;
 use std::process::ExitCode;
 use told::told;
-use tree_lines::{number_of, objects_of};
 use tree_mem::MemTree;
+use visible_set::{Offers, OffersFault, read_offers};
 
 fn main(rt: HostRuntime) -> ExitCode {
     exit_of(answer_each(&rt, rt.alloc(), answer))

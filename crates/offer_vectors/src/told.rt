@@ -1,12 +1,12 @@
 //! What is offered, as the fields of a line.
 
-use candidate_set::Reason as Visibility;
+use ask_trees::push_between;
 use dep_atom::PackageId;
-use offer_flags::Candidate;
-use offer_read::{Offers, Reason};
 use pms_names::Flags;
 use std::alloc::{AllocError, Global};
-use tree_lines::push_between;
+use visible_offers::Candidate;
+use visible_set::{Offers, Reason};
+use visible_verdicts::Reason as Visibility;
 
 /// The offers, in the order of the answer.
 pub(crate) fn told(alloc: Global, offers: &Offers) -> Result<String, AllocError> {

@@ -8,7 +8,7 @@ use Rattle.dep_atom.specs.Cuts.{is_plain}
 use Rattle.dep_atom.proofs.Plain.{ArePlain, plain-append, plain_name, plain_version}
 use Rattle.dep_atom.specs.Ids.{IsId, id_text, name_and_version}
 use Rattle.dep_atom.specs.declared.package.PackageId.{PackageId}
-use Rattle.version_text.specs.Grammar.{spelling}
+use Rattle.pms_grammar.specs.Grammar.{spelling}
 use Rattle.plan_text.specs.Spelled.{Lacks, SplitsAt}
 
 pub splits_at : (c : ℕ) (bs : List ℕ) (r : Option (Bor (List ℕ) × Bor (List ℕ))) → IsSplitOnceResult c bs r → c < 128 → SplitsAt c bs r

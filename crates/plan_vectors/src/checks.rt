@@ -6,13 +6,13 @@ ghost use Rattle.plan_text.specs.Texts.{IsPlan};
 use crate::groups::plan;
 use crate::reading::packages;
 use crate::refused::refused_text;
-use asked_lines::{cut, unescaped};
+use ask_lines::{cut, unescaped};
 use pkg_state::Pkg;
 use plan_check::{Asked, check};
-use plan_link::{asks_of, link};
 use plan_lives::Plan;
+use plan_model::{asks_of, link};
+use plan_repair::check_repair;
 use plan_rules::PlanRefused;
-use repair_check::check_repair;
 use std::alloc::Global;
 
 /// `ok`, or the rule that is broken.

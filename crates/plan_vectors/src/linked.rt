@@ -7,8 +7,8 @@ use crate::answers::{push_id, push_number};
 use crate::refused::push_one_in;
 use choice_tree::CLASSES;
 use pkg_state::{Class, Pkg};
-use plan_link::LinkFault;
 use plan_lives::{Group, Plan, Removal};
+use plan_model::LinkFault;
 use pms_names::Flags;
 use std::alloc::{AllocError, Global};
 

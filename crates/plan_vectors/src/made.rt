@@ -7,12 +7,12 @@ use crate::linked::push_package;
 use crate::reading::packages;
 use crate::search::resolve_over;
 use crate::universes::atoms;
-use asked_lines::cut;
+use ask_lines::cut;
 use choice_tree::{Offer, Universe};
+use choice_universe::{Candidate, make_universe};
 use dep_atom::Atom;
 use pkg_state::{Pkg, first_twins};
 use std::alloc::{AllocError, Global};
-use universe_make::{Candidate, make_universe};
 
 fn candidates(alloc: Global, text: &str) -> Option<Vec<Candidate>> {
     let mut all = Vec::new(alloc);

@@ -30,7 +30,7 @@ mod refused;
 mod search;
 mod universes;
 
-use asked_lines::{answer_each, cut, escaped, exit_of};
+use ask_lines::{answer_each, cut, escaped, exit_of};
 use std::alloc::Global;
 use std::io;
 use std::process::ExitCode;

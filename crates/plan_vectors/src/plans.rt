@@ -3,10 +3,10 @@
 use crate::linked::{fault_text, plan_text};
 use crate::reading::packages;
 use crate::refused::refused_text;
-use asked_lines::{cut, unescaped};
+use ask_lines::{cut, unescaped};
 use pkg_state::Pkg;
-use plan_link::{LinkFault, PlanFault, judge_plan, link};
 use plan_lives as lives;
+use plan_model::{LinkFault, PlanFault, judge_plan, link};
 use plan_text::{Plan, PlanTextFault};
 use std::alloc::{AllocError, Global};
 

@@ -6,7 +6,7 @@
 
 use crate::answers::push_number;
 use crate::universes::universe;
-use asked_lines::cut;
+use ask_lines::cut;
 use choice_tree::{Choice, Decision, Obligation, Universe, Value};
 use choice_walk::{first_open, options};
 use resolver::{ResolveFault, resolve};

@@ -4,7 +4,7 @@
 //! comma between two; where one is installed it stands before them, behind `+`.
 
 use crate::reading::{package, packages};
-use asked_lines::cut;
+use ask_lines::cut;
 use choice_tree::{Offer, Universe};
 use dep_atom::Atom;
 use pkg_state::Pkg;

@@ -6,7 +6,7 @@ use Rattle.pms_names.specs.declared.kind.Kind.TheVariants.{Category, Package, Sl
 use Rattle.pms_names.specs.declared.fault.NameFault.{NameFault}
 use Rattle.pms_names.specs.declared.fault.NameFault.TheVariants.{Empty, BadChar, BadStart, EndsLikeVersion, TooLong, Memory}
 use Rattle.pms_names.specs.Bytes.{hyphen, may_contain, begins_badly}
-use Rattle.version_text.specs.Grammar.{IsVersionText}
+use Rattle.pms_grammar.specs.Grammar.{IsVersionText}
 
 -- names have some bytes, and not too many
 pub record HasNameLength (bytes : List ℕ) : Type 0 where

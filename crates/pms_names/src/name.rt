@@ -160,7 +160,7 @@ fn ends_in_version(bytes: &[u8]) -> bool
     ensures { IsTrue result ↔ EndsInVersion bytes.now }
 {
     for (i, b) in bytes.iter().enumerate() {
-        if *b == b'-' && version_text::is_version(&bytes[i + 1..]) {
+        if *b == b'-' && pms_grammar::is_version(&bytes[i + 1..]) {
             return true;
         }
     }

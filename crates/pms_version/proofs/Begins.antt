@@ -6,7 +6,7 @@ use Rattle.std.specs.Cmp.Lexicographic.{slice_cmp}
 use Rattle.std.proofs.Common.{◌≡◌, ◌∙◌, ℕ, List, [], ◌∷◌, length, refl, ap}
 use Rattle.std.proofs.lemmas.Bool.{and_from, or_right, eq-eqb}
 use Rattle.std.proofs.lemmas.Cmp.{tied_itself, nat_cmp_total, nat_list_cmp_total}
-use Rattle.version_text.specs.Grammar.{IsInteger, SuffixValue, VersionValue, IsVersion}
+use Rattle.pms_grammar.specs.Grammar.{IsInteger, SuffixValue, VersionValue, IsVersion}
 use Rattle.pms_version.specs.Order.{is_empty, decimal, integer_cmp, later_number_cmp, rank, version_cmp}
 use Rattle.pms_version.specs.Keys.{later_key}
 use Rattle.pms_version.specs.Begins.{numbers_begin, suffix_begins, suffixes_begin, ends_in_number, letter_and_suffixes_begin, version_begins}

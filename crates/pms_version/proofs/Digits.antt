@@ -4,9 +4,9 @@ use Rattle.std.proofs.Common.{◌≡◌, ◌∙◌, ℕ, zero, suc, ◌+◌, ◌
 use Rattle.std.proofs.Math.Nat.{pow-succ'}
 use Rattle.std.proofs.lemmas.List.{take_more}
 use Rattle.std.proofs.lemmas.List.Sums.{fold-append}
-use Rattle.version_text.proofs.Bytes.{digit_range}
+use Rattle.pms_grammar.proofs.Bytes.{digit_range}
 use Rattle.basics.specs.Bytes.{is_digit}
-use Rattle.version_text.specs.Grammar.{AreDigits}
+use Rattle.pms_grammar.specs.Grammar.{AreDigits}
 use Rattle.pms_version.specs.Order.{decimal}
 
 pub is_digit-at : (ds : List ℕ) (i : ℕ) → AreDigits ds → i < length ds → is_digit (get_or ds i 0) ≡ true

@@ -6,8 +6,8 @@ use Rattle.std.proofs.lemmas.Bool.{both_ways, cases_lt, eqb-false}
 use Rattle.std.proofs.lemmas.List.{take-append-drop, take-take, get_or-drop}
 use Rattle.std.proofs.lemmas.List.Sums.{prefix_len_passes, prefix_len_stops, prefix_len-le-length}
 use Rattle.basics.specs.Bytes.{is_digit}
-use Rattle.version_text.proofs.Stops.{stops_no_version}
-use Rattle.version_text.specs.Grammar.{IsInteger, VersionValue, IsVersion, IsVersionText, BeginsVersion, StopsAt, spell_number, spell_ending, spelling}
+use Rattle.pms_grammar.proofs.Stops.{stops_no_version}
+use Rattle.pms_grammar.specs.Grammar.{IsInteger, VersionValue, IsVersion, IsVersionText, BeginsVersion, StopsAt, spell_number, spell_ending, spelling}
 use Rattle.pms_version.specs.Limits.{digit_count, HasShortNumbers, IsReadable}
 use Rattle.pms_version.specs.Reading.{IsShortBefore, FirstFault}
 use Rattle.pms_version.specs.declared.fault.VersionFault.{VersionFault}

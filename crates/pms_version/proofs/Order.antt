@@ -10,10 +10,10 @@ use Rattle.std.proofs.Common.{◌≡◌, ◌∙◌, ℕ, ◌<◌, ◌≤◌, inl
 use Rattle.std.proofs.lemmas.Bool.{cases_Bool, eqb-true, eqb-false}
 use Rattle.std.proofs.lemmas.Bool.Decides.{nat_tests}
 use Rattle.std.proofs.lemmas.Cmp.{then_total, on_total, lists_total, nat_cmp_total, nat_list_cmp_total, tied_itself}
-use Rattle.version_text.proofs.Bytes.{digit_range}
+use Rattle.pms_grammar.proofs.Bytes.{digit_range}
 use Rattle.basics.specs.Bytes.{is_digit}
-use Rattle.version_text.specs.Grammar.{IsInteger, SuffixKind, SuffixValue, VersionValue, IsVersion}
-use Rattle.version_text.specs.Grammar.SuffixKind.{Alpha, Beta, Pre, Rc, P}
+use Rattle.pms_grammar.specs.Grammar.{IsInteger, SuffixKind, SuffixValue, VersionValue, IsVersion}
+use Rattle.pms_grammar.specs.Grammar.SuffixKind.{Alpha, Beta, Pre, Rc, P}
 use Rattle.pms_version.specs.Order.{is_empty, decimal, integer_cmp, trim_zeros, later_number_cmp, rank, suffixes_cmp, version_cmp}
 use Rattle.pms_version.specs.Keys.{later_key, suffix_key, key_cmp}
 use Rattle.basics.proofs.Texts.{then-Equal, nat_cmp-greater}

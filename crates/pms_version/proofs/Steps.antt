@@ -4,11 +4,11 @@ use Rattle.std.specs.List.{AllByRecursion, flat_map}
 use Rattle.std.proofs.Common.{◌≡◌, ◌∙◌, ℕ, ◌+◌, ◌<◌, ◌≤◌, inl, inr, List, [], ◌∷◌, ◌++◌, length, drop, get_or, refl, sym, ap, subst, arith, append_assoc, append-nil, length-append, length-drop, ◌-◌}
 use Rattle.std.proofs.lemmas.List.{drop-drop}
 use Rattle.std.proofs.lemmas.Bool.{both_ways}
-use Rattle.version_text.proofs.Bytes.{below_is_no_lower}
-use Rattle.version_text.proofs.Unique.{Behind, BehindSuffix, behind_suffix, behind_numbers, behind_number, suffix_is_no_digit, behind_is_no_digit, digits_apart, kind_at-word, all_digits, shift_suffix}
+use Rattle.pms_grammar.proofs.Bytes.{below_is_no_lower}
+use Rattle.pms_grammar.proofs.Unique.{Behind, BehindSuffix, behind_suffix, behind_numbers, behind_number, suffix_is_no_digit, behind_is_no_digit, digits_apart, kind_at-word, all_digits, shift_suffix}
 use Rattle.basics.specs.Bytes.{is_digit, is_lower}
-use Rattle.version_text.specs.Grammar.{AreDigits, IsInteger, IsLetter, SuffixKind, SuffixValue, VersionValue, IsVersion, kind_at, word, spell_number, spell_suffix, spell_revision, spell_ending, spelling}
-use Rattle.version_text.specs.Grammar.SuffixKind.{Alpha, Beta, Pre, Rc, P}
+use Rattle.pms_grammar.specs.Grammar.{AreDigits, IsInteger, IsLetter, SuffixKind, SuffixValue, VersionValue, IsVersion, kind_at, word, spell_number, spell_suffix, spell_revision, spell_ending, spelling}
+use Rattle.pms_grammar.specs.Grammar.SuffixKind.{Alpha, Beta, Pre, Rc, P}
 use Rattle.pms_version.specs.Limits.{digit_count, HasShortNumbers, IsReadable}
 use Rattle.pms_version.specs.Steps.{AreSuffixes, EndsNumbers, ReadsNumbers, HasReadNumbers, HasReadLetter, ReadsSuffixes, HasReadSuffixes}
 

@@ -3,7 +3,7 @@
 use Rattle.std.specs.Prelude.{ℕ, Bool, true, false, ◌&&◌, ◌||◌, ◌==◌, if◌then◌else◌, List, [], ◌∷◌, length}
 use Rattle.std.specs.Ordering.{nat_cmp, is_eq}
 use Rattle.std.specs.Cmp.Lexicographic.{slice_cmp}
-use Rattle.version_text.specs.Grammar.{SuffixValue, VersionValue}
+use Rattle.pms_grammar.specs.Grammar.{SuffixValue, VersionValue}
 use Rattle.pms_version.specs.Order.{is_empty, integer_cmp, later_number_cmp, version_cmp, rank}
 
 -- the numbers written are the candidate's first ones

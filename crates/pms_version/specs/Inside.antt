@@ -1,6 +1,6 @@
 -- What a contract sees of the structs.
-use Rattle.version_text.specs.Grammar.{SuffixKind}
-use Rattle.version_text.specs.Grammar.SuffixKind.{Alpha as AlphaKind, Beta as BetaKind, Pre as PreKind, Rc as RcKind, P as PKind}
+use Rattle.pms_grammar.specs.Grammar.{SuffixKind}
+use Rattle.pms_grammar.specs.Grammar.SuffixKind.{Alpha as AlphaKind, Beta as BetaKind, Pre as PreKind, Rc as RcKind, P as PKind}
 use Rattle.pms_version.specs.declared.suffix.Kind.{Kind}
 use Rattle.pms_version.specs.declared.suffix.Kind.TheVariants.{Alpha, Beta, Pre, Rc, P}
 

@@ -3,7 +3,7 @@ use Rattle.std.specs.Prelude.{ℕ, if◌then◌else◌, List, [], ◌∷◌, map
 use Rattle.std.specs.Ordering.{nat_cmp, ordering_then}
 use Rattle.std.specs.declared.cmp.Ordering.{Ordering}
 use Rattle.std.specs.Cmp.Lexicographic.{slice_cmp}
-use Rattle.version_text.specs.Grammar.{SuffixValue, VersionValue}
+use Rattle.pms_grammar.specs.Grammar.{SuffixValue, VersionValue}
 use Rattle.pms_version.specs.Order.{decimal, begins_zero, trim_zeros, rank}
 
 -- 0 and the trimmed digits where the number begins with a zero, else 1 and the number

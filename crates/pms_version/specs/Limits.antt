@@ -3,7 +3,7 @@ use Rattle.std.specs.Prelude.{ℕ, ◌≤◌, List, length, drop}
 use Rattle.std.specs.List.{prefix_len}
 use Rattle.basics.specs.Bytes.{is_digit}
 use Rattle.pms_version.specs.declared.limits.TheConstants.{MOST_BYTES, MOST_DIGITS}
-use Rattle.version_text.specs.Grammar.{VersionValue, IsVersion, spelling}
+use Rattle.pms_grammar.specs.Grammar.{VersionValue, IsVersion, spelling}
 
 -- how many digits stand at the beginning
 abbrev pub digit_count : List ℕ → ℕ

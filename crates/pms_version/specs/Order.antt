@@ -5,8 +5,8 @@ use Rattle.std.specs.Ordering.{nat_cmp, ordering_then}
 use Rattle.std.specs.declared.cmp.Ordering.{Ordering}
 use Rattle.std.specs.declared.cmp.Ordering.TheVariants.{Equal}
 use Rattle.std.specs.Cmp.Lexicographic.{slice_cmp}
-use Rattle.version_text.specs.Grammar.{SuffixKind, SuffixValue, VersionValue}
-use Rattle.version_text.specs.Grammar.SuffixKind.{Alpha, Beta, Pre, Rc, P}
+use Rattle.pms_grammar.specs.Grammar.{SuffixKind, SuffixValue, VersionValue}
+use Rattle.pms_grammar.specs.Grammar.SuffixKind.{Alpha, Beta, Pre, Rc, P}
 
 -- the number that digits write; 0 where none are written
 abbrev pub decimal : List ℕ → ℕ

@@ -1,7 +1,7 @@
 -- The first fault of a text that is no version within the limits.
 use Rattle.std.specs.Prelude.{ℕ, ◌≡◌, ◌+◌, ◌<◌, ◌≤◌, List, length, take, drop, ⊤}
 use Rattle.pms_version.specs.declared.limits.TheConstants.{MOST_BYTES, MOST_DIGITS}
-use Rattle.version_text.specs.Grammar.{BeginsVersion, StopsAt}
+use Rattle.pms_grammar.specs.Grammar.{BeginsVersion, StopsAt}
 use Rattle.pms_version.specs.Limits.{digit_count}
 use Rattle.pms_version.specs.declared.fault.VersionFault.{VersionFault}
 use Rattle.pms_version.specs.declared.fault.VersionFault.TheVariants.{Empty, BadChar, TooManyDigits, TooLong, Memory}

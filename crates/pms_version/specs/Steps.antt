@@ -2,7 +2,7 @@
 use Rattle.std.specs.Prelude.{ℕ, ◌≡◌, false, List, [], ◌++◌, slice_index}
 use Rattle.std.specs.List.{AllByRecursion, flat_map}
 use Rattle.basics.specs.Bytes.{is_digit}
-use Rattle.version_text.specs.Grammar.{AreDigits, IsInteger, IsLetter, SuffixValue, spell_number, spell_ending}
+use Rattle.pms_grammar.specs.Grammar.{AreDigits, IsInteger, IsLetter, SuffixValue, spell_number, spell_ending}
 
 -- neither a number nor a further number goes on here
 pub record EndsNumbers (after : List ℕ) : Type 0 where

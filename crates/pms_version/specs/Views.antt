@@ -1,7 +1,7 @@
 -- What a contract sees of a version.
 use Rattle.std.specs.Prelude.{◌≡◌}
 use Rattle.std.specs.Option.{option_to_list}
-use Rattle.version_text.specs.Grammar.{VersionValue, spelling}
+use Rattle.pms_grammar.specs.Grammar.{VersionValue, spelling}
 use Rattle.pms_version.specs.Limits.{IsReadable}
 use Rattle.pms_version.specs.declared.version.Version.TheInside.{Inside}
 

@@ -3,12 +3,12 @@ ghost use Rattle.pms_version.specs.Reading.{FirstFault, IsShortBefore};
 ghost use Rattle.pms_version.specs.declared.fault.VersionFault.TheVariants.{Memory};
 ghost use Rattle.std.specs.Prelude.{◌≢◌, ◌+◌, ◌<◌, ◌≤◌, IfErr, IfNone, IfSome, OnOk, drop, length};
 ghost use Rattle.basics.specs.Bytes.{is_digit};
-ghost use Rattle.version_text.specs.Grammar.{IsVersionText};
+ghost use Rattle.pms_grammar.specs.Grammar.{IsVersionText};
 
 use crate::fault::VersionFault;
 use crate::limits::{MOST_BYTES, MOST_DIGITS};
 use basics::is_digit;
-use version_text::version_stop;
+use pms_grammar::version_stop;
 
 /// Is the text a version's, within the limits? Takes no memory.
 pub fn check(bytes: &[u8]) -> Result<(), VersionFault>

@@ -9,7 +9,7 @@ ghost use Rattle.std.specs.Cmp.{IsTotalOrder};
 ghost use Rattle.std.specs.Ordering.{ordering_reverse};
 ghost use Rattle.std.specs.Prelude.{◌≡◌, List, true, ℕ};
 ghost use Rattle.std.specs.declared.cmp.Ordering.TheVariants.{Equal, Less};
-ghost use Rattle.version_text.specs.Grammar.{IsVersion, VersionValue, spelling};
+ghost use Rattle.pms_grammar.specs.Grammar.{IsVersion, VersionValue, spelling};
 
 /// A law: the order of versions is total, up to versions that are equal in it.
 pub fn order_is_total()

@@ -2,7 +2,7 @@ ghost use Rattle.pms_version.specs.declared.limits.TheConstants.{MOST_DIGITS};
 ghost use Rattle.pms_version.specs.Order.{begins_zero, decimal, integer_cmp, is_empty};
 ghost use Rattle.pms_version.specs.Order.{later_number_cmp, trim_zeros};
 ghost use Rattle.std.specs.Prelude.{◌≡◌, ◌≤◌, IfOk, length, not};
-ghost use Rattle.version_text.specs.Grammar.{AreDigits};
+ghost use Rattle.pms_grammar.specs.Grammar.{AreDigits};
 
 use std::alloc::{AllocError, Global};
 use std::cmp::Ordering;

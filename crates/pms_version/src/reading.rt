@@ -6,9 +6,9 @@ ghost use Rattle.std.specs.Option.{option_to_list};
 ghost use Rattle.std.specs.Prelude.{◌≡◌, ◌≤◌, ◌++◌, IfOk, List, drop, false, length, slice_index};
 ghost use Rattle.std.specs.Prelude.{ℕ};
 ghost use Rattle.basics.specs.Bytes.{is_digit, is_lower};
-ghost use Rattle.version_text.specs.Grammar.{AreDigits, IsVersion, IsVersionText, VersionValue};
-ghost use Rattle.version_text.specs.Grammar.{kind_at};
-ghost use Rattle.version_text.specs.Grammar.{spell_revision, spelling, word};
+ghost use Rattle.pms_grammar.specs.Grammar.{AreDigits, IsVersion, IsVersionText, VersionValue};
+ghost use Rattle.pms_grammar.specs.Grammar.{kind_at};
+ghost use Rattle.pms_grammar.specs.Grammar.{spell_revision, spelling, word};
 
 use crate::number::Number;
 use crate::suffix::{Kind, Suffix};

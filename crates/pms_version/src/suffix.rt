@@ -43,7 +43,7 @@ pub struct Suffix {
 
 impl Model for Suffix {
     ghost use Rattle.pms_version.specs.Inside.{kind_of};
-    ghost use Rattle.version_text.specs.Grammar.{SuffixValue};
+    ghost use Rattle.pms_grammar.specs.Grammar.{SuffixValue};
 
     ghost Value = { SuffixValue };
 

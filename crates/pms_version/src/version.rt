@@ -8,7 +8,7 @@ ghost use Rattle.pms_version.specs.declared.fault.VersionFault.TheVariants.{Memo
 ghost use Rattle.std.specs.Cmp.Lexicographic.{slice_cmp};
 ghost use Rattle.std.specs.Ordering.{is_eq};
 ghost use Rattle.std.specs.Prelude.{◌≡◌, IfErr, IfOk, MatchResult};
-ghost use Rattle.version_text.specs.Grammar.{VersionValue, spelling};
+ghost use Rattle.pms_grammar.specs.Grammar.{VersionValue, spelling};
 
 use crate::check::check;
 use crate::fault::VersionFault;
@@ -32,7 +32,7 @@ pub struct Version {
 }
 
 impl Model for Version {
-    ghost use Rattle.version_text.specs.Grammar.{VersionValue};
+    ghost use Rattle.pms_grammar.specs.Grammar.{VersionValue};
 
     ghost Value = { VersionValue };
 

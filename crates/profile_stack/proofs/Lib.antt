@@ -1,8 +1,1 @@
-pub mod Followed
-pub mod Listed
-pub mod Members
-pub mod Once
-pub mod Places
-pub mod Standing
-pub mod Steps
-pub mod Variables
+pub mod UserLemmas

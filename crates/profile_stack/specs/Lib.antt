@@ -1,9 +1,1 @@
-pub mod Begins
-pub mod Defaults
-pub mod Folders
-pub mod LineFiles
-pub mod Machine
-pub mod Parents
-pub mod Places
-pub mod Stacks
-pub mod Texts
+pub mod Files

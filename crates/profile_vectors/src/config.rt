@@ -1,10 +1,10 @@
 //! What is configured, as the fields of a line.
 
+use ask_trees::push_between;
 use config_text::Assignment;
-use profile_read::Item;
+use profile_lines::Item;
+use profile_stack::UserConfig;
 use std::alloc::{AllocError, Global};
-use tree_lines::push_between;
-use user_read::UserConfig;
 
 /// All that is configured.
 pub(crate) fn told(alloc: Global, config: &UserConfig) -> Result<String, AllocError> {

@@ -1,8 +1,8 @@
 //! The faults of a configuration.
 
 use file_tree::{Path, TreeFault};
-use profile_read::ReadFault;
-use profile_stack::ProfileFault;
+use profile_folders::ProfileFault;
+use profile_lines::ReadFault;
 use std::alloc::{AllocError, Global};
 
 /// The name of the fault, and where it is.

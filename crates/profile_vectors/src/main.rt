@@ -19,17 +19,17 @@
 mod config;
 mod faults;
 
-use asked_lines::{answer_each, cut, escaped, exit_of, not_in_form};
+use ask_lines::{answer_each, cut, escaped, exit_of, not_in_form};
+use ask_trees::{number_of, objects_of};
 use config::told;
 use faults::fault_text;
 use file_tree::Path;
-use profile_read::{ReadFault, read};
+use profile_lines::{ReadFault, read};
+use profile_stack::{MAKE_PROFILE, UserConfig, read_user};
 use std::alloc::{AllocError, Global};
 use std::io;
 use std::process::ExitCode;
-use tree_lines::{number_of, objects_of};
 use tree_mem::MemTree;
-use user_read::{MAKE_PROFILE, UserConfig, read_user};
 
 fn main(rt: HostRuntime) -> ExitCode {
     exit_of(answer_each(&rt, rt.alloc(), answer))

@@ -8,16 +8,16 @@ use Rattle.basics.proofs.Membership.{has-append_cases}
 use Rattle.file_tree.specs.Disk.{Disk, Map, Moves, Story}
 use Rattle.file_tree.specs.Paths.{is_below}
 use Rattle.merge_record.specs.RecordValue.{RecordValue}
-use Rattle.journal.specs.Judging.{are_free, footprint, judged, judged_all, judged_open, ◌>>=◌}
-use Rattle.journal.specs.Names.{jobs}
-use Rattle.journal.specs.Open.{open_groups}
-use Rattle.journal.specs.declared.fault.JudgeFault.{JudgeFault}
-use Rattle.journal.proofs.Form.{bind_ok, judged_words}
+use Rattle.merge_journal.specs.Judging.{are_free, footprint, judged, judged_all, judged_open, ◌>>=◌}
+use Rattle.merge_journal.specs.Names.{jobs}
+use Rattle.merge_journal.specs.Open.{open_groups}
+use Rattle.merge_journal.specs.declared.fault.JudgeFault.{JudgeFault}
+use Rattle.merge_journal.proofs.Form.{bind_ok, judged_words}
 use Rattle.merge_core.specs.Recovery.{Asked, Recovers, found_content, redo, with_placed, with_redone, with_removed}
 use Rattle.merge_core.proofs.Redo.{form_found, judged_opens}
 use Rattle.merge_core.proofs.Redone.{redone_reads}
 use Rattle.merge_core.specs.Roll.{stood}
-use Rattle.journal.specs.Names.{stage_path}
+use Rattle.merge_journal.specs.Names.{stage_path}
 use Rattle.std.proofs.Common.{drop}
 use Rattle.merge_core.proofs.Walk.{redo_walks}
 use Rattle.recovery.proofs.Places.{free_outside}

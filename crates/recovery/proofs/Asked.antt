@@ -5,8 +5,8 @@ use Rattle.file_tree.specs.Disk.{Disk, Map, Moves, Story, write}
 use Rattle.file_tree.specs.Moments.{Leaves}
 use Rattle.file_tree.specs.ObjectValue.{ObjectValue}
 use Rattle.file_tree.proofs.Moments.{Runs, runs_move, runs_same}
-use Rattle.journal.specs.Judging.{path_of}
-use Rattle.journal.proofs.Free.{length-paths, path_at_map}
+use Rattle.merge_journal.specs.Judging.{path_of}
+use Rattle.merge_journal.proofs.Free.{length-paths, path_at_map}
 use Rattle.merge_record.specs.declared.record.Placement.{Placement}
 use Rattle.merge_core.specs.Recovery.{Asked}
 

@@ -5,12 +5,12 @@ use Rattle.basics.specs.Members.{Has}
 use Rattle.file_tree.specs.Disk.{Map, Story}
 use Rattle.file_tree.specs.ObjectValue.{ObjectValue}
 use Rattle.merge_record.specs.RecordValue.{RecordValue}
-use Rattle.journal.specs.Judging.{Misses, judged_all, judged_open}
-use Rattle.journal.specs.Names.{gate_path}
-use Rattle.journal.specs.Open.{IsRising, is_open, open_groups}
-use Rattle.journal.proofs.Opened.{Opens, open_groups_only, same_list}
-use Rattle.journal.specs.declared.fault.JudgeFault.{JudgeFault}
-use Rattle.journal.specs.declared.fault.JudgeFault.TheVariants as judge_faults
+use Rattle.merge_journal.specs.Judging.{Misses, judged_all, judged_open}
+use Rattle.merge_journal.specs.Names.{gate_path}
+use Rattle.merge_journal.specs.Open.{IsRising, is_open, open_groups}
+use Rattle.merge_journal.proofs.Opened.{Opens, open_groups_only, same_list}
+use Rattle.merge_journal.specs.declared.fault.JudgeFault.{JudgeFault}
+use Rattle.merge_journal.specs.declared.fault.JudgeFault.TheVariants as judge_faults
 use Rattle.recovery.specs.Faults.{judge_fault}
 use Rattle.recovery.specs.Found.{AreGates, AreOdd, HasTooManyGates, IsFound}
 use Rattle.recovery.specs.Promise.{IsFaultOf}

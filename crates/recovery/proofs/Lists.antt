@@ -16,8 +16,8 @@ use Rattle.std.proofs.lemmas.Slice.Eq.{bytes_eq-Decides}
 use Rattle.basics.specs.Members.{AreDistinct, Has}
 use Rattle.basics.proofs.Membership.{has-append_cases, has-append_left, has-append_right, contains-from_has, has-filter_back, has-at}
 use Rattle.basics.proofs.Each.{all_has}
-use Rattle.journal.specs.Names.{gate_path}
-use Rattle.journal.specs.Open.{IsRising}
+use Rattle.merge_journal.specs.Names.{gate_path}
+use Rattle.merge_journal.specs.Open.{IsRising}
 use Rattle.recovery.proofs.Places.{gates_same}
 
 -- ---- a loop over a list that makes another

@@ -5,12 +5,12 @@ use Rattle.basics.specs.Members.{Has}
 use Rattle.basics.proofs.Membership.{has-append_left, has-append_right, has-map}
 use Rattle.file_tree.specs.Paths.{is_below}
 use Rattle.merge_record.specs.RecordValue.{RecordValue}
-use Rattle.journal.specs.Judging.{are_free, footprint, path_of}
-use Rattle.journal.specs.Names.{gate_path, jobs, record_path}
-use Rattle.journal.specs.Names.Part.{Changes, Gate}
+use Rattle.merge_journal.specs.Judging.{are_free, footprint, path_of}
+use Rattle.merge_journal.specs.Names.{gate_path, jobs, record_path}
+use Rattle.merge_journal.specs.Names.Part.{Changes, Gate}
 use Rattle.merge_record.specs.declared.record.Placement.{Placement}
-use Rattle.journal.proofs.Form.{are_free-words}
-use Rattle.journal.proofs.Naming.{part_path-injective}
+use Rattle.merge_journal.proofs.Form.{are_free-words}
+use Rattle.merge_journal.proofs.Naming.{part_path-injective}
 use Rattle.merge_core.proofs.Paths.{below_and_not}
 use Rattle.std.proofs.lemmas.Bool.{or_parts}
 

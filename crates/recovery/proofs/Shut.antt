@@ -5,12 +5,12 @@ use Rattle.file_tree.specs.Disk.{Disk, Fixed, IsImage, Map, settled, write}
 use Rattle.file_tree.specs.Moments.{Leaves}
 use Rattle.file_tree.specs.Paths.{is_below}
 use Rattle.file_tree.specs.ObjectValue.{ObjectValue}
-use Rattle.journal.specs.Judging.{judged_all, judged_open}
-use Rattle.journal.specs.Names.{gate_path, jobs}
-use Rattle.journal.specs.Open.{is_open, open_groups}
-use Rattle.journal.specs.Recovered.{IsRecovered}
-use Rattle.journal.proofs.Opened.{Opens, open_groups_only}
-use Rattle.journal.proofs.Recovery.{recovered_is}
+use Rattle.merge_journal.specs.Judging.{judged_all, judged_open}
+use Rattle.merge_journal.specs.Names.{gate_path, jobs}
+use Rattle.merge_journal.specs.Open.{is_open, open_groups}
+use Rattle.merge_journal.specs.Recovered.{IsRecovered}
+use Rattle.merge_journal.proofs.Opened.{Opens, open_groups_only}
+use Rattle.merge_journal.proofs.Recovery.{recovered_is}
 use Rattle.merge_core.proofs.Images.{fixed_in}
 use Rattle.merge_core.proofs.Keeps.{fixed_write}
 use Rattle.recovery.specs.Found.{HasTooManyGates}

@@ -8,10 +8,10 @@ use Rattle.file_tree.specs.ObjectValue.{ObjectValue}
 use Rattle.merge_core.specs.Recovery.{with_placed, with_removed}
 use Rattle.merge_core.proofs.Keeps.{write_reads}
 use Rattle.merge_core.proofs.Paths.{file_below}
-use Rattle.journal.specs.Names.{jobs, stage_path}
-use Rattle.journal.specs.Names.Part.{Stage}
+use Rattle.merge_journal.specs.Names.{jobs, stage_path}
+use Rattle.merge_journal.specs.Names.Part.{Stage}
 use Rattle.merge_record.specs.declared.record.Placement.{Placement}
-use Rattle.journal.proofs.Form.{shift}
+use Rattle.merge_journal.proofs.Form.{shift}
 use Rattle.recovery.specs.Stages.{stages_from}
 use Rattle.recovery.proofs.Places.{journal_apart}
 

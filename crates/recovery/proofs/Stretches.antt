@@ -9,13 +9,13 @@ use Rattle.file_tree.specs.Moments.{Since}
 use Rattle.file_tree.specs.Paths.{is_below}
 use Rattle.file_tree.specs.ObjectValue.{ObjectValue}
 use Rattle.file_tree.proofs.Moments.{since_then, since_weaker}
-use Rattle.journal.specs.Group.{Group, covers}
+use Rattle.merge_journal.specs.Group.{Group, covers}
 use Rattle.merge_record.specs.RecordValue.{RecordValue}
-use Rattle.journal.specs.Judging.{are_free, footprint, is_in, judged_open}
-use Rattle.journal.specs.Names.{gate_path, jobs, record_path}
-use Rattle.journal.specs.Names.Part.{Gate}
-use Rattle.journal.specs.Open.{is_open, open_groups}
-use Rattle.journal.proofs.Form.{in_if_has}
+use Rattle.merge_journal.specs.Judging.{are_free, footprint, is_in, judged_open}
+use Rattle.merge_journal.specs.Names.{gate_path, jobs, record_path}
+use Rattle.merge_journal.specs.Names.Part.{Gate}
+use Rattle.merge_journal.specs.Open.{is_open, open_groups}
+use Rattle.merge_journal.proofs.Form.{in_if_has}
 use Rattle.merge_core.specs.Order.{IsFirm}
 use Rattle.merge_core.specs.Phase.{gate_owed}
 use Rattle.merge_core.specs.Recovery.{Asked, Recovers, RecoversOn, found_group, recovered, redo, redone, redone_phase, shut, with_removed}

@@ -3,7 +3,7 @@ use Rattle.std.specs.Prelude.{ℕ, List, [], ◌∷◌, Some}
 use Rattle.file_tree.specs.Disk.{Disk, write}
 use Rattle.file_tree.specs.ObjectValue.{ObjectValue, plain}
 use Rattle.merge_core.specs.Recovery.{empty_content}
-use Rattle.journal.specs.Names.{record_path}
+use Rattle.merge_journal.specs.Names.{record_path}
 use Rattle.merge_record.specs.Spelling.{spelling}
 
 -- the record of a group without paths

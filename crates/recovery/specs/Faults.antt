@@ -1,6 +1,6 @@
 -- The faults of the judge, as recovery tells them.
-use Rattle.journal.specs.declared.fault.JudgeFault.{JudgeFault}
-use Rattle.journal.specs.declared.fault.JudgeFault.TheVariants as judge_faults
+use Rattle.merge_journal.specs.declared.fault.JudgeFault.{JudgeFault}
+use Rattle.merge_journal.specs.declared.fault.JudgeFault.TheVariants as judge_faults
 use Rattle.recovery.specs.declared.fault.RecoverFault.{RecoverFault}
 use Rattle.recovery.specs.declared.fault.RecoverFault.TheVariants as faults
 

@@ -3,9 +3,9 @@ use Rattle.std.specs.Prelude.{◌≡◌, ◌↔◌, ◌<◌, ◌≤◌, ◌^◌,
 use Rattle.basics.specs.Members.{Has}
 use Rattle.file_tree.specs.Disk.{Map}
 use Rattle.merge_record.specs.RecordValue.{RecordValue}
-use Rattle.journal.specs.Judging.{judged_open}
-use Rattle.journal.specs.Names.{gate_path}
-use Rattle.journal.specs.Open.{IsRising, is_open, open_groups}
+use Rattle.merge_journal.specs.Judging.{judged_open}
+use Rattle.merge_journal.specs.Names.{gate_path}
+use Rattle.merge_journal.specs.Open.{IsRising, is_open, open_groups}
 use Rattle.recovery.specs.declared.limits.TheConstants.{MOST_GATES}
 
 -- the groups whose gate holds an object, rising

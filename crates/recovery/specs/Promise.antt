@@ -1,9 +1,9 @@
 -- What recovery promises.
 use Rattle.std.specs.Prelude.{◌≡◌, ⊤, Err}
 use Rattle.file_tree.specs.Disk.{Map}
-use Rattle.journal.specs.Judging.{judged_open}
-use Rattle.journal.specs.Recovered.{IsRecovered}
-use Rattle.journal.specs.declared.fault.JudgeFault.TheVariants as judge_faults
+use Rattle.merge_journal.specs.Judging.{judged_open}
+use Rattle.merge_journal.specs.Recovered.{IsRecovered}
+use Rattle.merge_journal.specs.declared.fault.JudgeFault.TheVariants as judge_faults
 use Rattle.recovery.specs.Found.{HasTooManyGates}
 use Rattle.recovery.specs.declared.fault.RecoverFault.{RecoverFault}
 use Rattle.recovery.specs.declared.fault.RecoverFault.TheVariants as faults

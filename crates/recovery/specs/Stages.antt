@@ -1,6 +1,6 @@
 -- The stages of one group in the journal.
 use Rattle.std.specs.Prelude.{ℕ, zero, suc, List, [], ◌∷◌}
-use Rattle.journal.specs.Names.{stage_path}
+use Rattle.merge_journal.specs.Names.{stage_path}
 
 -- a group by its number, and how many stages it has
 pub record StagePathsValue : Type 0 where

@@ -1,7 +1,7 @@
 ghost use Rattle.std.specs.Prelude.{◌≡◌, ℕ, List, map, IfOk, IsErrOf, IsTrue, OnOk};
 ghost use Rattle.file_tree.specs.Disk.{CountsFault, IsUntouched, Map};
 ghost use Rattle.file_tree.specs.Moments.{Since};
-ghost use Rattle.journal.specs.Names.{gate_path};
+ghost use Rattle.merge_journal.specs.Names.{gate_path};
 ghost use Rattle.merge_core.specs.Recovery.{RecoversOn, redo};
 ghost use Rattle.merge_core.specs.Roll.{stood};
 ghost use Rattle.recovery.specs.Phases.{IsRedone, IsShut, cleared};
@@ -9,7 +9,7 @@ ghost use Rattle.recovery.specs.Promise.{RecoversTo};
 
 use crate::changes::remove_all;
 use file_tree::{Path, Tree, TreeFault};
-use journal::{gate_path, jobs_folder};
+use merge_journal::{gate_path, jobs_folder};
 use std::alloc::{AllocError, Global};
 
 /// The gates of the groups.

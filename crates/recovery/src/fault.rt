@@ -1,5 +1,5 @@
 use file_tree::{Failed, TreeFault};
-use journal::JudgeFault;
+use merge_journal::JudgeFault;
 use std::alloc::{AllocError, AllocFailed};
 use thiserror::Error;
 

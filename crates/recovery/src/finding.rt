@@ -2,16 +2,16 @@ ghost use Rattle.std.specs.Prelude.{◌≡◌, ◌<◌, ◌^◌, ◌↔◌, [], 
 ghost use Rattle.std.specs.Prelude.{IsTrue};
 ghost use Rattle.basics.specs.Members.{AreDistinct, Has};
 ghost use Rattle.file_tree.specs.Disk.{CountsFault};
-ghost use Rattle.journal.specs.Judging.{AreApplicable};
-ghost use Rattle.journal.specs.Names.{gate_path};
-ghost use Rattle.journal.specs.Open.{IsRising, is_open};
+ghost use Rattle.merge_journal.specs.Judging.{AreApplicable};
+ghost use Rattle.merge_journal.specs.Names.{gate_path};
+ghost use Rattle.merge_journal.specs.Open.{IsRising, is_open};
 ghost use Rattle.recovery.specs.Found.{AreGates, IsFound};
 ghost use Rattle.recovery.specs.Promise.{IsFaultOf};
 
 use crate::fault::RecoverFault;
 use crate::limits::MOST_GATES;
 use file_tree::{Path, Tree, TreeFault};
-use journal::{gate_path, group_of_gate, is_open_gate, jobs_folder, judge_all};
+use merge_journal::{gate_path, group_of_gate, is_open_gate, jobs_folder, judge_all};
 use merge_record::Record;
 use std::alloc::{AllocError, Global};
 use std::marker::Model;

@@ -2,7 +2,7 @@ ghost use Rattle.std.specs.Prelude.{◌≡◌, IfOk, length};
 ghost use Rattle.recovery.specs.Stages.{stages_from};
 
 use file_tree::Path;
-use journal::stage_path;
+use merge_journal::stage_path;
 use std::alloc::{AllocError, Global};
 use std::marker::Model;
 

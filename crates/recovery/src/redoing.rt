@@ -1,12 +1,12 @@
 ghost use Rattle.std.specs.Prelude.{◌≡◌, ◌<◌, ◌^◌, [], ℕ, List, Ok, true, length, map, IfOk};
 ghost use Rattle.std.specs.Prelude.{IsErrOf, IsSome, IsTrue, OnOk};
 ghost use Rattle.file_tree.specs.Disk.{CountsFault, IsUntouched};
-ghost use Rattle.journal.specs.Judging.{are_free, footprint, judged_open};
-ghost use Rattle.journal.specs.Names.{record_path, stage_path};
+ghost use Rattle.merge_journal.specs.Judging.{are_free, footprint, judged_open};
+ghost use Rattle.merge_journal.specs.Names.{record_path, stage_path};
 ghost use Rattle.merge_core.specs.Recovery.{Asked, Recovers, redo, with_placed, with_removed};
 ghost use Rattle.merge_core.specs.Roll.{stood};
 ghost use Rattle.recovery.specs.Calls.{empty_record, emptied};
-ghost use Rattle.journal.specs.Judging.{AreApplicable};
+ghost use Rattle.merge_journal.specs.Judging.{AreApplicable};
 ghost use Rattle.recovery.specs.Found.{IsFound};
 ghost use Rattle.recovery.specs.Phases.{IsRedone};
 
@@ -14,7 +14,7 @@ use crate::changes::{place_all, remove_all};
 use crate::finding::Journal;
 use crate::paths::StagePaths;
 use file_tree::{Kind, Object, Tree, TreeFault};
-use journal::record_path;
+use merge_journal::record_path;
 use merge_record::{DecodeFault, Record, encode};
 use std::alloc::{AllocError, Global};
 

@@ -1,7 +1,7 @@
 ghost use Rattle.std.specs.Prelude.{◌≡◌, ◌⊎◌, IfErr, IfOk, IsErrOf, IsTrue, OnOk};
 ghost use Rattle.file_tree.specs.Disk.{CountsFault, IsImage, IsUntouched};
 ghost use Rattle.file_tree.specs.Moments.{Since};
-ghost use Rattle.journal.specs.Open.{open_groups};
+ghost use Rattle.merge_journal.specs.Open.{open_groups};
 ghost use Rattle.recovery.specs.Promise.{IsFaultOf, IsRefusal, RecoversAlike, RecoversTo};
 
 use crate::clearing::{clear_journal, remove_gates};

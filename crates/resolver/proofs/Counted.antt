@@ -4,7 +4,7 @@ use Rattle.basics.specs.Members.{Has}
 use Rattle.choice_law.specs.Solutions.{IsSolution}
 use Rattle.choice_law.specs.Tree.{Choice, decided}
 use Rattle.choice_law.specs.Universe.{Universe}
-use Rattle.tree_search.specs.Jumping.{LosesNothing}
+use Rattle.choice_search.specs.Jumping.{LosesNothing}
 use Rattle.resolver.specs.Answers.{IsTooMany, met}
 use Rattle.resolver.specs.Tree.{tree_shape}
 

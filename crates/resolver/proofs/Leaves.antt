@@ -10,9 +10,9 @@ use Rattle.choice_law.specs.Laws.{GoodLeavesAreSolutions, IsUniverse, SolutionsH
 use Rattle.choice_tree.specs.Open.{FirstOpenIsAPick, first_open}
 use Rattle.choice_tree.specs.Options.{options}
 use Rattle.choice_tree.proofs.Among.{options_all, options_are}
-use Rattle.tree_search.specs.Laws.{IsDeep}
-use Rattle.tree_search.specs.Leaves.{Leaf, dead, first_good, good, leaves, leaves_by, leaves_within}
-use Rattle.tree_search.proofs.Deep.{same_leaves}
+use Rattle.choice_search.specs.Laws.{IsDeep}
+use Rattle.choice_search.specs.Leaves.{Leaf, dead, first_good, good, leaves, leaves_by, leaves_within}
+use Rattle.choice_search.proofs.Deep.{same_leaves}
 use Rattle.choice_tree.specs.Tree.{free_lines, tree_options}
 use Rattle.resolver.specs.Tree.{tree_leaves}
 use Rattle.choice_tree.proofs.Smaller.{none_open, smaller, some_open}

@@ -5,9 +5,9 @@ use Rattle.choice_law.specs.Universe.{Filling, Universe}
 use Rattle.choice_law.specs.Laws.{Allows}
 use Rattle.choice_law.specs.Solutions.{IsSolution}
 use Rattle.choice_law.specs.Tree.{Choice, filling}
-use Rattle.tree_search.specs.Jumping.{IsPart}
-use Rattle.tree_search.specs.Leaves.{dead_before, first_good}
-use Rattle.tree_search.specs.Visit.{visit}
+use Rattle.choice_search.specs.Jumping.{IsPart}
+use Rattle.choice_search.specs.Leaves.{dead_before, first_good}
+use Rattle.choice_search.specs.Visit.{visit}
 use Rattle.resolver.specs.Tree.{tree_leaves, tree_shape}
 use Rattle.resolver.specs.declared.fault.ResolveFault.{ResolveFault}
 use Rattle.resolver.specs.declared.fault.ResolveFault.TheVariants.{BacktrackLimit, Memory, NoSolution}

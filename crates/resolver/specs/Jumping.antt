@@ -16,7 +16,7 @@ use Rattle.choice_tree.specs.Tree.{tree_options, tree_reason}
 use Rattle.choice_tree.proofs.Among.{options_all, options_are}
 use Rattle.choice_tree.proofs.Pick.{first_is_a_pick}
 use Rattle.choice_tree.proofs.Smaller.{none_open, smaller, some_open}
-use Rattle.tree_search.specs.Jumping.{IsJumping}
+use Rattle.choice_search.specs.Jumping.{IsJumping}
 use Rattle.resolver.specs.Nodes.{IsOfTree}
 use Rattle.resolver.specs.Tree.{tree_shape}
 

@@ -3,8 +3,8 @@ use Rattle.std.specs.Prelude.{Bool, List, [], is_some}
 use Rattle.choice_law.specs.Universe.{Universe}
 use Rattle.choice_law.specs.Tree.{Choice, decided}
 use Rattle.choice_tree.specs.Tree.{free_lines, tree_options, tree_reason}
-use Rattle.tree_search.specs.Leaves.{Leaf, leaves}
-use Rattle.tree_search.specs.Shape.{Shape}
+use Rattle.choice_search.specs.Leaves.{Leaf, leaves}
+use Rattle.choice_search.specs.Shape.{Shape}
 
 -- the options of each choice, and the decided lines on which it rests that something is open
 abbrev pub tree_shape : Bool → Universe → Shape Choice

@@ -4,17 +4,17 @@ ghost use Rattle.choice_law.specs.Tree.{decided};
 ghost use Rattle.choice_tree.specs.Views.{universe_of};
 ghost use Rattle.resolver.specs.Answers.{HasCause, IsChosen};
 ghost use Rattle.resolver.specs.Tree.{tree_shape};
-ghost use Rattle.tree_search.specs.Jumping.{LosesNothing};
-ghost use Rattle.tree_search.specs.Visit.{IsOutcome, visit};
+ghost use Rattle.choice_search.specs.Jumping.{LosesNothing};
+ghost use Rattle.choice_search.specs.Visit.{IsOutcome, visit};
 
 use crate::fault::ResolveFault;
 use crate::form::universe_is_plain;
 use crate::tree::Choices;
 use choice_law::{good_leaves_are_solutions, solutions_have_leaves};
+use choice_search::{Outcome, first_good, jumps_lose_nothing};
 use choice_tree::{Choice, Universe, first_open_is_a_pick};
 use choice_walk::Walk;
 use std::alloc::{AllocError, Global};
-use tree_search::{Outcome, first_good, jumps_lose_nothing};
 
 // What the jumps leave out is of no account.
 fn no_jump_loses(choices: &Choices<'_>)

@@ -1,7 +1,7 @@
+use choice_search::{Deciding, Tree};
 use choice_tree::{Choice, Step};
 use choice_walk::Walk;
 use std::alloc::{AllocError, Global};
-use tree_search::{Deciding, Tree};
 
 /// The choices of a universe, each with its options for what is first open of it.
 #[derive(Drop)]

@@ -1,3 +1,9 @@
-pub mod Packages
-pub mod Placed
-pub mod Rising
+mod Cuts
+mod Files
+mod Listed
+mod Owners
+mod Placed
+mod Record
+mod Steps
+mod Tidy
+mod Whole

@@ -1,2 +1,6 @@
-pub mod Contents
-pub mod Files
+pub mod Folders
+pub mod Telling
+pub mod Machine
+pub mod Owned
+pub mod Limits
+pub mod Faults

@@ -1,25 +1,33 @@
-//! The record of an installed package without flags and needs, as it is written into the database.
+//! The installed packages of a tree, read from its database.
 //!
-//! **A contract sees** a package's record as the files below `var/db/pkg`, and its CONTENTS as a list
-//! of lines.
+//! **A contract sees** a tree as its story, the files of a package's folder as the map of their
+//! texts, and an installed package as plain data.
 //!
-//! **Proved**: the files of a package's record are exactly those of the format, below the
-//! database's folder and each at its own path, with a line for each entry of the image in byte order
-//! of their paths.
+//! **Proved**: a tree's database is read exactly where its map has one within the limits in which no
+//! path has two owners or is above another, as just its packages in byte order of their folders.
+//! Else the first fault is told: that of the first folder in this order that tells no package, with
+//! the path of the folder or of the file; else that there are too many packages, or else too many
+//! owned paths; else the first path that two packages own, or that is above another.
+//! The tree is only read.
 //!
-//! **Only tested**: the files of a record with a known digest, and that with ample memory each is
-//! written.
+//! **Only tested**: that with ample memory a database is read, on rows for each kind of fault.
 //!
 //! ```
-//! let files = record_files(alloc, &facts, &image)?;
+//! let packages = read_database(alloc, &mut tree)?;
 //! ```
 #![tactic(auto)]
 
-mod files;
-mod laws;
-mod written;
+mod database;
+mod fault;
+mod folders;
+mod limits;
+mod owned;
+mod package;
+mod paths;
+mod texts;
 
-pub use files::{
-    DATABASE, id_is_one, path_of_database, path_of_package, path_of_record, record_files,
-};
-pub use laws::files_apart;
+pub use database::read_database;
+pub use fault::DatabaseFault;
+pub use folders::list_folders;
+pub use limits::MOST_PACKAGES;
+pub use texts::read_folder;

@@ -2,7 +2,7 @@
 
 use crate::{cut, yes_or_no};
 use dep_atom::{Atom, AtomFault, Bind, Facts, PackageId};
-use slot_value::SlotValue;
+use pms_slot::SlotValue;
 use std::alloc::{AllocError, Global};
 use use_flags::{Iuse, UseFault};
 

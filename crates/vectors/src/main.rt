@@ -13,7 +13,7 @@ mod settings;
 mod trees;
 mod versions;
 
-use asked_lines::{answer_each, exit_of, not_in_form};
+use ask_lines::{answer_each, exit_of, not_in_form};
 use percent_encoding::percent_decode;
 use std::alloc::{AllocError, Global};
 use std::io;

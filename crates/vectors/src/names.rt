@@ -2,7 +2,7 @@
 
 use crate::yes_or_no;
 use pms_names::{Category, Flag, NameFault, PackageName, SlotName, is_version_text};
-use slot_value::{SlotValue, print_slots};
+use pms_slot::{SlotValue, print_slots};
 use std::alloc::{AllocError, Global};
 
 pub(crate) fn category(alloc: Global, text: &str) -> Result<String, AllocError> {

@@ -2,11 +2,11 @@
 
 use crate::cut;
 use crate::flags::push_flags;
-use candidate_flags::{FlagRules, base_flags, variants};
 use pms_names::Flags;
 use required_use::RequiredUse;
 use std::alloc::{AllocError, Global};
 use use_flags::{Change, Iuse, changes};
+use visible_flags::{FlagRules, base_flags, variants};
 
 /// What the configuration says of the flags, with two layers of changes.
 #[derive(Drop)]

@@ -1,10 +1,10 @@
 //! Versions: read, compared, and matched by `=..*`.
 
 use crate::{cut, yes_or_no};
+use pms_grammar::{is_version, version_stop};
 use pms_version::Version;
 use std::alloc::{AllocError, Global};
 use std::cmp::Ordering;
-use version_text::{is_version, version_stop};
 
 /// The text of the version's copy.
 pub(crate) fn version(alloc: Global, text: &str) -> Result<String, AllocError> {

@@ -1,7 +1,7 @@
 use Rattle.std.proofs.Common.{ℕ, List, arith, inl, inr, subst}
 use Rattle.basics.specs.Members.{Has}
 use Rattle.basics.proofs.Membership.{has-map}
-use Rattle.group_run.specs.declared.turn.Turn.{Turn}
+use Rattle.merge_group.specs.declared.turn.Turn.{Turn}
 use Rattle.claim_costs.proofs.work.merge.Goals as goal
 
 pub merge_groups-tree-requires-clause-there : goal.merge_groups-tree-requires-clause-there

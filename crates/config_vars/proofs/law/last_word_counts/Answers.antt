@@ -1,5 +1,5 @@
 use Rattle.std.proofs.Common.{[]}
-use Rattle.profile_stack.proofs.Standing.{all_distinct, stands_exactly}
+use Rattle.profile_folders.proofs.Standing.{all_distinct, stands_exactly}
 use Rattle.config_vars.specs.Values.{since_clear, words_said}
 use Rattle.config_vars.proofs.Stacking.{behind_clear, uncleared}
 use Rattle.config_vars.proofs.law.last_word_counts.Goals as goal

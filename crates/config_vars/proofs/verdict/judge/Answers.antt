@@ -1,5 +1,5 @@
 use Rattle.std.proofs.Common.{◌∙◌, ap}
-use Rattle.profile_stack.proofs.Followed.{some_of}
+use Rattle.profile_folders.proofs.Followed.{some_of}
 use Rattle.config_vars.specs.Values.{expanded}
 use Rattle.config_vars.proofs.Judging.{bad_file, none_bad}
 use Rattle.config_vars.proofs.Stacking.{told}

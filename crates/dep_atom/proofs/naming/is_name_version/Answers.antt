@@ -1,4 +1,4 @@
-use Rattle.version_text.specs.Grammar.{IsVersionText}
+use Rattle.pms_grammar.specs.Grammar.{IsVersionText}
 use Rattle.dep_atom.proofs.Named.{then_in, then_of}
 use Rattle.dep_atom.proofs.naming.is_name_version.Goals as goal
 

@@ -1,7 +1,7 @@
 use Rattle.std.proofs.Common.{◌∙◌, ◌+◌, false, refl, sym, subst, take, drop}
 use Rattle.std.proofs.lemmas.Bool.{both_ways}
 use Rattle.std.specs.Prelude.{length}
-use Rattle.version_text.specs.Grammar.{IsVersionText}
+use Rattle.pms_grammar.specs.Grammar.{IsVersionText}
 use Rattle.pms_names.specs.Names.{IsName}
 use Rattle.pms_names.specs.declared.kind.Kind.TheVariants.{Package}
 use Rattle.dep_atom.proofs.Joined.{cut_at}

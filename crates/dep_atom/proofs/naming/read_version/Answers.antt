@@ -1,5 +1,5 @@
 use Rattle.std.proofs.lemmas.Str.{IsUtf8-from_ascii}
-use Rattle.version_text.specs.Grammar.{spelling}
+use Rattle.pms_grammar.specs.Grammar.{spelling}
 use Rattle.dep_atom.proofs.Plain.{plain_version, plain-ascii}
 use Rattle.dep_atom.proofs.naming.read_version.Goals as goal
 

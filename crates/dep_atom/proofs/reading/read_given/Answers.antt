@@ -1,6 +1,6 @@
 use Rattle.std.proofs.Common.{◌∙◌, ap}
 use Rattle.dep_atom.specs.declared.slot.SlotPart.TheVariants.{Given}
-use Rattle.slot_value.proofs.Parted.{writes_once}
+use Rattle.pms_slot.proofs.Parted.{writes_once}
 use Rattle.dep_atom.proofs.Once.{slot_once}
 use Rattle.dep_atom.proofs.reading.read_given.Goals as goal
 

@@ -1,5 +1,5 @@
 use Rattle.std.proofs.Common.{◌∙◌, ap, sym, refl, Some}
-use Rattle.version_text.specs.Grammar.{spelling}
+use Rattle.pms_grammar.specs.Grammar.{spelling}
 use Rattle.dep_atom.specs.Text.{name_text}
 use Rattle.dep_atom.proofs.Blame.{unstarred, starred}
 use Rattle.dep_atom.proofs.Named.{joined_once, name_is}

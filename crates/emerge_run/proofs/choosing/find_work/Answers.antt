@@ -1,16 +1,16 @@
 use Rattle.std.proofs.Common.{◌∙◌, Result, ap, refl, subst, sym}
 use Rattle.std.specs.Prelude.{IsErrAnd, Vec}
 use Rattle.std.specs.Global.{Global}
-use Rattle.database_law.specs.Packages.{Installed}
-use Rattle.opening.specs.Faults.{HasTooMuch}
+use Rattle.vdb_law.specs.Packages.{Installed}
+use Rattle.run_opening.specs.Faults.{HasTooMuch}
 use Rattle.file_tree.specs.declared.fault.TreeFault.TheVariants as trees
-use Rattle.plan_find.specs.Ends.{IsDeviceFailure}
-use Rattle.plan_find.specs.declared.ends.NoPlan.{NoPlan}
-use Rattle.plan_find.specs.declared.ends.NoPlan.TheVariants as ends
-use Rattle.plan_find.specs.declared.found.Found.{Found}
+use Rattle.emerge_find.specs.Ends.{IsDeviceFailure}
+use Rattle.emerge_find.specs.declared.ends.NoPlan.{NoPlan}
+use Rattle.emerge_find.specs.declared.ends.NoPlan.TheVariants as ends
+use Rattle.emerge_find.specs.declared.found.Found.{Found}
 use Rattle.emerge_run.specs.Openings.{AreInstalled}
 use Rattle.emerge_run.specs.Refusals.{status_of}
-use Rattle.run_status.specs.declared.status.Status.TheVariants as status
+use Rattle.merge_report.specs.declared.status.Status.TheVariants as status
 use Rattle.emerge_run.proofs.Found.{plan_early, plan_failed, plan_no_usage, plan_unread}
 use Rattle.emerge_run.proofs.Givens.{gives_all, gives_refused, installed}
 use Rattle.emerge_run.proofs.Promises.{counts_for, finds_none, finds_this}

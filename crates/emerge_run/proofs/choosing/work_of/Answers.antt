@@ -1,7 +1,7 @@
 use Rattle.std.proofs.Common.{◌≡◌, ◌∙◌, List, [], ap, map, refl, subst, sym}
 use Rattle.std.specs.Prelude.{All}
-use Rattle.plan_orders.specs.Orders.{HasRisingFlags}
-use Rattle.plan_orders.proofs.InForm.{plan_rises}
+use Rattle.run_orders.specs.Orders.{HasRisingFlags}
+use Rattle.run_orders.proofs.InForm.{plan_rises}
 use Rattle.plan_text.specs.Plans.{addition_value, group_value}
 use Rattle.plan_text.specs.declared.plan.Group.{Group as TextGroup}
 use Rattle.emerge_run.specs.Builds.{lines_from, orders_in}

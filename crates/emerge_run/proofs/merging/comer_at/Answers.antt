@@ -2,7 +2,7 @@ use Rattle.std.proofs.Common.{◌≡◌, ◌∙◌, ◌+◌, ◌-◌, ◌<◌, �
 use Rattle.std.specs.Prelude.{slice_get}
 use Rattle.pkg_state.specs.Package.{Package}
 use Rattle.plan_law.specs.Plans.{Group}
-use Rattle.plan_make.specs.Plans.{coming}
+use Rattle.run_turns.specs.Plans.{coming}
 use Rattle.emerge_run.specs.Collisions.{id_of_package}
 use Rattle.emerge_run.proofs.Owners.{comes_here, comes_later}
 use Rattle.emerge_run.proofs.merging.comer_at.Goals as goal

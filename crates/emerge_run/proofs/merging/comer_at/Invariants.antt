@@ -1,6 +1,6 @@
 use Rattle.std.proofs.Common.{◌≡◌, drop, map}
 use Rattle.std.specs.Prelude.{slice_get}
-use Rattle.plan_make.specs.Plans.{coming}
+use Rattle.run_turns.specs.Plans.{coming}
 use Rattle.emerge_run.specs.Collisions.{id_of_package}
 use Rattle.emerge_run.proofs.merging.comer_at.Given as goal
 

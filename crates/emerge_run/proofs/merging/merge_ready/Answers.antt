@@ -1,7 +1,7 @@
 use Rattle.std.proofs.Common.{List, length, subst}
-use Rattle.database_law.specs.Packages.{Installed}
+use Rattle.vdb_law.specs.Packages.{Installed}
 use Rattle.plan_law.specs.Plans.{Group}
-use Rattle.plan_run.specs.Merges.{MergesPlan}
+use Rattle.run_plan.specs.Merges.{MergesPlan}
 use Rattle.emerge_run.specs.Collisions.{ids_with}
 use Rattle.emerge_run.specs.Refusals.{IsStatusOf}
 use Rattle.emerge_run.proofs.Promises.{merges_task}

@@ -1,8 +1,8 @@
 use Rattle.std.proofs.Common.{◌≡◌, ◌∙◌, ◌<◌, ℕ, ap, arith, length, map, subst, sym, take}
 use Rattle.std.specs.Prelude.{All}
 use Rattle.std.proofs.lemmas.List.{length-map}
-use Rattle.plan_make.specs.Plans.{bytes_of_job}
-use Rattle.plan_orders.specs.Orders.{HasRisingFlags}
+use Rattle.run_turns.specs.Plans.{bytes_of_job}
+use Rattle.run_orders.specs.Orders.{HasRisingFlags}
 use Rattle.plan_text.specs.Plans.{addition_value, group_value}
 use Rattle.plan_text.specs.declared.plan.Group.{Group as TextGroup}
 use Rattle.emerge_run.specs.Builds.{ordered_of_job, orders_in}

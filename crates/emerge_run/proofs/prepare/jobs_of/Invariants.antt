@@ -1,5 +1,5 @@
 use Rattle.std.proofs.Common.{◌≡◌, map, take}
-use Rattle.plan_make.specs.Plans.{bytes_of_job}
+use Rattle.run_turns.specs.Plans.{bytes_of_job}
 use Rattle.plan_text.specs.Plans.{group_value}
 use Rattle.emerge_run.specs.Builds.{lines_from, ordered_of_job, orders_in}
 use Rattle.emerge_run.proofs.prepare.jobs_of.Given as goal

@@ -1,6 +1,6 @@
 use Rattle.std.proofs.Common.{map, subst, sym, true}
 use Rattle.std.specs.Prelude.{string_bytes}
-use Rattle.image_build.specs.Images.{IsBuilt}
+use Rattle.merge_image.specs.Images.{IsBuilt}
 use Rattle.emerge_run.specs.Commands.{RunsCommand}
 use Rattle.emerge_run.proofs.Headline.{headline_of}
 use Rattle.emerge_run.proofs.Promises.{runs_finished}

@@ -1,7 +1,7 @@
 use Rattle.std.proofs.Common.{ℕ, List, arith, inl, inr, subst}
 use Rattle.basics.specs.Members.{Has}
 use Rattle.basics.proofs.Membership.{has-map}
-use Rattle.group_run.specs.declared.turn.Turn.{Turn}
+use Rattle.merge_group.specs.declared.turn.Turn.{Turn}
 use Rattle.groups_in_memory.proofs.merged.merge_one.Goals as goal
 
 pub merge_groups-requires-clause-there : goal.merge_groups-requires-clause-there

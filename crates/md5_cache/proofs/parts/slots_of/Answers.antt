@@ -1,5 +1,5 @@
 use Rattle.std.proofs.Common.{◌∙◌}
-use Rattle.slot_value.specs.Reading.{SaysNone}
+use Rattle.pms_slot.specs.Reading.{SaysNone}
 use Rattle.md5_cache.proofs.EntryLemmas.{slots_are_said}
 use Rattle.md5_cache.proofs.parts.slots_of.Goals as goal
 

@@ -1,7 +1,7 @@
 use Rattle.std.proofs.Common.{◌≡◌, ℕ, List, None, subst}
 use Rattle.std.specs.Prelude.{OnOk, is_ok}
 use Rattle.file_tree.specs.Disk.{Moves, next, write}
-use Rattle.journal.specs.Names.{gate_path}
+use Rattle.merge_journal.specs.Names.{gate_path}
 use Rattle.merge_core.specs.Event.{CloseGate}
 use Rattle.merge_site.proofs.Device.{asks_answers, performed}
 use Rattle.merge_site.proofs.calls.close_gate.Goals as goal

@@ -2,8 +2,8 @@ use Rattle.std.proofs.Common.{◌≡◌, ◌<◌, ◌^◌, sym, ◌∙◌, arith
 use Rattle.std.specs.Prelude.{OnOk, is_ok}
 use Rattle.std.proofs.Common.{ℕ, List, subst}
 use Rattle.file_tree.specs.Disk.{Moves, next, write}
-use Rattle.journal.specs.Names.{gate_path, token_path}
-use Rattle.journal.specs.Names.Part.{Gate, Token}
+use Rattle.merge_journal.specs.Names.{gate_path, token_path}
+use Rattle.merge_journal.specs.Names.Part.{Gate, Token}
 use Rattle.merge_core.specs.Event.{OpenGate}
 use Rattle.merge_core.proofs.Moves.{other_file}
 use Rattle.merge_site.proofs.Device.{asks_answers, performed}

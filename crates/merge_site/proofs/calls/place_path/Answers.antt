@@ -1,7 +1,7 @@
 use Rattle.std.proofs.Common.{◌≡◌, ℕ, List, Option, subst, sym}
 use Rattle.std.specs.Prelude.{OnOk, is_ok}
 use Rattle.file_tree.specs.Disk.{Moves, next, write}
-use Rattle.journal.specs.Names.{stage_path}
+use Rattle.merge_journal.specs.Names.{stage_path}
 use Rattle.merge_record.specs.declared.record.Placement.{Placement}
 use Rattle.merge_core.specs.Event.{Answers, PlacePath, placing}
 use Rattle.merge_site.proofs.Device.{asks_answers, performed}

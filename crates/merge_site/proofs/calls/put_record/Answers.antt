@@ -2,7 +2,7 @@ use Rattle.std.proofs.Common.{◌≡◌, ℕ, List, Some, subst}
 use Rattle.std.specs.Prelude.{OnOk, is_ok}
 use Rattle.file_tree.specs.Disk.{Moves, next, write}
 use Rattle.file_tree.specs.ObjectValue.{ObjectValue, plain}
-use Rattle.journal.specs.Names.{record_path}
+use Rattle.merge_journal.specs.Names.{record_path}
 use Rattle.merge_record.specs.Spelling.{spelling}
 use Rattle.merge_core.specs.Event.{PutRecord, put_content}
 use Rattle.merge_site.proofs.Device.{asks_answers, performed}

@@ -1,7 +1,7 @@
 use Rattle.std.proofs.Common.{◌≡◌, ℕ, List, Some, subst}
 use Rattle.std.specs.Prelude.{OnOk, is_ok, length}
 use Rattle.file_tree.specs.Disk.{Moves, next, write}
-use Rattle.journal.specs.Names.{stage_path}
+use Rattle.merge_journal.specs.Names.{stage_path}
 use Rattle.merge_core.specs.Event.{PutStage}
 use Rattle.merge_site.proofs.Device.{asks_answers, performed}
 use Rattle.merge_site.proofs.calls.put_stage.Goals as goal

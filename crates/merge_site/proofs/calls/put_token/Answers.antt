@@ -2,8 +2,8 @@ use Rattle.std.proofs.Common.{◌≡◌, ℕ, List, Some, subst}
 use Rattle.std.specs.Prelude.{OnOk, is_ok}
 use Rattle.file_tree.specs.Disk.{Moves, next, write}
 use Rattle.file_tree.specs.ObjectValue.{ObjectValue}
-use Rattle.journal.specs.Group.{token}
-use Rattle.journal.specs.Names.{token_path}
+use Rattle.merge_journal.specs.Group.{token}
+use Rattle.merge_journal.specs.Names.{token_path}
 use Rattle.merge_core.specs.Event.{PutToken}
 use Rattle.merge_site.proofs.Device.{asks_answers, performed}
 use Rattle.merge_site.proofs.calls.put_token.Goals as goal

@@ -1,7 +1,7 @@
 use Rattle.std.proofs.Common.{◌≡◌, ◌∙◌, [], List, ℕ, Bool, ap, false, map, subst, sym, true}
 use Rattle.std.specs.Prelude.{IfOk}
-use Rattle.journal.specs.Judging.{are_free}
-use Rattle.journal.proofs.Free.{first_stops, on_true, second_decides}
+use Rattle.merge_journal.specs.Judging.{are_free}
+use Rattle.merge_journal.proofs.Free.{first_stops, on_true, second_decides}
 use Rattle.owner_book.specs.Book.{path_of}
 use Rattle.merge_site.specs.Claiming.{record_paths}
 use Rattle.merge_site.proofs.judging.are_apart.Goals as goal

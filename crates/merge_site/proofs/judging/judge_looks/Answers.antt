@@ -1,7 +1,7 @@
 use Rattle.std.proofs.Common.{Bool, List, ℕ, Option, MatchOption, ap, subst}
 use Rattle.file_tree.specs.Disk.{Map, Story}
-use Rattle.image_fit.specs.Images.{IsClear, IsFirstBlock}
-use Rattle.image_fit.proofs.Ways.{first_at}
+use Rattle.merge_fit.specs.Images.{IsClear, IsFirstBlock}
+use Rattle.merge_fit.proofs.Ways.{first_at}
 use Rattle.owner_book.specs.Book.{owner_in}
 use Rattle.merge_site.specs.Claiming.{IsClearFor, may_hold}
 use Rattle.merge_site.proofs.judging.judge_looks.Goals as goal

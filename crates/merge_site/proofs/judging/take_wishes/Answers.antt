@@ -1,7 +1,7 @@
 use Rattle.std.proofs.Common.{◌≡◌, map, true, false, sym, arith}
 use Rattle.std.proofs.lemmas.List.{length-map}
-use Rattle.journal.specs.Judging.{is_free}
-use Rattle.journal.proofs.Free.{on_true, walk_step, walk_stop, walk_end}
+use Rattle.merge_journal.specs.Judging.{is_free}
+use Rattle.merge_journal.proofs.Free.{on_true, walk_step, walk_stop, walk_end}
 use Rattle.owner_book.specs.Book.{path_of}
 use Rattle.merge_site.proofs.Judged.{path_at}
 use Rattle.merge_site.proofs.judging.take_wishes.Goals as goal

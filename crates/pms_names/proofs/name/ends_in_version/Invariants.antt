@@ -1,5 +1,5 @@
 use Rattle.std.proofs.Common.{◌≡◌, ℕ, ◌+◌, ◌<◌, drop, slice_index}
-use Rattle.version_text.specs.Grammar.{IsVersionText}
+use Rattle.pms_grammar.specs.Grammar.{IsVersionText}
 use Rattle.pms_names.specs.Bytes.{hyphen}
 use Rattle.pms_names.proofs.name.ends_in_version.Given as goal
 

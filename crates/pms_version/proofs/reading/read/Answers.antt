@@ -1,6 +1,6 @@
 use Rattle.std.specs.Option.{option_to_list}
 use Rattle.std.proofs.Common.{◌∙◌, ◌≡◌, ◌++◌, ap, sym, subst}
-use Rattle.version_text.specs.Grammar.{AreDigits, VersionValue, spelling}
+use Rattle.pms_grammar.specs.Grammar.{AreDigits, VersionValue, spelling}
 use Rattle.pms_version.specs.Limits.{IsReadable}
 use Rattle.pms_version.proofs.Steps.{all_read, readable_text}
 use Rattle.pms_version.proofs.reading.read.Goals as goal

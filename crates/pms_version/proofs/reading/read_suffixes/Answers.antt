@@ -1,5 +1,5 @@
 use Rattle.std.proofs.Common.{◌∙◌, ◌∷◌, ◌++◌, [], ◌≡◌, ap, sym, subst, drop, length}
-use Rattle.version_text.specs.Grammar.{kind_at, word}
+use Rattle.pms_grammar.specs.Grammar.{kind_at, word}
 use Rattle.pms_version.specs.Inside.{kind_of}
 use Rattle.pms_version.specs.Steps.{ReadsSuffixes}
 use Rattle.pms_version.proofs.Steps.{suffix_read, suffixes_end, short_behind, shorter_behind}

@@ -1,6 +1,6 @@
 use Rattle.std.proofs.Common.{◌∙◌, ◌≡◌, ◌++◌, drop, sym, ap, subst}
 use Rattle.std.proofs.lemmas.List.{take-append-drop}
-use Rattle.version_text.specs.Grammar.{AreDigits}
+use Rattle.pms_grammar.specs.Grammar.{AreDigits}
 use Rattle.pms_version.proofs.Steps.{digits_are_short}
 use Rattle.pms_version.proofs.reading.split_digits.Goals as goal
 

@@ -1,5 +1,5 @@
 use Rattle.std.proofs.Common.{◌≤◌, ◌-◌, length, take}
-use Rattle.version_text.specs.Grammar.{AreDigits}
+use Rattle.pms_grammar.specs.Grammar.{AreDigits}
 use Rattle.pms_version.proofs.reading.split_digits.Given as goal
 
 abbrev pub invariant-loop-end : goal.invariant-loop-end

@@ -3,9 +3,9 @@ use Rattle.std.specs.Prelude.{IsSome}
 use Rattle.basics.proofs.Membership.{has-at}
 use Rattle.file_tree.specs.Disk.{Moves, Story, write}
 use Rattle.file_tree.specs.Paths.{is_below}
-use Rattle.journal.specs.Judging.{path_of}
-use Rattle.journal.specs.Names.{jobs, stage_path}
-use Rattle.journal.specs.Names.Part.{Stage}
+use Rattle.merge_journal.specs.Judging.{path_of}
+use Rattle.merge_journal.specs.Names.{jobs, stage_path}
+use Rattle.merge_journal.specs.Names.Part.{Stage}
 use Rattle.merge_record.specs.declared.record.Placement.{Placement}
 use Rattle.recovery.specs.Stages.{StagePathsValue}
 use Rattle.recovery.proofs.Asked.{asked_whole, placed_asked}

@@ -1,8 +1,8 @@
 use Rattle.std.proofs.Common.{◌≡◌, ◌≤◌, ◌<◌, ℕ, drop, length, map}
 use Rattle.std.specs.Prelude.{IsSome, IsTrue}
 use Rattle.merge_core.specs.Recovery.{with_placed}
-use Rattle.journal.specs.Judging.{path_of}
-use Rattle.journal.specs.Names.{stage_path}
+use Rattle.merge_journal.specs.Judging.{path_of}
+use Rattle.merge_journal.specs.Names.{stage_path}
 use Rattle.recovery.proofs.Asked.{AskedOn}
 use Rattle.recovery.proofs.changes.place_all.Given as goal
 

@@ -1,5 +1,5 @@
 use Rattle.std.proofs.Common.{refl}
-use Rattle.journal.specs.Names.{gate_path}
+use Rattle.merge_journal.specs.Names.{gate_path}
 use Rattle.recovery.proofs.Lists.{mapped_end, mapped_more}
 use Rattle.recovery.proofs.clearing.gate_paths.Goals as goal
 

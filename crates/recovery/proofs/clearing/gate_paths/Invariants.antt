@@ -1,5 +1,5 @@
 use Rattle.std.proofs.Common.{◌≡◌, ◌++◌, drop, map}
-use Rattle.journal.specs.Names.{gate_path}
+use Rattle.merge_journal.specs.Names.{gate_path}
 use Rattle.recovery.proofs.clearing.gate_paths.Given as goal
 
 abbrev pub invariant-loop-group : goal.invariant-loop-group

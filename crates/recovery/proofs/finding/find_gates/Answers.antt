@@ -1,8 +1,8 @@
 use Rattle.std.proofs.Common.{◌≡◌, ◌∙◌, ℕ, List, ap, subst, sym, true}
 use Rattle.basics.specs.Members.{Has}
 use Rattle.file_tree.specs.Paths.{is_below}
-use Rattle.journal.specs.Names.{gate_path}
-use Rattle.journal.specs.Names.Part.{Gate}
+use Rattle.merge_journal.specs.Names.{gate_path}
+use Rattle.merge_journal.specs.Names.Part.{Gate}
 use Rattle.merge_core.proofs.Paths.{file_below}
 use Rattle.recovery.proofs.Lists.{distinct_if_sorted}
 use Rattle.recovery.proofs.finding.find_gates.Goals as goal

@@ -1,5 +1,5 @@
 use Rattle.std.proofs.Common.{ℕ, ◌≡◌, ◌<◌, ◌^◌, arith, length}
-use Rattle.journal.specs.Names.{gate_path}
+use Rattle.merge_journal.specs.Names.{gate_path}
 use Rattle.recovery.proofs.Lists.{gathered_end, gathered_more, gathered_pass, gathered_start, not_found}
 use Rattle.recovery.proofs.finding.gates_among.Goals as goal
 use Rattle.recovery.proofs.finding.gates_among.Goals.{in-Some+in_ok-push, in_default}

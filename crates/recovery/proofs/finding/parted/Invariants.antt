@@ -1,7 +1,7 @@
 use Rattle.std.proofs.Common.{◌≡◌, ◌≤◌, ◌++◌, drop, not}
 use Rattle.std.specs.Prelude.{IsTrue, filter}
-use Rattle.journal.specs.Names.{gate_path}
-use Rattle.journal.specs.Open.{is_open}
+use Rattle.merge_journal.specs.Names.{gate_path}
+use Rattle.merge_journal.specs.Open.{is_open}
 use Rattle.recovery.proofs.finding.parted.Given as goal
 
 abbrev pub invariant-loop-group : goal.invariant-loop-group

@@ -1,5 +1,5 @@
 use Rattle.std.proofs.Common.{ℕ, List, ◌++◌, ◌∷◌, [], ap, ◌∙◌, sym, length, arith, length-append}
-use Rattle.journal.specs.Names.{stage_path}
+use Rattle.merge_journal.specs.Names.{stage_path}
 use Rattle.recovery.proofs.Stages.{stages_more}
 use Rattle.recovery.proofs.paths.stage_paths.Goals as goal
 

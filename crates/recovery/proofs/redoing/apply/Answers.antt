@@ -3,8 +3,8 @@ use Rattle.std.specs.Prelude.{IsSome}
 use Rattle.basics.specs.Members.{Has}
 use Rattle.file_tree.specs.Disk.{Disk}
 use Rattle.merge_record.specs.RecordValue.{RecordValue}
-use Rattle.journal.specs.Judging.{footprint, path_of}
-use Rattle.journal.specs.Names.{stage_path}
+use Rattle.merge_journal.specs.Judging.{footprint, path_of}
+use Rattle.merge_journal.specs.Names.{stage_path}
 use Rattle.merge_record.specs.declared.record.Placement.{Placement}
 use Rattle.merge_core.specs.Recovery.{Asked}
 use Rattle.recovery.proofs.Asked.{asked_both, asked_stays}

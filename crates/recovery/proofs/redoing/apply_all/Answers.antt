@@ -2,9 +2,9 @@ use Rattle.std.proofs.Common.{[], suc, drop, add-one, ap, sym, subst, refl, arit
 use Rattle.std.specs.Prelude.{IsSome}
 use Rattle.basics.proofs.Membership.{has-at}
 use Rattle.file_tree.specs.ObjectValue.{ObjectValue}
-use Rattle.journal.specs.Names.{stage_path}
-use Rattle.journal.specs.Names.Part.{Stage}
-use Rattle.journal.specs.Open.{open_groups}
+use Rattle.merge_journal.specs.Names.{stage_path}
+use Rattle.merge_journal.specs.Names.Part.{Stage}
+use Rattle.merge_journal.specs.Open.{open_groups}
 use Rattle.merge_core.proofs.Paths.{file_below}
 use Rattle.merge_core.proofs.Redo.{judged_opens}
 use Rattle.recovery.proofs.Applied.{all_read, footprint_below, one_walks, record_staged, redone_by, redone_end, redone_step}

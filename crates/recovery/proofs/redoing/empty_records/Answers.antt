@@ -1,6 +1,6 @@
 use Rattle.std.proofs.Common.{◌∙◌, add-one, ap, arith, map, suc}
 use Rattle.file_tree.specs.Disk.{Story}
-use Rattle.journal.specs.Names.{record_path}
+use Rattle.merge_journal.specs.Names.{record_path}
 use Rattle.recovery.proofs.Asked.{asked_whole}
 use Rattle.recovery.proofs.Steps.{emptied_step, records_asked}
 use Rattle.recovery.proofs.redoing.empty_records.Goals as goal

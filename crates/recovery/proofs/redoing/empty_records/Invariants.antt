@@ -1,6 +1,6 @@
 use Rattle.std.proofs.Common.{◌≡◌, ◌≤◌, drop, map}
 use Rattle.std.specs.Prelude.{IsTrue}
-use Rattle.journal.specs.Names.{record_path}
+use Rattle.merge_journal.specs.Names.{record_path}
 use Rattle.recovery.proofs.Asked.{AskedOn}
 use Rattle.recovery.specs.Calls.{emptied}
 use Rattle.recovery.proofs.redoing.empty_records.Given as goal

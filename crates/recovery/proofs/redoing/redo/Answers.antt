@@ -1,11 +1,11 @@
 use Rattle.std.proofs.Common.{◌≡◌, ◌∙◌, ℕ, List, Ok, ap, map, subst, sym}
 use Rattle.file_tree.specs.Disk.{Story}
 use Rattle.merge_record.specs.RecordValue.{RecordValue}
-use Rattle.journal.specs.Judging.{judged_open}
-use Rattle.journal.specs.Names.{record_path}
+use Rattle.merge_journal.specs.Judging.{judged_open}
+use Rattle.merge_journal.specs.Names.{record_path}
 use Rattle.merge_core.specs.Recovery.{Asked}
 use Rattle.recovery.specs.Calls.{emptied}
-use Rattle.journal.specs.Judging.{AreApplicable}
+use Rattle.merge_journal.specs.Judging.{AreApplicable}
 use Rattle.recovery.specs.Found.{JournalValue}
 use Rattle.recovery.proofs.Stretches.{odd_emptied, redo_synced, redone_if_synced}
 use Rattle.recovery.proofs.redoing.redo.Goals as goal

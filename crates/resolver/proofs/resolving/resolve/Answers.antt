@@ -1,8 +1,8 @@
 use Rattle.std.proofs.Common.{[], subst, sym, ◌∙◌}
 use Rattle.choice_law.specs.Tree.{Choice}
 use Rattle.choice_tree.specs.Views.{universe_of}
-use Rattle.tree_search.specs.Visit.{IsOutcome, visit}
-use Rattle.tree_search.specs.declared.outcome.Outcome.{Outcome}
+use Rattle.choice_search.specs.Visit.{IsOutcome, visit}
+use Rattle.choice_search.specs.declared.outcome.Outcome.{Outcome}
 use Rattle.resolver.specs.Tree.{tree_shape}
 use Rattle.resolver.proofs.Leaves.{chosen_solves, none_solves}
 use Rattle.resolver.proofs.Counted.{too_many}

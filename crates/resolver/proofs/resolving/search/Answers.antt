@@ -3,7 +3,7 @@ use Rattle.choice_law.specs.Tree.{Choice}
 use Rattle.choice_tree.specs.Views.{universe_of}
 use Rattle.choice_tree.specs.declared.universe.Universe.{Universe}
 use Rattle.choice_walk.specs.Way.{here}
-use Rattle.tree_search.specs.Visit.{IsOutcome, visit}
+use Rattle.choice_search.specs.Visit.{IsOutcome, visit}
 use Rattle.resolver.specs.Tree.{tree_shape}
 use Rattle.resolver.proofs.resolving.search.Goals as goal
 

@@ -2,7 +2,7 @@ use Rattle.std.proofs.Common.{◌≡◌, ◌<◌, ◌++◌, ◌∷◌, ◌∙◌
 use Rattle.owner_book.specs.declared.wish.Wish.{Wish}
 use Rattle.merge_record.specs.declared.record.Placement.{Placement}
 use Rattle.file_tree.specs.ObjectValue.{ObjectValue}
-use Rattle.journal.specs.Names.{stage_path}
+use Rattle.merge_journal.specs.Names.{stage_path}
 use Rattle.merge_core.specs.Event.{PutStage, answered}
 use Rattle.merge_core.specs.CoreValue.{machine_of}
 use Rattle.merge_core.specs.Payloads.{IsAt}

@@ -1,6 +1,0 @@
-use Rattle.std.proofs.Common.{◌≡◌, drop}
-use Rattle.candidate_flags.specs.Settings.{after_layers}
-use Rattle.candidate_flags.proofs.base.after_layers.Given as goal
-
-abbrev pub invariant-loop-layer : goal.invariant-loop-layer
-invariant-loop-layer l = after_layers (drop l.layer-index l.layers) l.flag l.on ≡ after_layers l.layers l.flag l.fn.on

@@ -1,6 +1,0 @@
-use Rattle.std.proofs.Common.{◌≡◌, map, take}
-use Rattle.candidate_rules.specs.Items.{changes_for}
-use Rattle.candidate_rules.proofs.flags.changes_among.Given as goal
-
-abbrev pub invariant-loop-item : goal.invariant-loop-item
-invariant-loop-item l = map (λ c. c.now) l.changes.items ≡ changes_for l.facts (map (λ i. i.now) (take l.item-index l.items))

@@ -1,6 +1,0 @@
-use Rattle.std.proofs.Common.{take}
-use Rattle.candidate_set.specs.Places.{ArePlaces}
-use Rattle.candidate_set.proofs.reading.places_of.Given as goal
-
-abbrev pub invariant-loop-path : goal.invariant-loop-path
-invariant-loop-path l = ArePlaces (take l.path-index l.paths) l.places.items

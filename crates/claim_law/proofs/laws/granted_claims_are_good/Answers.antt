@@ -1,5 +1,0 @@
-use Rattle.claim_law.proofs.Granted.{granted_claims_are_good}
-use Rattle.claim_law.proofs.laws.granted_claims_are_good.Goals as goal
-
-pub returns : goal.returns
-returns c = granted_claims_are_good

@@ -1,5 +1,0 @@
-use Rattle.claim_law.proofs.Turns.{granted_lines_are_apart}
-use Rattle.claim_law.proofs.laws.granted_lines_are_apart.Goals as goal
-
-pub returns : goal.returns
-returns c = granted_lines_are_apart

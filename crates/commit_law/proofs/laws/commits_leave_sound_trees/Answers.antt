@@ -1,5 +1,0 @@
-use Rattle.commit_law.proofs.Whole.{commits_leave_sound_trees}
-use Rattle.commit_law.proofs.laws.commits_leave_sound_trees.Goals as goal
-
-pub returns : goal.returns
-returns c = commits_leave_sound_trees c.groups_keep_the_database.ensures.all c.accepted_plans_are_sound.ensures

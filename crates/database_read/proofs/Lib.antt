@@ -1,9 +1,0 @@
-mod Cuts
-mod Files
-mod Listed
-mod Owners
-mod Placed
-mod Record
-mod Steps
-mod Tidy
-mod Whole

@@ -1,0 +1,51 @@
+-- What the faults of a choice and of a plan's file say of an end.
+use Rattle.std.proofs.Common.{◌≡◌, ◌≢◌, ℕ, List, refl, subst}
+use Rattle.std.specs.Prelude.{Vec, ⊤}
+use Rattle.std.specs.Global.{Global}
+use Rattle.vdb_law.specs.Packages.{Installed}
+use Rattle.plan_text.specs.Plans.{GroupValue, plan_value}
+use Rattle.emerge_choose.specs.Wishes.{WishValue, wish_value}
+use Rattle.emerge_choose.specs.declared.fault.NotChosen.{NotChosen}
+use Rattle.emerge_choose.specs.declared.fault.NotChosen.TheVariants as choosing
+use Rattle.emerge_find.specs.Choices.{Choices, IsUnchosen, hidden_of, installed_of, offered_of}
+use Rattle.emerge_find.specs.Ends.{end_of, end_of_file, end_with}
+use Rattle.emerge_find.specs.Filing.{IsUnfiled}
+use Rattle.emerge_find.specs.Lacking.{GivesBack, GroupsLack, WishLacks}
+use Rattle.emerge_find.specs.Sources.{Ends, IsUnmade}
+use Rattle.emerge_find.specs.declared.source.Source.{Source}
+use Rattle.emerge_find.specs.declared.source.Source.TheVariants.{Filed, Wished}
+use Rattle.emerge_find.specs.declared.unfiled.Unfiled.{Unfiled}
+use Rattle.emerge_find.specs.declared.unfiled.Unfiled.TheVariants as filing
+use Rattle.emerge_find.specs.declared.unmade.Unmade.{Unmade}
+use Rattle.emerge_find.specs.declared.unmade.Unmade.TheVariants as making
+
+-- the fault isn't want of memory
+abbrev IsReason : NotChosen → Type 0
+IsReason choosing.Memory = ⊥
+IsReason fault = ⊤
+
+module _ (k : Choices) (ps : Vec Installed Global) (same : ps.items ≡ k.packages) where
+  unchosen : (wish : WishValue) (f : NotChosen) → IsReason f → (f ≢ choosing.Memory → IsUnchosen k wish f) → IsUnchosen k wish f
+  unchosen wish f reason why = why (λ e. subst IsReason e reason)
+
+  pub of_choice : (wish : WishValue) (f : NotChosen) → (f ≢ choosing.Memory → IsUnchosen k wish f) → WishLacks k wish (end_with f ps) × GivesBack k.packages (end_with f ps)
+  of_choice wish (choosing.NoCandidate atom reasons) why = (unchosen wish (choosing.NoCandidate atom reasons) tt why, same)
+  of_choice wish choosing.NoSolution why = (unchosen wish choosing.NoSolution tt why, same)
+  of_choice wish (choosing.BacktrackLimit refuted) why = (unchosen wish (choosing.BacktrackLimit refuted) tt why, same)
+  of_choice wish (choosing.Unlinked fault) why = ((choosing.Unlinked fault, tt, unchosen wish (choosing.Unlinked fault) tt why), same)
+  of_choice wish (choosing.Refused fault) why = ((choosing.Refused fault, tt, unchosen wish (choosing.Refused fault) tt why), same)
+  of_choice wish choosing.Memory why = (tt, tt)
+
+  pub of_filing : (path : List ℕ) (groups : List GroupValue) (f : Unfiled) → IsUnfiled (installed_of k) (offered_of k) (hidden_of k) groups f → GroupsLack k path groups (end_of_file f path ps) × GivesBack k.packages (end_of_file f path ps)
+  of_filing path groups (filing.NoCandidate atom reasons) is = (is, same)
+  of_filing path groups filing.BadFlag is = ((refl, refl, is), tt)
+  of_filing path groups (filing.Refused fault) is = (is, same)
+  of_filing path groups filing.Memory is = (tt, tt)
+
+  -- what keeps a source from a plan is what its end tells
+  pub of_source : (source : Source) (f : Unmade) → IsUnmade k source f → Ends k source (end_of f ps)
+  of_source (Wished wish) (making.Wished fault) why = of_choice (wish_value wish) fault why
+  of_source (Wished wish) (making.Filed file fault) why = absurd why
+  of_source (Filed path text) (making.Wished fault) why = absurd why
+  of_source (Filed path text) (making.Filed file fault) why =
+      subst (λ (p : List ℕ). GroupsLack k p (plan_value text) (end_of_file fault file ps) × GivesBack k.packages (end_of_file fault file ps)) why.0 (of_filing file (plan_value text) fault why.1)

@@ -1,0 +1,20 @@
+use Rattle.std.proofs.Common.{List, subst, sym}
+use Rattle.std.proofs.lemmas.Result.{err_from_is_err_and}
+use Rattle.plan_check.specs.Asks.{all_asked}
+use Rattle.plan_check.specs.declared.asked.Asked.{Asked}
+use Rattle.plan_model.specs.Asking.{AreAsked}
+use Rattle.plan_text.specs.Plans.{plan_value}
+use Rattle.emerge_find.proofs.Told.{refused_tells}
+use Rattle.emerge_find.proofs.filing.judged.Goals as goal
+
+pub returns-in_err-plan-clause-fault : goal.returns-in_err-plan-clause-fault
+returns-in_err-plan-clause-fault c =
+    let p = err_from_is_err_and c.from_residual.result c.from_residual.ensures.1 in
+    rw (p.1, p.2) (c.in_err-plan.ensures.fault c.args.installed.now)
+
+pub returns-in-Err-clause-fault : goal.returns-in-Err-clause-fault
+returns-in-Err-clause-fault c =
+    let groups = plan_value c.args.text.now in
+    let asked = subst (λ (l : List Asked). AreAsked c.args.offered.now groups (all_asked l)) (sym c.deref.ensures.value) c.in_ok-asks.ensures in
+    refused_tells c.args.installed.now c.args.offered.now c.args.hidden.now groups _ _ (record { linked = c.in_ok-plan.ensures.linked; asked = asked })
+    c.in-Err.refused c.of_refused.result c.of_refused.ensures c.in-Err.ensures.refused

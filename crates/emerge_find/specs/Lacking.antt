@@ -1,0 +1,101 @@
+-- Why there is no plan over what there is to choose from.
+use Rattle.std.specs.Prelude.{◌≡◌, ℕ, false, List, [], Some, ⊤}
+use Rattle.dep_atom.specs.Values.{AtomValue, atom_value}
+use Rattle.dep_atom.specs.declared.atom.Atom.{Atom}
+use Rattle.dep_atom.specs.declared.atom.Block.TheVariants as blocks
+use Rattle.dep_atom.specs.declared.atom.Op.TheVariants as ops
+use Rattle.dep_atom.specs.declared.package.PackageId.{PackageId}
+use Rattle.dep_atom.specs.declared.slot.SlotPart.TheVariants as slots
+use Rattle.file_tree.specs.Disk.{Map}
+use Rattle.file_tree.specs.declared.fault.TreeFault.TheVariants as trees
+use Rattle.pkg_state.specs.Package.{Package}
+use Rattle.vdb_law.specs.Packages.{Installed}
+use Rattle.plan_text.specs.Plans.{GroupValue}
+use Rattle.plan_model.specs.Faults.{link_rule}
+use Rattle.plan_model.specs.declared.fault.LinkFault.TheVariants as links
+use Rattle.emerge_choose.specs.Answers.{IsRefused}
+use Rattle.emerge_choose.specs.Reasons.{AreReasons}
+use Rattle.emerge_choose.specs.Wishes.{WishValue}
+use Rattle.emerge_choose.specs.declared.fault.NotChosen.{NotChosen}
+use Rattle.emerge_choose.specs.declared.fault.NotChosen.TheVariants as choosing
+use Rattle.emerge_choose.specs.declared.reason.NotTaken.{NotTaken}
+use Rattle.emerge_find.specs.Choices.{Choices, IsUnchosen, hidden_of, installed_of, offered_of, wish_of}
+use Rattle.emerge_find.specs.Files.{HoldsPlan}
+use Rattle.emerge_find.specs.declared.asked.Aim.{Aim}
+use Rattle.emerge_find.specs.declared.asked.Aim.TheVariants.{Atoms, File}
+use Rattle.emerge_find.specs.declared.ends.NoPlan.{NoPlan}
+use Rattle.emerge_find.specs.declared.ends.NoPlan.TheVariants.{BacktrackLimit, NoCandidate, NoSolution, NotPlanned, Refused, Text, Tree}
+
+-- the fault is one of a plan: what is chosen isn't offered, or the plan isn't accepted
+abbrev pub IsOfPlan : NotChosen → Type 0
+IsOfPlan (choosing.Unlinked fault) = ⊤
+IsOfPlan (choosing.Refused fault) = ⊤
+IsOfPlan fault = ⊥
+
+-- nothing is chosen for the wish, for this reason
+abbrev pub WishLacks : Choices → WishValue → NoPlan → Type 0
+WishLacks k wish (NoCandidate atom reasons packages) =
+    IsUnchosen k wish (choosing.NoCandidate atom reasons)
+WishLacks k wish (NoSolution packages) = IsUnchosen k wish choosing.NoSolution
+WishLacks k wish (BacktrackLimit refuted packages) =
+    IsUnchosen k wish (choosing.BacktrackLimit refuted)
+WishLacks k wish (NotPlanned packages) =
+    (fault : NotChosen) × IsOfPlan fault × IsUnchosen k wish fault
+WishLacks k wish (Tree trees.Memory) = ⊤
+WishLacks k wish e = ⊥
+
+-- `=category/package-version`
+abbrev pub exact_atom : PackageId → AtomValue
+exact_atom id =
+    record {
+      block = blocks.No;
+      op = ops.Equal;
+      name = id.name;
+      version = Some id.version;
+      star = false;
+      slot = slots.Free;
+      uses = [];
+    }
+
+-- the first fault of the groups' additions is that one is not offered: the atom is that of its
+-- package, and the reasons are those of the candidates of its name
+pub record LacksAddition (offered : List Package) (hidden : List NotTaken)
+    (groups : List GroupValue) (atom : Atom) (reasons : List NotTaken) : Type 0 where
+  pub group : ℕ
+  pub id : PackageId
+  pub first : link_rule offered groups (Some (links.NoCandidate group id))
+  pub exact : atom_value atom ≡ exact_atom id
+  pub why : AreReasons id.name offered hidden reasons
+
+-- their first fault is that one has a flag which its package doesn't know
+abbrev pub HasBadFlag : List Package → List GroupValue → Type 0
+HasBadFlag offered groups = (group : ℕ) × (id : PackageId) × (flag : List ℕ)
+    × link_rule offered groups (Some (links.BadFlag group id flag))
+
+-- no plan is made of the groups that stand in the file, for this reason: the first fault of their
+-- additions, where a bad flag is told by the file alone, or else the first rule of the check that
+-- the plan breaks which they stand for
+abbrev pub GroupsLack : Choices → List ℕ → List GroupValue → NoPlan → Type 0
+GroupsLack k path groups (Text file line) =
+    (file ≡ path) × (line ≡ 0) × HasBadFlag (offered_of k) groups
+GroupsLack k path groups (NoCandidate atom reasons packages) =
+    LacksAddition (offered_of k) (hidden_of k) groups atom reasons.items
+GroupsLack k path groups (Refused fault packages) =
+    IsRefused (installed_of k) (offered_of k) groups fault
+GroupsLack k path groups (Tree trees.Memory) = ⊤
+GroupsLack k path groups e = ⊥
+
+-- what is aimed at has no plan, for this reason
+abbrev pub Lacks : Map → Choices → Aim → NoPlan → Type 0
+Lacks m k (Atoms wanted update limit flips) e = WishLacks k (wish_of wanted update limit) e
+Lacks m k (File path) e =
+    (groups : List GroupValue) × HoldsPlan m path groups × GroupsLack k path groups e
+
+-- the packages that are given back are these
+abbrev pub GivesBack : List Installed → NoPlan → Type 0
+GivesBack ps (NoCandidate atom reasons packages) = packages.items ≡ ps
+GivesBack ps (NoSolution packages) = packages.items ≡ ps
+GivesBack ps (BacktrackLimit refuted packages) = packages.items ≡ ps
+GivesBack ps (NotPlanned packages) = packages.items ≡ ps
+GivesBack ps (Refused fault packages) = packages.items ≡ ps
+GivesBack ps e = ⊤

@@ -1,0 +1,23 @@
+-- Which requests ask for a plan of what may come, and what they ask.
+use Rattle.std.specs.Prelude.{◌≡◌, Bool, false}
+use Rattle.emerge_words.specs.declared.request.Command.{Command}
+use Rattle.emerge_words.specs.declared.request.Command.TheVariants.{Load, Merge, PlanFile, Unmerge}
+use Rattle.emerge_words.specs.declared.request.Request.{Request}
+use Rattle.emerge_find.specs.declared.asked.Aim.TheVariants.{Atoms, File}
+use Rattle.emerge_find.specs.declared.asked.Asked.{Asked}
+
+-- the command merges what its atoms match, without the world and without a repair, or does the plan
+-- of a file, and asks this
+abbrev pub IsOfMerge : Command → Bool → Asked → Type 0
+IsOfMerge (Merge atoms world update repair backtrack flips) pretend asked =
+    (world ≡ false) × (repair ≡ false) × (asked ≡ record {
+      aim = Atoms atoms update backtrack flips;
+      pretend = pretend;
+    })
+IsOfMerge (PlanFile path) pretend asked = asked ≡ record { aim = File path; pretend = pretend }
+IsOfMerge (Unmerge atoms) pretend asked = ⊥
+IsOfMerge (Load n) pretend asked = ⊥
+
+-- the request is such a command, and asks this
+abbrev pub IsAsked : Request → Asked → Type 0
+IsAsked r asked = IsOfMerge r.command r.pretend asked

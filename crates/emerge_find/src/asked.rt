@@ -1,0 +1,87 @@
+ghost use Rattle.std.specs.Prelude.{◌≡◌, MatchOption};
+ghost use Rattle.emerge_find.specs.Choices.{flips_of};
+ghost use Rattle.emerge_find.specs.Requests.{IsAsked, IsOfMerge};
+ghost use Rattle.emerge_find.specs.declared.asked.Asked.{Asked as AskedValue};
+
+use dep_atom::Atom;
+use emerge_words::{Command, Request};
+use file_tree::Path;
+
+/// Where the plan of a run comes from.
+#[derive(Debug, Drop)]
+pub enum Aim {
+    /// It is found for atoms.
+    Atoms {
+        /// Each of these is to match a package.
+        wanted: Vec<Atom>,
+        /// A greater version goes before what is installed.
+        update: bool,
+        /// So many choices that were tried in vain are too many.
+        limit: usize,
+        /// At most so many flags of a candidate are flipped.
+        flips: u32,
+    },
+    /// It stands in this file of the tree.
+    File {
+        path: Path,
+    },
+}
+
+/// What a command asks of a run that merges.
+#[derive(Debug, Drop)]
+pub struct Asked {
+    pub aim: Aim,
+    /// The plan is shown, and nothing is merged.
+    pub pretend: bool,
+}
+
+/// What the request asks, if it merges what its atoms match, without the world and without a
+/// repair, or does the plan of a file.
+pub fn asked_of(request: Request) -> Option<Asked>
+    ensures { MatchOption result ((a : AskedValue) → ¬ IsAsked request a) (IsAsked request) }
+{
+    let pretend = request.pretend;
+    asked_by(request.command, pretend)
+}
+
+fn asked_by(command: Command, pretend: bool) -> Option<Asked>
+    ensures { MatchOption result ((a : AskedValue) → ¬ IsOfMerge command pretend a)
+        (IsOfMerge command pretend) }
+{
+    match command {
+        Command::Merge {
+            atoms: wanted,
+            world,
+            update,
+            repair,
+            backtrack,
+            flips,
+        } => {
+            if world || repair {
+                return None;
+            }
+            let aim = Aim::Atoms {
+                wanted,
+                update,
+                limit: backtrack as usize,
+                flips,
+            };
+            Some(Asked { aim, pretend })
+        }
+        Command::PlanFile { path } => Some(Asked {
+            aim: Aim::File { path },
+            pretend,
+        }),
+        _ => None,
+    }
+}
+
+/// So many flags of a candidate are flipped at most; for the plan of a file none is.
+pub(crate) fn flips_of(aim: &Aim) -> u32
+    ensures { result ≡ flips_of aim.now }
+{
+    match aim {
+        Aim::Atoms { flips, .. } => *flips,
+        Aim::File { .. } => 0,
+    }
+}

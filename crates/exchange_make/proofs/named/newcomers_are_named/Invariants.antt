@@ -1,7 +1,0 @@
-use Rattle.std.proofs.Common.{take}
-use Rattle.std.specs.List.{AllByRecursion}
-use Rattle.exchange_make.specs.Made.{IsNamed}
-use Rattle.exchange_make.proofs.named.newcomers_are_named.Given as goal
-
-abbrev pub invariant-loop-newcomer : goal.invariant-loop-newcomer
-invariant-loop-newcomer l = AllByRecursion IsNamed (take l.newcomer-index l.newcomers)

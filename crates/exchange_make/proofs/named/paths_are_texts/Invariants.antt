@@ -1,7 +1,0 @@
-use Rattle.std.proofs.Common.{take}
-use Rattle.std.specs.List.{AllByRecursion}
-use Rattle.merge_record.specs.Spelling.{IsPathText}
-use Rattle.exchange_make.proofs.named.paths_are_texts.Given as goal
-
-abbrev pub invariant-loop-entry : goal.invariant-loop-entry
-invariant-loop-entry l = AllByRecursion (λ e. IsPathText e.path) (take l.entry-index l.image)

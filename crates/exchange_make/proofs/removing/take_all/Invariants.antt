@@ -1,7 +1,0 @@
-use Rattle.std.proofs.Common.{◌++◌, map, take}
-use Rattle.image_fit.specs.Images.{path_of}
-use Rattle.journal.specs.Judging.{HasSame}
-use Rattle.exchange_make.proofs.removing.take_all.Given as goal
-
-abbrev pub invariant-loop-entry : goal.invariant-loop-entry
-invariant-loop-entry l = HasSame l.taken (l.fn.taken ++ map path_of (take l.entry-index l.entries))

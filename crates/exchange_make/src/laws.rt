@@ -1,6 +1,0 @@
-ghost use Rattle.exchange_make.specs.Laws.{OwnersKeepTheirKeys};
-
-/// A law: the owners of a tree keep their keys beside packages that come.
-pub fn owners_keep_their_keys()
-    ensures { OwnersKeepTheirKeys }
-{}

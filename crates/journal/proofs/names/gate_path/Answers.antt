@@ -1,6 +1,0 @@
-use Rattle.journal.specs.Names.{Gate}
-use Rattle.journal.proofs.Named.{part_is_path}
-use Rattle.journal.proofs.names.gate_path.Goals as goal
-
-pub named-requires : goal.named-requires
-named-requires c = part_is_path c.args.group Gate

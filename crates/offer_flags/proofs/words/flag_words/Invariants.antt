@@ -1,7 +1,0 @@
-use Rattle.std.proofs.Common.{◌≡◌, ◌++◌, drop, map}
-use Rattle.std.specs.List.{flat_map}
-use Rattle.offer_flags.specs.Words.{flag_words, words_in}
-use Rattle.offer_flags.proofs.words.flag_words.Given as goal
-
-abbrev pub invariant-loop-file : goal.invariant-loop-file
-invariant-loop-file l = l.said.items ++ flat_map (words_in (map (λ x. x.now) l.variables)) (drop l.file-index l.files) ≡ flag_words (map (λ x. x.now) l.variables) l.files

@@ -1,6 +1,0 @@
-use Rattle.std.proofs.Common.{◌≡◌, ◌++◌, drop, map}
-use Rattle.offer_read.specs.Offers.{kept_back}
-use Rattle.offer_read.proofs.collecting.all_kept_back.Given as goal
-
-abbrev pub invariant-loop-other : goal.invariant-loop-other
-invariant-loop-other l = l.hidden.items ++ map kept_back (drop l.other-index l.others) ≡ map kept_back l.others

@@ -1,5 +1,0 @@
-use Rattle.std.proofs.Common.{◌≡◌, ◌++◌, drop, map}
-use Rattle.offer_read.proofs.rules.texts_of.Given as goal
-
-abbrev pub invariant-loop-word : goal.invariant-loop-word
-invariant-loop-word l = l.texts.items ++ map (λ x. x.now) (drop l.word-index l.words) ≡ map (λ x. x.now) l.words

@@ -1,5 +1,0 @@
-use Rattle.plan_find.proofs.Fit.{found_fit}
-use Rattle.plan_find.proofs.laws.found_plans_are_fit.Goals as goal
-
-pub returns : goal.returns
-returns c = found_fit c.linked_additions_can_be_kept.ensures

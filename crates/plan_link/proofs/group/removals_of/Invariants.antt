@@ -1,6 +1,0 @@
-use Rattle.std.proofs.Common.{◌≡◌, map, take}
-use Rattle.plan_link.specs.Linked.{removal_of}
-use Rattle.plan_link.proofs.group.removals_of.Given as goal
-
-abbrev pub invariant-loop-removal : goal.invariant-loop-removal
-invariant-loop-removal l = l.copies.items ≡ map removal_of (take l.removal-index l.removals)

@@ -1,7 +1,0 @@
-use Rattle.std.proofs.Common.{◌≡◌, ◌||◌, List, take, ℕ}
-use Rattle.std.specs.BTreeSet.{contains_text}
-use Rattle.plan_make.specs.Plans.{names_folder}
-use Rattle.plan_make.proofs.holding.add_folders.Given as goal
-
-abbrev pub invariant-loop-removal : goal.invariant-loop-removal
-invariant-loop-removal l = (q : List ℕ) → contains_text l.named q ≡ (contains_text l.fn.named q || names_folder (take l.removal-index l.removals) q)

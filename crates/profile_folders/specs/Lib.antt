@@ -1,0 +1,9 @@
+pub mod Begins
+pub mod Defaults
+pub mod Folders
+pub mod LineFiles
+pub mod Machine
+pub mod Parents
+pub mod Places
+pub mod Stacks
+pub mod Texts

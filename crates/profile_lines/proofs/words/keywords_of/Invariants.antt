@@ -1,0 +1,8 @@
+-- The words so far are the keywords so far.
+use Rattle.std.proofs.Common.{◌≡◌, map, take}
+use Rattle.dep_group.specs.Views.{spot}
+use Rattle.dep_group.specs.Words.{texts}
+use Rattle.profile_lines.proofs.words.keywords_of.Given as goal
+
+abbrev pub invariant-loop-word : goal.invariant-loop-word
+invariant-loop-word l = l.keywords.items ≡ texts (map spot (take l.word-index l.words))

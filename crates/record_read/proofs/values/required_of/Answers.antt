@@ -1,7 +1,0 @@
-use Rattle.record_read.specs.Texts.{value}
-use Rattle.record_read.proofs.Encoded.{required_utf8, not_utf8}
-use Rattle.record_read.proofs.values.required_of.Goals as goal
-
-pub returns-in_err-value-clause-only : goal.returns-in_err-value-clause-only
-returns-in_err-value-clause-only c x writes =
-    absurd (not_utf8 (value c.args.text.now) c.in_err-value.ensures.fault.0 c.in_err-value.ensures.fault.2 (required_utf8 (value c.args.text.now) x writes))

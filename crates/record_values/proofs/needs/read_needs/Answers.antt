@@ -1,5 +1,0 @@
-use Rattle.record_values.proofs.Bound.{none_but_memory}
-use Rattle.record_values.proofs.needs.read_needs.Goals as goal
-
-pub returns-in-Ok-clause-fault : goal.returns-in-Ok-clause-fault
-returns-in-Ok-clause-fault c = none_but_memory _ c.args.text.now c.bound.result c.bound.ensures

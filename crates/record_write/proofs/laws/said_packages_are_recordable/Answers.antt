@@ -1,5 +1,0 @@
-use Rattle.record_write.proofs.Again.{said_recordable}
-use Rattle.record_write.proofs.laws.said_packages_are_recordable.Goals as goal
-
-pub returns : goal.returns
-returns c = said_recordable c.trees_in_form_are_atoms_in_groups.ensures

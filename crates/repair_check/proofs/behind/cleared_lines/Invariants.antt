@@ -1,6 +1,0 @@
-use Rattle.std.proofs.Common.{◌≡◌, map, take}
-use Rattle.plan_law.specs.Plans.{removed_line}
-use Rattle.repair_check.proofs.behind.cleared_lines.Given as goal
-
-abbrev pub invariant-loop-removal : goal.invariant-loop-removal
-invariant-loop-removal l = l.lines.items ≡ map removed_line (take l.removal-index l.removals)

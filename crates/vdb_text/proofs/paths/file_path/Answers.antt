@@ -1,0 +1,10 @@
+use Rattle.std.proofs.Common.{◌≡◌, ℕ, List, true, rules, subst, sym}
+use Rattle.file_tree.specs.Paths.{is_path}
+use Rattle.vdb_record.specs.Views.{field_of}
+use Rattle.vdb_text.specs.Telling.{file_path}
+use Rattle.vdb_text.proofs.paths.file_path.Goals as goal
+
+pub of-requires : goal.of-requires
+of-requires c =
+    let same : c.as_str.result.now ≡ file_path c.args.folder.now (field_of c.args.file) = search rules in
+    subst (λ (t : List ℕ). is_path t ≡ true) (sym same) (c.requires (field_of c.args.file))

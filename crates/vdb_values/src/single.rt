@@ -1,0 +1,41 @@
+ghost use Rattle.std.specs.Prelude.{◌≡◌, ◌↔◌, ℕ, List, codes, [], ◌∷◌, IfOk, IsTrue, MatchOption};
+ghost use Rattle.vdb_law.specs.Fields.{AreSlots};
+ghost use Rattle.dep_group.specs.Words.{words_of};
+ghost use Rattle.vdb_values.specs.Values.{IsAlone, SaysNoSlots};
+
+use dep_group::words;
+use pms_slot::SlotValue;
+use std::alloc::{AllocError, Global};
+
+/// Whether the text of EAPI says the one edition that is supported.
+pub fn is_eapi(alloc: Global, text: &str) -> Result<bool, AllocError>
+    ensures { IfOk result (λ b. IsTrue b ↔ (words_of text.now ≡ codes "8" ∷ [])) }
+{
+    match only_word(alloc, text)? {
+        Some(word) => Ok(word == "8"),
+        None => Ok(false),
+    }
+}
+
+/// What the text of SLOT says.
+pub fn read_slots(alloc: Global, text: &str) -> Result<Option<SlotValue>, AllocError>
+    ensures { IfOk result (λ r. MatchOption r (SaysNoSlots text.now)
+        (λ v. AreSlots (words_of text.now) v.slot v.subslot)) }
+{
+    match only_word(alloc, text)? {
+        Some(word) => SlotValue::read(alloc, word.as_bytes()),
+        None => Ok(None),
+    }
+}
+
+/// The one word of a text that has just one.
+fn only_word(alloc: Global, text: &str) -> Result<Option<&str>, AllocError>
+    ensures { IfOk result (λ r. MatchOption r ((w : List ℕ) → ¬ IsAlone text.now w)
+        (λ w. IsAlone text.now w.now)) }
+{
+    let words = words(alloc, text)?;
+    match words.as_slice() {
+        [word] => Ok(Some(word.text)),
+        _ => Ok(None),
+    }
+}

@@ -1,7 +1,0 @@
-use Rattle.std.proofs.Common.{◌≡◌, take, false}
-use Rattle.version_text.specs.declared.place.Place.TheVariants.{Number}
-use Rattle.version_text.specs.Machine.{run, is_nowhere}
-use Rattle.version_text.proofs.recognise.version_stop.Given as goal
-
-abbrev pub invariant-loop-at : goal.invariant-loop-at
-invariant-loop-at l = record { place : l.place ≡ run Number (take l.at l.bytes); somewhere : is_nowhere l.place ≡ false }
