@@ -1,4 +1,4 @@
-"""How the programs are told paths, bytes and objects, and how they tell them: see `tree_lines`."""
+"""How the programs are told paths, bytes and objects, and how they tell them: see `ask_lines`."""
 from asked import Wrong
 
 THEN = " -> "

@@ -102,13 +102,9 @@ def main(tests, run_all=one_by_one):
     return status(run_all(chosen(tests)))
 
 
-def main_of_rows(programs):
-    """As `main`, of tests that give rows: `programs` has the modules of each program's tests, which
-    stand in their TESTS."""
-    tests = []
-    for name, modules in programs.items():
-        tests += [of_rows(name, it) for module in modules for it in module.TESTS]
-    return main_at_once(tests)
+def main_of_rows(name, modules):
+    """As `main`, of the TESTS of these modules, which give rows that the program answers."""
+    return main_at_once([of_rows(name, it) for module in modules for it in module.TESTS])
 
 
 def of_rows(name, rows_of):

@@ -1,6 +1,6 @@
 """Texts of plans whose binds are judged: one for each leaf that asks, that of the greatest package
 beside the addition."""
-from cases import case, check_plans, plan_text
+from cases import case, check, plan_text
 
 APP = "app-1;RDEPEND c/lib:="
 IN_SLOT = "app-1;RDEPEND c/lib:0="
@@ -121,7 +121,7 @@ TURNS = [
 
 
 def judged(rows):
-    return check_plans(
+    return check(
         [
             (case("judge", installed, offered, plan_text(groups)), told)
             for installed, offered, groups, told in rows

@@ -1,8 +1,7 @@
-"""Cases for plan_vectors and database_vectors, as the lines that these read."""
+"""Cases for ask_plans, as the lines that it reads."""
 import asked
 
-PLANS = "plan_vectors"
-DATABASES = "database_vectors"
+PROGRAM = "ask_plans"
 
 
 def case(*parts):
@@ -18,14 +17,9 @@ def plan_text(groups):
     return "".join(f"{line}\n" for line in lines)
 
 
-def check_plans(rows):
-    """A test that holds the answers on plans to those that the rows want."""
-    return asked.rows_at_once(PLANS, rows)
-
-
-def check_databases(rows):
-    """A test that holds the answers on databases to those that the rows want."""
-    return asked.rows_at_once(DATABASES, rows)
+def check(rows):
+    """A test that holds the answers to those that the rows want."""
+    return asked.rows_at_once(PROGRAM, rows)
 
 
 def expect(fact, message):

@@ -1,5 +1,5 @@
 """Plans over a few packages, and what the rules say of them."""
-from cases import case, check_plans
+from cases import case, check
 
 # the packages that are there, the groups, and the answer
 EITHER = "u-1;RDEPEND || ( c/a c/b ),a-1"
@@ -77,7 +77,7 @@ PAIRS = [
 
 def check_groups(rows):
     rows = [(case("check", installed, *groups), told) for installed, groups, told in rows]
-    return check_plans(rows)
+    return check(rows)
 
 
 def unsafe_swap():

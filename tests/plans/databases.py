@@ -1,5 +1,5 @@
 """The installed packages of a tree, read from its database, and the first fault of one."""
-from cases import case, check_databases
+from cases import case, check
 
 # objects of a tree, each on a line: `path=text` is a plain file, `path@target` a link; `~` stands
 # for a newline in a text
@@ -89,20 +89,20 @@ def of_folder(folder, contents=""):
 
 
 def packages_and_what_is_passed_over():
-    return check_databases(reads(PACKAGES))
+    return check(reads(PACKAGES))
 
 
 def packages_in_byte_order_of_their_folders():
     rows = [("\n".join(map(of_folder, names)), told) for names, told in ORDERED]
-    return check_databases(reads(rows))
+    return check(reads(rows))
 
 
 def folders_that_are_no_packages():
-    return check_databases(reads(NO_PACKAGES))
+    return check(reads(NO_PACKAGES))
 
 
 def the_first_fault_of_each_file():
-    return check_databases(reads([(f"{BASE}\nc/p-1/{file}", told) for file, told in FAULTS]))
+    return check(reads([(f"{BASE}\nc/p-1/{file}", told) for file, told in FAULTS]))
 
 
 def owning(links):
@@ -111,17 +111,17 @@ def owning(links):
 
 
 def paths_in_the_way_of_each_other():
-    return check_databases(reads([(owning(links), told) for links, told in OWNED]))
+    return check(reads([(owning(links), told) for links, told in OWNED]))
 
 
 def a_call_of_the_device_that_fails_is_told():
     """One call lists the folders, and eleven read the files of the package."""
     rows = [(case("failing", str(call), objects(BASE)), "failed") for call in range(1, 13)]
-    return check_databases([*rows, (case("failing", "13", objects(BASE)), "c/p-1:0|")])
+    return check([*rows, (case("failing", "13", objects(BASE)), "c/p-1:0|")])
 
 
 def a_whole_record():
-    return check_databases([(case("record", objects(WHOLE)), WHOLE_TOLD)])
+    return check([(case("record", objects(WHOLE)), WHOLE_TOLD)])
 
 
 TESTS = [

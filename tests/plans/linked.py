@@ -1,5 +1,5 @@
 """Texts of plans that are linked to the packages that are offered, and judged."""
-from cases import case, check_plans, plan_text
+from cases import case, check, plan_text
 
 # the packages that are offered, the groups of the text, and what they stand for
 MEANT = [
@@ -87,7 +87,7 @@ FAULTY = [
 
 def check_links(rows):
     rows = [(case("link", offered, plan_text(text)), told) for offered, text, told in rows]
-    return check_plans(rows)
+    return check(rows)
 
 
 def packages_that_are_meant():
@@ -111,7 +111,7 @@ def plan_file_without_groups():
         (case("judge", "a-1", "p-1", "plan 1\n"), ""),
         (case("judge", "a-1", "p-1", ""), "Line 1"),
     ]
-    return check_plans(rows)
+    return check(rows)
 
 
 # a library and what was built against it, what is offered, and texts over them
@@ -132,7 +132,7 @@ REBUILDS = [
 
 def slot_operator_rebuild():
     texts = [(plan_text(groups), told) for groups, told in REBUILDS]
-    return check_plans([(case("judge", LIBRARY, NEWER, text), told) for text, told in texts])
+    return check([(case("judge", LIBRARY, NEWER, text), told) for text, told in texts])
 
 
 def the_fault_of_the_text_comes_first():
@@ -143,7 +143,7 @@ def the_fault_of_the_text_comes_first():
         (case("judge", "a-1", "p-1", early), "NotBefore 5"),
         (case("judge", "a-1", "p-1", late), "none 2 q-1"),
     ]
-    return check_plans(rows)
+    return check(rows)
 
 
 def many_groups_over_many_packages():
@@ -156,7 +156,7 @@ def many_groups_over_many_packages():
     told[0] = ",+p1601-1:0/0;RDEPEND c/p1600:0/7="
     whole = "[ ]" + told[0] + "".join(f"[ {at} ]{it}" for at, it in enumerate(told[1:]))
     text = plan_text(";".join(groups))
-    return check_plans([(case("judge", "p1600-1:0/7", offered, text), whole)])
+    return check([(case("judge", "p1600-1:0/7", offered, text), whole)])
 
 
 TESTS = [

@@ -1,5 +1,5 @@
 """Plans of one group over packages that don't go together."""
-from cases import case, check_plans, plan_text
+from cases import case, check, plan_text
 
 # the packages that are there, those that are offered, and groups that mend what is broken
 MENDED = [
@@ -58,15 +58,15 @@ def repairs(rows):
 def repair_of_a_broken_opening():
     text = plan_text("add c/v-1:0/0")
     refused = (case("judge", "u-1;RDEPEND c/v", "v-1", text), "opening lacks u-1 c/v")
-    return check_plans([refused, *repairs(MENDED)])
+    return check([refused, *repairs(MENDED)])
 
 
 def what_is_broken_behind_a_group():
-    return check_plans(repairs(BROKEN))
+    return check(repairs(BROKEN))
 
 
 def what_comes_is_judged_first():
-    return check_plans(repairs(UNFIT))
+    return check(repairs(UNFIT))
 
 
 TESTS = [repair_of_a_broken_opening, what_is_broken_behind_a_group, what_comes_is_judged_first]

@@ -3,7 +3,7 @@ import itertools
 import random
 import re
 
-from cases import PLANS, case, check_plans, expect
+from cases import PROGRAM, case, check, expect
 
 # three versions, of which the greater two need what isn't there
 THREE = "a-3;RDEPEND c/zz,a-2;RDEPEND c/zz,a-1"
@@ -87,7 +87,7 @@ WHOLE_TREES = [
 
 
 def check_walk(universe, tree):
-    return check_plans([(case("walk", *universe), tree)])
+    return check([(case("walk", *universe), tree)])
 
 
 def a_block_lets_a_package_go():
@@ -110,12 +110,12 @@ def what_is_broken_is_replaced():
 
 def whole_trees():
     """Each obligation and each option, in their order."""
-    return check_plans([(case("walk", *universe), tree) for universe, tree in WHOLE_TREES])
+    return check([(case("walk", *universe), tree) for universe, tree in WHOLE_TREES])
 
 
 def backtrack_limits():
     rows = [(case("resolve", "keep", str(most), "c/a", THREE), told) for most, told in LIMITS]
-    return check_plans(rows)
+    return check(rows)
 
 
 def jump_over_an_unrelated_choice():
@@ -125,7 +125,7 @@ def jump_over_an_unrelated_choice():
         (case("resolve", "keep", "2", "c/x c/a", *lines), "none"),
         (case("resolve", "keep", "1", "c/x c/a", *lines), "limit| 1=v0 0=v0"),
     ]
-    return check_plans(rows)
+    return check(rows)
 
 
 def flag_change_solves():
@@ -136,7 +136,7 @@ def flag_change_solves():
         (case("resolve", "keep", "10", "c/a", *lines), "none"),
         (case("resolve", "keep", "10", "c/a", *both), " 0=v0 1=v1"),
     ]
-    return check_plans(rows)
+    return check(rows)
 
 
 def a_deep_conflict_is_found():
@@ -153,12 +153,12 @@ def a_deep_conflict_is_found():
         (case("resolve", "keep", "10", *lines), f"limit{vain}"),
         (case("resolve", "keep", "11", *lines), found),
     ]
-    return check_plans(rows)
+    return check(rows)
 
 
 def two_that_need_each_other():
     row = case("resolve", "keep", "10", "c/a", "a-1;RDEPEND c/b", "b-1;RDEPEND c/a")
-    return check_plans([(row, " 0=v0 1=v0")])
+    return check([(row, " 0=v0 1=v0")])
 
 
 # Random universes over three names: a package is its version, and the names that it needs and
@@ -238,7 +238,7 @@ def answers_are_solutions():
     how = ["update" if rng.random() < 0.5 else "keep" for _ in universes]
     texts = [map(line_text, lines) for lines in universes]
     rows = [case("resolve", it, "1000", "c/a", *lines) for it, lines in zip(how, texts)]
-    answers = yield PLANS, rows
+    answers = yield PROGRAM, rows
     for lines, answer in zip(universes, answers):
         check_answer(lines, answer)
     refused = answers.count("none")

@@ -7,7 +7,7 @@ when its group comes.
 import random
 from collections import namedtuple
 
-from cases import PLANS, case, expect
+from cases import PROGRAM, case, expect
 
 # `needs` are sets of names of which one has to be there, `weak` and `strong` are blocked names
 Package = namedtuple("Package", "name version needs weak strong")
@@ -138,7 +138,7 @@ def plan_case(start, groups):
 def accepted_plans_are_sound():
     rng = random.Random(8)
     plans = [random_plan(rng) for _ in range(PLANS_TRIED)]
-    answers = yield PLANS, [plan_case(*plan) for plan in plans]
+    answers = yield PROGRAM, [plan_case(*plan) for plan in plans]
     expect("not in form" not in answers, "a case is not in form")
     for plan, answer in zip(plans, answers):
         if answer == "ok":
@@ -153,7 +153,7 @@ def plans_that_are_not_sound():
     first, second = Package("a", 1, (), (), ()), Package("b", 1, (), (), ())
     swap = [Group([], (first,), ()), Group([], (), (second,))]
     one = [Group([], (first,), (second,))]
-    _ = yield PLANS, []
+    _ = yield PROGRAM, []
     expect(not is_sound((either, first), swap), "a swap in two groups counts as sound")
     expect(is_sound((either, first), one), "a swap in one group doesn't count as sound")
 

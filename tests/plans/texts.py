@@ -1,5 +1,5 @@
 """Texts of plans: read, printed, and their first faults."""
-from cases import case, check_plans
+from cases import case, check
 
 # a plan with each kind of line
 PLAN = """plan 1
@@ -38,17 +38,17 @@ def many_groups(groups):
 
 def a_plan_is_printed_as_it_was_read():
     rows = [(case("text", text), case(text)) for text in (PLAN, "plan 1\n")]
-    return check_plans(rows)
+    return check(rows)
 
 
 def the_first_faulty_line_is_told():
-    return check_plans([(case("text", text), told) for text, told in FAULTY])
+    return check([(case("text", text), told) for text, told in FAULTY])
 
 
 def one_group_too_many_is_told():
     most = many_groups(MOST_GROUPS)
     rows = [(case("text", most), case(most)), (case("text", many_groups(MOST_GROUPS + 1)), "Limit")]
-    return check_plans(rows)
+    return check(rows)
 
 
 TESTS = [

@@ -1,7 +1,7 @@
 """Universes that are made of what is installed and of candidates, and a choice in one."""
 import random
 
-from cases import PLANS, case, check_plans, expect
+from cases import PROGRAM, case, check, expect
 
 # what is installed, the candidates, and the lines of the universe
 TWO_SLOTS = ("a-1,a-5:2", ["a-6:2", "a-2"], "[+a-1:0/0,a-2:0/0][+a-5:2/0,a-6:2/0]")
@@ -37,7 +37,7 @@ TWICE = [("a-1,a-2", ["a-3"], "not in form"), ("a-1:0/1,b-1,a-1:0/2", [], "not i
 
 def check_made(rows):
     rows = [(case("universe", held, *candidates), told) for held, candidates, told in rows]
-    return check_plans(rows)
+    return check(rows)
 
 
 def a_line_for_each_slot():
@@ -72,7 +72,7 @@ def a_choice_in_a_universe_that_is_made():
         (case("choose", "keep", "10", "c/lib", *parts[1:]), " 1=+"),
         (case("choose", "update", "10", "c/lib", *parts[1:]), " 1=v0"),
     ]
-    return check_plans(rows)
+    return check(rows)
 
 
 # Random cases: a package is its name, version, slot and subslot.
@@ -124,7 +124,7 @@ def random_universes():
     rng = random.Random(21)
     tried = [random_case(rng) for _ in range(TRIED)]
     rows = [case("universe", texts(held), *map(texts, all_of)) for held, all_of in tried]
-    answers = yield PLANS, rows
+    answers = yield PROGRAM, rows
     for row, it, answer in zip(rows, tried, answers):
         wanted = lines_of(*it)
         expect(answer == wanted, f"{row!r}: wanted {wanted!r}, came {answer!r}")

@@ -1,5 +1,5 @@
 """The files that are written of an installed package."""
-from cases import case, check_databases
+from cases import case, check
 from databases import objects
 
 # what is said of two packages in odd ways, and the files that are written of each
@@ -45,17 +45,17 @@ def writes(rows):
 
 
 def the_files_of_two_packages():
-    return check_databases(writes(PACKAGES))
+    return check(writes(PACKAGES))
 
 
 def what_is_written_is_written_alike_again():
-    return check_databases(writes([(files, files) for _, files in PACKAGES]))
+    return check(writes([(files, files) for _, files in PACKAGES]))
 
 
 def flags_of_its_own_alone():
     """The flag `t` is enabled, but none of the package's own."""
     lines = "c/p-1/CONTENTS=\nc/p-1/EAPI=8\nc/p-1/SLOT=0\nc/p-1/IUSE=v +u w\nc/p-1/USE=w u t"
-    return check_databases([(case("flags", objects(lines)), "u w ")])
+    return check([(case("flags", objects(lines)), "u w ")])
 
 
 TESTS = [the_files_of_two_packages, what_is_written_is_written_alike_again, flags_of_its_own_alone]

@@ -1,18 +1,17 @@
 """What a tree offers: the flags of its candidates, and their variants (PMS 5.2, 5.3, 11.1)."""
-import asked
 from repositories import AMD64, package, packages
-from trees import PROFILE, line, link, user
-
-PROGRAM = "offer_vectors"
+from trees import PROFILE, check, fields, link, user
 
 
 def row(tree, *wanted, flips=0, call=0):
     """A tree with a profile on amd64, or one of its own, and the fields that are wanted."""
-    return f"{flips}\t{line({**AMD64, **tree}, call)}", "\t".join(wanted)
+    return line({**AMD64, **tree}, flips, call), "\t".join(wanted)
 
 
-def check(rows):
-    return asked.rows_at_once(PROGRAM, rows)
+def line(tree, flips=0, call=0):
+    """The line that asks what the tree offers, of which this call fails, where so many flags may be
+    flipped."""
+    return f"offers\t{flips}\t{fields(tree, call)}"
 
 
 def layers_of_flags():

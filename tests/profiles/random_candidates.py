@@ -1,8 +1,8 @@
 """Random repositories of a few packages, by a second computation of what is visible."""
 import random
 
-from repositories import TOP, check, package, row
-from trees import user
+from repositories import TOP, package, row
+from trees import check, user
 
 TRIED = 400
 NAMES = ["c/p", "c/q", "d/p"]

@@ -1,8 +1,8 @@
 """Which packages are candidates, what else hides one (PMS 14.3), and the order of all of them."""
 import asked
-from repositories import AMD64, CACHE, PROGRAM, TOP, check, ebuild_path, entry, entry_path
+from repositories import AMD64, CACHE, TOP, ebuild_path, entry, entry_path, line
 from repositories import package, packages, row
-from trees import executable, line, link, user
+from trees import PROGRAM, check, executable, link, user
 
 EBUILD = "# c/p-1\n"
 ENTRY, SOURCE = entry_path("c/p-1"), ebuild_path("c/p-1")

@@ -1,9 +1,7 @@
-"""Trees for candidate_vectors, and rows of one and the candidates that are wanted of it."""
-import asked
+"""Trees for ask_offers, and rows of one and the candidates that are wanted of it."""
 from repository import CACHE, TOP, ebuild_path, entry, entry_path, package, packages
-from trees import PROFILE, line, link
+from trees import PROFILE, fields, link
 
-PROGRAM = "candidate_vectors"
 # On amd64, whose stable packages alone are accepted.
 AMD64 = {
     PROFILE: link("../../p/top"),
@@ -11,10 +9,11 @@ AMD64 = {
 }
 
 
+def line(tree, call=0):
+    """The line that asks for the candidates of the tree, of which this call fails."""
+    return f"candidates\t{fields(tree, call)}"
+
+
 def row(tree, *wanted):
     """A tree with the profile above, or one of its own, and the fields that are wanted."""
     return line({**AMD64, **tree}), "\t".join(wanted)
-
-
-def check(rows):
-    return asked.rows_at_once(PROGRAM, rows)

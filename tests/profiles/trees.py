@@ -1,7 +1,7 @@
-"""Trees for profile_vectors, and rows of a tree and what is wanted of it."""
+"""Trees for ask_offers, and rows of a tree and what is wanted of its configuration."""
 import asked
 
-PROGRAM = "profile_vectors"
+PROGRAM = "ask_offers"
 PROFILE = "etc/portage/make.profile"
 REPOSITORY_MASKS = "var/db/repos/gentoo/profiles/package.mask"
 
@@ -29,7 +29,12 @@ EMPTY = {PROFILE: link("../../p/top"), "p/top/eapi": ""}
 
 
 def line(tree, call=0):
-    """The line that asks of the tree, of which this call fails."""
+    """The line that asks for the configuration of the tree, of which this call fails."""
+    return f"profile\t{fields(tree, call)}"
+
+
+def fields(tree, call):
+    """The fields that tell of the tree, of which this call fails."""
     return "\t".join([str(call), *[object_text(path, held) for path, held in tree.items()]])
 
 

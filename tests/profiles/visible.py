@@ -1,6 +1,6 @@
 """Which candidates their keywords and the masks keep back (PMS 7.3.3, 5.2.4)."""
-from repositories import TOP, check, package, packages, row
-from trees import user
+from repositories import TOP, package, packages, row
+from trees import check, user
 
 LINES = "package.accept_keywords"
 STABLE, TESTING = "amd64", "~amd64"

@@ -4,12 +4,12 @@ from lines import rows
 
 def lines_that_count():
     # A line without a newline at the end, a comment, white space before a `#`, carriage returns, a
-    # form feed alone, and a text of blank lines.
+    # text of blank lines, and a form feed, which is no blank.
     table = [
         ("a\n\nb", "1:a|3:b|"),
         ("# x\n # x\na#\n", "2: # x|3:a#|"),
         ("\r\n=c/p-1 \r\n", "2:=c/p-1 \r|"),
-        ("\t\f \r\n\n", ""),
+        ("\t\f \r\n\n", "1:\t\f \r|"),
         ("", ""),
     ]
     return rows("lines", table)

@@ -48,13 +48,13 @@ def odd_but_right_values():
     eapi = rows("eapi", [("\t8\r\n\n", "yes")])
     slots = rows("slots", [(" 0/2 \n", "0 2"), ("3", "3 3")])
     flags = rows("use", [("\n", ""), (" ssl  x\nssl ", "ssl x ")])
-    return eapi + slots + flags + rows("iuse", [("+ssl -x x y\n", "ssl x y ")])
+    return eapi + slots + flags + rows("known", [("+ssl -x x y\n", "ssl x y ")])
 
 
 def faulty_values():
     eapi = rows("eapi", [("", "no"), ("8 8", "no")])
     slots = rows("slots", [(text, "none") for text in ["\n", "0 1", "0/1/2"]])
-    flags = rows("use", [("x +y z", bad_word(2))]) + rows("iuse", [(" x +-y", bad_word(3))])
+    flags = rows("use", [("x +y z", bad_word(2))]) + rows("known", [(" x +-y", bad_word(3))])
     return eapi + slots + flags
 
 
@@ -69,7 +69,7 @@ def texts_of_64_kib():
     blanks = " " * 65_536
     single = rows("eapi", [(f"{blanks}8", "yes")]) + rows("slots", [(f"{blanks}0", "0 0")])
     flags = [(" ".join(RISING), "".join(f"{flag} " for flag in RISING))]
-    return rows("contents", [(text, owned)]) + single + rows("use", flags) + rows("iuse", flags)
+    return rows("contents", [(text, owned)]) + single + rows("use", flags) + rows("known", flags)
 
 
 TESTS = [

@@ -112,7 +112,7 @@ def flags_of_expanded_variables():
         ("abi_X86 64", "abi_x86_64"),
         ("L10N pt-BR", "l10n_pt-BR"),
     ]
-    return asking("flag", table)
+    return asking("flag_of", table)
 
 
 def values_that_may_stand():

@@ -1,22 +1,28 @@
 //! Programs that are asked line by line: each line of the input is a case, and one line is printed
-//! for it.
+//! for it. What they tell of trees is read and printed as `trees.rt` says.
 //!
-//! **A contract sees** nothing of these calls: the programs that tests ask stand on them, and
-//! `ask_trees`, which is theirs too.
+//! **A contract sees** nothing of these calls: the programs that tests ask stand on them, and no
+//! other crate.
 //!
 //! **Proved**: that they are safe.
 //!
-//! **Only tested**: what they print, by the tests that ask those programs.
+//! **Only tested**: what they read and print, by the tests that ask those programs.
 //!
 //! ```
 //! answer_each(rt, alloc, answer)
 //! ```
 #![tactic(auto)]
 
+mod trees;
+
 use std::alloc::{AllocError, Global};
 use std::io;
 use std::io::{BufRead, BufReader, Write};
 use std::process::ExitCode;
+pub use trees::{
+    THEN, bytes_of, entries_of, entry_of, kind_of, letter_of, number_of, objects_of, path_of,
+    push_between, push_hex, push_object, small_number_of,
+};
 
 /// The status where a line could not be read or answered, or the answers not be printed.
 const FAILED: u8 = 1;

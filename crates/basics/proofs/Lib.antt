@@ -1,6 +1,7 @@
 pub mod Each
 pub mod Keys
 pub mod Lists
+pub mod Members
 pub mod Membership
 pub mod Orderings
 pub mod Permutations

@@ -1,3 +1,4 @@
 pub mod Blanks
 pub mod Bytes
+pub mod Limits
 pub mod Members

@@ -1,5 +1,5 @@
 //! What every crate of the workspace wants: a text with equality and order, tests on bytes, the
-//! blanks, and membership in a list by recursion.
+//! blanks, membership in a list by recursion, and the limit of the groups of a plan.
 //!
 //! **A contract sees** a [`Text`] as its bytes, `text.now`; membership, distinct lists and lists
 //! that say the same are words of `specs/Members.antt`.
@@ -17,8 +17,10 @@
 
 mod blanks;
 mod bytes;
+mod limits;
 mod text;
 
 pub use blanks::{CARRIAGE_RETURN, NEWLINE, SPACE, TAB, is_blank};
 pub use bytes::{is_digit, is_lower};
+pub use limits::MOST_GROUPS;
 pub use text::Text;

@@ -14,7 +14,7 @@ use Rattle.dep_tree.specs.Truth.{is_fact, kind, some_match}
 use Rattle.pkg_state.specs.Consistent.{facts_of}
 use Rattle.pkg_state.specs.Package.{Package, tree_of}
 use Rattle.pkg_state.specs.declared.class.Class.{Class}
-use Rattle.plan_law.proofs.Members.{passes_some, some_passes}
+use Rattle.basics.proofs.Members.{passes_some, some_passes}
 use Rattle.choice_law.specs.Universe.{Filling, Stands, Universe, Value, absent, conflicts, counts, is_new, keep, lines, offer_at, package_of, packages, standing, variant}
 use Rattle.choice_law.specs.Solutions.{IsSolution}
 use Rattle.choice_law.specs.Tree.{Choice, IsOpen, IsOption, MayBe, MayChange, Obligation, Serves, absence, conflict, decided, filling, held, held_by, required, tree, wanted}

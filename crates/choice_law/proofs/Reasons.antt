@@ -14,7 +14,7 @@ use Rattle.dep_tree.specs.Grammar.{is_block}
 use Rattle.dep_tree.specs.Truth.{kind}
 use Rattle.pkg_state.specs.Package.{Package, tree_of}
 use Rattle.pkg_state.specs.declared.class.Class.{Class}
-use Rattle.plan_law.proofs.Members.{passes_some}
+use Rattle.basics.proofs.Members.{passes_some}
 use Rattle.choice_law.specs.Universe.{Offer, Universe, Value, absent, is_new, keep, lines, package_of, variant}
 use Rattle.choice_law.specs.Tree.{Choice, Obligation, decided}
 use Rattle.choice_law.specs.Reasons.{offers, offers_named, offers_needed, reason, rests_on, those_below}

@@ -22,7 +22,7 @@ use Rattle.pkg_state.specs.Consistent.{facts_of}
 use Rattle.pkg_state.specs.Package.{Package}
 use Rattle.pkg_state.proofs.Lists.{any_of_kind}
 use Rattle.pkg_state.proofs.Named.{same_package}
-use Rattle.plan_law.proofs.Members.{passes_some}
+use Rattle.basics.proofs.Members.{passes_some}
 use Rattle.choice_law.specs.Universe.{Offer, Value, absent, keep, no_offer, package_of, variant}
 use Rattle.choice_tree.specs.Candidates.{Candidate, all_free, free_line, if_free, kept, of_line, varied}
 use Rattle.choice_tree.specs.Keys.{AreKeyed, HasCome, Lists, ends_with, has_key, keyed, last_if, lines_at, offers_in, offers_key, with_last}

@@ -9,7 +9,8 @@ use Rattle.config_text.specs.AssignFaults.{BeginsNoItem, FirstFault, IsOpen}
 use Rattle.config_text.specs.Assignments.{AreItems, IsItem, Item, Blank, Comment, Assign, Says, is_in_line, is_solid, last_value, next_said, said, said_by, spell_item, spell_items, value}
 use Rattle.config_text.specs.Follow.{Stops}
 use Rattle.config_text.specs.Known.{Knows, value_of}
-use Rattle.config_text.specs.Lines.{is_white, line_behind}
+use Rattle.basics.specs.Blanks.{is_blank}
+use Rattle.config_text.specs.Lines.{line_behind}
 use Rattle.config_text.specs.Reading.{Assigns, BeginsWord, GivesRuns, ItemFault, LacksKey, OpensQuote, ReadsItem, ReadsValue, Skips, SoFar, listed}
 use Rattle.config_text.specs.Stretches.{IsCut}
 use Rattle.config_text.specs.Values.{AreRuns, Run, spell_runs}
@@ -24,10 +25,10 @@ use Rattle.config_text.proofs.OneText.{with_key}
 use Rattle.config_text.proofs.Runs.{flat_push, follow_push}
 use Rattle.config_text.proofs.Wholes.{ascii_first, cut_at_ascii, whole_end, whole_start}
 
-white_byte : (b : ℕ) → is_white b ≡ true → b < 128
+white_byte : (b : ℕ) → is_blank b ≡ true → b < 128
 white_byte b h = grind (arith, nat_tests)
 
-pub blank_skips : (text rest : List ℕ) (b : ℕ) → IsUtf8 text → text ≡ b ∷ rest → is_white b ≡ true → Skips text rest
+pub blank_skips : (text rest : List ℕ) (b : ℕ) → IsUtf8 text → text ≡ b ∷ rest → is_blank b ≡ true → Skips text rest
 blank_skips text rest b good is white =
     record {
       item = Blank b;

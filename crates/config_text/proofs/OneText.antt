@@ -7,7 +7,7 @@ use Rattle.basics.proofs.Lists.{heads, tails}
 use Rattle.config_text.specs.AssignFaults.{BadKeyAt, BeginsNoItem, FirstFault, IsOpen, OpenQuoteAt}
 use Rattle.config_text.specs.Assignments.{AreItems, IsItem, Item, Blank, Comment, Assign, Says, is_in_line, is_solid, said, spell_item, spell_items}
 use Rattle.config_text.specs.Follow.{Stops}
-use Rattle.config_text.specs.Lines.{is_white}
+use Rattle.basics.specs.Blanks.{is_blank}
 use Rattle.config_text.specs.Values.{AreQuoted, AreRuns, IsKey, IsPart, IsRun, Part, Run, Bare, Single, Double, begins_key, is_in_single, is_key_byte, spell_part, spell_parts, spell_run, spell_runs}
 use Rattle.config_text.specs.declared.assignment.Assignment.{Assignment}
 use Rattle.config_text.specs.declared.fault.TextFault.{TextFault}
@@ -16,10 +16,10 @@ use Rattle.config_text.proofs.BadBytes.{no_bad_byte}
 use Rattle.config_text.proofs.OneValue.{key_begins, key_bytes, one_part, one_run, one_value, part_first, quotes_end, value_ends}
 use Rattle.config_text.proofs.Stretches.{not_inside, one_stretch, onward, same_list, stopped}
 
-white_begins_no_key : (b : ℕ) → is_white b ≡ true → begins_key b ≡ false
+white_begins_no_key : (b : ℕ) → is_blank b ≡ true → begins_key b ≡ false
 white_begins_no_key b h = grind (arith, nat_tests)
 
-blank_assign : (b : ℕ) (key more r : List ℕ) → is_white b ≡ true → IsKey key → b ∷ r ≡ key ++ more → ⊥
+blank_assign : (b : ℕ) (key more r : List ℕ) → is_blank b ≡ true → IsKey key → b ∷ r ≡ key ++ more → ⊥
 blank_assign b key more r h k e = key_begins key (b ∷ r) more k (white_begins_no_key b h) e
 
 comment_assign : (key more r : List ℕ) → IsKey key → 35 ∷ r ≡ key ++ more → ⊥
@@ -40,8 +40,8 @@ one_assign key name xs ys r s h k e =
     let values : (xs ≡ ys) × (r ≡ s) = one_value xs ys r s h.1.1 k.1.1 h.1.0 k.1.0 keys.1 in
     (ap (λ n. Assign n xs) keys.0 ∙ ap (λ l. Assign name l) values.0, values.1)
 
-blank_comment : (b : ℕ) (r s : List ℕ) → is_white b ≡ true → b ∷ r ≡ 35 ∷ s → ⊥
-blank_comment b r s h e = let no : false ≡ true = subst (λ y. is_white y ≡ true) (heads b 35 r s e) h in absurd (cc)
+blank_comment : (b : ℕ) (r s : List ℕ) → is_blank b ≡ true → b ∷ r ≡ 35 ∷ s → ⊥
+blank_comment b r s h e = let no : false ≡ true = subst (λ y. is_blank y ≡ true) (heads b 35 r s e) h in absurd (cc)
 
 pub one_item : (x y : Item) (r s : List ℕ) → IsItem x r → IsItem y s → spell_item x ++ r ≡ spell_item y ++ s → (x ≡ y) × (r ≡ s)
 one_item (Blank b) (Blank c) r s h k e = (ap Blank (heads b c r s e), tails b c r s e)
@@ -84,7 +84,7 @@ rest_of known bytes as' xs r p f e =
 bad_rest : (r : List ℕ) (zs : List Item) → BeginsNoItem r → AreItems zs [] → r ≡ spell_items zs ++ [] → ⊥
 bad_rest [] zs bad f e = absurd bad
 bad_rest (b ∷ r) [] bad f e = absurd (cc)
-bad_rest (b ∷ r) (Blank c ∷ zs) bad f e = both_ways (is_white b) bad.0 (subst (λ y. is_white y ≡ true) (sym (heads b c r (spell_items zs ++ []) e)) f.0)
+bad_rest (b ∷ r) (Blank c ∷ zs) bad f e = both_ways (is_blank b) bad.0 (subst (λ y. is_blank y ≡ true) (sym (heads b c r (spell_items zs ++ []) e)) f.0)
 bad_rest (b ∷ r) (Comment u ∷ zs) bad f e = bad.1.0 (heads b 35 r ((u ++ spell_items zs) ++ []) e)
 bad_rest (b ∷ r) (Assign n xs ∷ zs) bad f e =
     bad.1.1 n ((spell_runs xs ++ spell_items zs) ++ []) f.0.0 (e ∙ (ap (λ l. l ++ []) (with_key n (spell_runs xs) (spell_items zs)) ∙ with_key n (spell_runs xs ++ spell_items zs) []))

@@ -5,7 +5,7 @@ use Rattle.std.proofs.lemmas.Bool.{both_ways}
 use Rattle.basics.proofs.Lists.{heads, heads_differ, tails}
 use Rattle.config_text.specs.Assignments.{is_solid}
 use Rattle.config_text.specs.Follow.{Stops}
-use Rattle.config_text.specs.Lines.{is_white}
+use Rattle.basics.specs.Blanks.{is_blank}
 use Rattle.config_text.specs.Values.{AreQuoted, AreRuns, IsKey, IsPart, IsPlain, IsRun, LacksQuote, Part, Plain, Escaped, Named, Braced, Run, Bare, Single, Double, begins_key, is_escapable, is_in_single, is_key_byte, may_stand, spell_part, spell_parts, spell_run, spell_runs}
 use Rattle.config_text.proofs.Stretches.{one_stretch, same_list, stopped}
 
@@ -125,7 +125,7 @@ solid_first true q h = h
 solid_first false q h = refl
 
 bare_is_solid : (b : ℕ) → may_stand false b ≡ true → is_solid b ≡ true
-bare_is_solid b h = solid_first (is_white b) (b == 34 || b == 39) h
+bare_is_solid b h = solid_first (is_blank b) (b == 34 || b == 39) h
 
 -- a run begins with no white space
 pub run_first : (x : Run) (r more : List ℕ) (b : ℕ) → IsRun x r → spell_run x ++ r ≡ b ∷ more → is_solid b ≡ true

@@ -9,7 +9,7 @@ use Rattle.std.proofs.lemmas.List.{flat_map_more, length-append}
 use Rattle.config_text.specs.AssignFaults.{IsOpen}
 use Rattle.config_text.specs.Assignments.{is_solid, part_value}
 use Rattle.config_text.specs.Follow.{Follow, Stops}
-use Rattle.config_text.specs.Lines.{is_white}
+use Rattle.basics.specs.Blanks.{is_blank}
 use Rattle.config_text.specs.Reading.{Begins, BeginsOther, Gives, GivesAll, GivesPart, GivesRun, GivesRuns, IsWhole}
 use Rattle.config_text.specs.Stretches.{IsCut}
 use Rattle.config_text.specs.Values.{AreRuns, IsPart, Part, Run, Bare, Single, Double, is_in_single, may_stand, spell_part, spell_parts, spell_run, spell_runs}
@@ -129,7 +129,7 @@ quoted_begins (b ∷ rest) some other = not_quote
 
 pub bare_begins : (text : List ℕ) → Begins is_solid text → BeginsOther 39 text → BeginsOther 34 text → Begins (may_stand false) text
 bare_begins [] begins no_single no_double = begins
-bare_begins (b ∷ rest) begins no_single no_double = bare (is_white b) (b == 34) (b == 39) begins (ne_eqb b 34 (λ e. no_double rest (ap (λ x. x ∷ rest) e))) (ne_eqb b 39 (λ e. no_single rest (ap (λ x. x ∷ rest) e)))
+bare_begins (b ∷ rest) begins no_single no_double = bare (is_blank b) (b == 34) (b == 39) begins (ne_eqb b 34 (λ e. no_double rest (ap (λ x. x ∷ rest) e))) (ne_eqb b 39 (λ e. no_single rest (ap (λ x. x ∷ rest) e)))
   where
     bare : (w d s : Bool) → not w ≡ true → d ≡ false → s ≡ false → not (w || (d || s)) ≡ true
     bare true d s e f g = e

@@ -2,7 +2,8 @@
 use Rattle.std.specs.Prelude.{◌≡◌, ◌≢◌, ◌⊎◌, ℕ, false, List, [], ◌∷◌, ◌++◌, ⊤}
 use Rattle.config_text.specs.Assignments.{AreItems, Item, equals, hash, spell_items}
 use Rattle.config_text.specs.Faults.{NotUtf8At}
-use Rattle.config_text.specs.Lines.{is_white, line_behind}
+use Rattle.basics.specs.Blanks.{is_blank}
+use Rattle.config_text.specs.Lines.{line_behind}
 use Rattle.config_text.specs.Values.{AreQuoted, AreRuns, IsKey, LacksQuote, Part, Run, double_quote, single_quote, spell_parts, spell_runs}
 use Rattle.config_text.specs.declared.fault.TextFault.{TextFault}
 use Rattle.config_text.specs.declared.fault.TextFault.TheVariants.{BadKey, Memory, NotUtf8, OpenQuote}
@@ -11,7 +12,7 @@ use Rattle.config_text.specs.declared.fault.TextFault.TheVariants.{BadKey, Memor
 abbrev pub BeginsNoItem : List ℕ → Type 0
 BeginsNoItem [] = ⊥
 BeginsNoItem (b ∷ bytes) =
-    (is_white b ≡ false) × ((b ≢ hash) ×
+    (is_blank b ≡ false) × ((b ≢ hash) ×
     ((key rest : List ℕ) → IsKey key → ¬ (b ∷ bytes ≡ key ++ (equals ∷ rest))))
 
 -- behind some items the text begins no other, in this line

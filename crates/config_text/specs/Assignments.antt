@@ -2,7 +2,8 @@
 use Rattle.std.specs.Prelude.{◌≡◌, ℕ, Bool, true, not, List, [], ◌∷◌, ◌++◌, bytes_eq, fold, if◌then◌else◌}
 use Rattle.std.specs.List.{AllByRecursion, flat_map}
 use Rattle.config_text.specs.Follow.{Follow, Stops}
-use Rattle.config_text.specs.Lines.{is_newline, is_white, line_behind}
+use Rattle.basics.specs.Blanks.{is_blank}
+use Rattle.config_text.specs.Lines.{is_newline, line_behind}
 use Rattle.config_text.specs.Values.{AreRuns, IsKey, Part, Plain, Escaped, Named, Braced, Run, Bare, Single, Double, spell_runs}
 use Rattle.config_text.specs.declared.assignment.Assignment.{Assignment}
 
@@ -16,9 +17,9 @@ equals = 61
 abbrev pub is_in_line : ℕ → Bool
 is_in_line b = not (is_newline b)
 
--- the byte is no white space
+-- the byte is no blank
 abbrev pub is_solid : ℕ → Bool
-is_solid b = not (is_white b)
+is_solid b = not (is_blank b)
 
 pub data Item : Type 0 where
   Blank : ℕ → Item
@@ -33,9 +34,9 @@ spell_item (Comment bytes) = hash ∷ bytes
 spell_item (Assign key runs) = key ++ (equals ∷ spell_runs runs)
 
 -- the item is in form in front of the text: a comment goes on to the end of its line, and a value
--- to the next white space
+-- to the next blank
 abbrev pub IsItem : Item → List ℕ → Type 0
-IsItem (Blank b) after = is_white b ≡ true
+IsItem (Blank b) after = is_blank b ≡ true
 IsItem (Comment bytes) after =
     AllByRecursion (λ b. is_in_line b ≡ true) bytes × Stops is_in_line after
 IsItem (Assign key runs) after = IsKey key × (AreRuns runs after × Stops is_solid after)

@@ -7,10 +7,6 @@ use Rattle.config_text.specs.declared.line.Line.{Line}
 abbrev pub is_newline : ℕ → Bool
 is_newline b = b == 10
 
--- a space, a tab, a newline, a carriage return or a form feed
-abbrev pub is_white : ℕ → Bool
-is_white b = is_blank b || b == 12
-
 -- the greatest number of a line
 abbrev pub most_lines : ℕ
 most_lines = 4294967295
@@ -28,9 +24,9 @@ abbrev pub begins_with_hash : List ℕ → Bool
 begins_with_hash [] = false
 begins_with_hash (b ∷ bytes) = b == 35
 
--- the line has more than white space, and doesn't begin with `#`
+-- the line has more than blanks, and doesn't begin with `#`
 abbrev pub counts : List ℕ → Bool
-counts line = not (begins_with_hash line) && list_any (λ b. not (is_white b)) line
+counts line = not (begins_with_hash line) && list_any (λ b. not (is_blank b)) line
 
 -- the pieces as lines, the first of which has so many newlines before it
 abbrev pub numbered : ℕ → List (List ℕ) → List Line

@@ -5,7 +5,8 @@ use Rattle.std.specs.Str.{IsUtf8}
 use Rattle.config_text.specs.AssignFaults.{BeginsNoItem, IsOpen}
 use Rattle.config_text.specs.Assignments.{AreItems, IsItem, Item, equals, hash, is_solid, part_value, run_value, said, said_by, spell_item, spell_items}
 use Rattle.config_text.specs.Follow.{Follow, Stops}
-use Rattle.config_text.specs.Lines.{is_white, line_behind}
+use Rattle.basics.specs.Blanks.{is_blank}
+use Rattle.config_text.specs.Lines.{line_behind}
 use Rattle.config_text.specs.Values.{AreRuns, IsKey, IsPart, IsRun, Part, Run, backslash, dollar, is_escapable, spell_part, spell_run, spell_runs}
 use Rattle.config_text.specs.declared.assignment.Assignment.{Assignment}
 use Rattle.config_text.specs.declared.fault.TextFault.{TextFault}
@@ -104,7 +105,7 @@ pub record IsPiece (quoted : Bool) (text rest : List ℕ) (piece : Piece) : Type
   pub whole : (values : List ℕ → List ℕ) (value : List ℕ) → NamesText values piece →
       IsWhole value text → IsWhole (value ++ piece_value values piece) rest
 
--- where the runs of a value end: in front of white space or at the end of the text, or in front of
+-- where the runs of a value end: in front of a blank or at the end of the text, or in front of
 -- a quote that is open
 abbrev pub ReadsValue : (List ℕ → List ℕ) → List ℕ → List ℕ → List ℕ → ValueEnd → Type 0
 ReadsValue named text was now (Closed more) =
@@ -135,12 +136,12 @@ abbrev pub HasByte : List ℕ → Type 0
 HasByte [] = ⊥
 HasByte (b ∷ bytes) = ⊤
 
--- the text begins with a byte that is no white space and no `#`
+-- the text begins with a byte that is no blank and no `#`
 abbrev pub BeginsWord : List ℕ → Type 0
 BeginsWord [] = ⊥
-BeginsWord (b ∷ bytes) = (is_white b ≡ false) × (b ≢ hash)
+BeginsWord (b ∷ bytes) = (is_blank b ≡ false) × (b ≢ hash)
 
--- the text begins with white space or a comment
+-- the text begins with a blank or a comment
 pub record Skips (text rest : List ℕ) : Type 0 where
   pub item : Item
   pub form : IsItem item rest

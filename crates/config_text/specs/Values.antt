@@ -3,7 +3,7 @@ use Rattle.std.specs.Prelude.{◌≡◌, ℕ, Bool, true, false, not, ◌||◌, 
 use Rattle.std.specs.List.{AllByRecursion, flat_map}
 use Rattle.basics.specs.Bytes.{is_digit, is_lower}
 use Rattle.config_text.specs.Follow.{Follow, Stops}
-use Rattle.config_text.specs.Lines.{is_white}
+use Rattle.basics.specs.Blanks.{is_blank}
 
 abbrev pub double_quote : ℕ
 double_quote = 34
@@ -66,7 +66,7 @@ is_escapable b = b == 10 || (b == double_quote || (b == dollar || b == backslash
 -- the byte may stand in double quotes, or in bare text
 abbrev pub may_stand : Bool → ℕ → Bool
 may_stand true b = not (b == double_quote)
-may_stand false b = not (is_white b || (b == double_quote || b == single_quote))
+may_stand false b = not (is_blank b || (b == double_quote || b == single_quote))
 
 -- behind a dollar sign the text begins no variable
 pub record BeginsNoName (after : List ℕ) : Type 0 where

@@ -12,11 +12,10 @@ ghost use Rattle.config_text.specs.declared.fault.TextFault.TheVariants.{Memory}
 use crate::fault::TextFault;
 use crate::head::{first, key_before};
 use crate::known::Known;
-use crate::line::is_white;
 use crate::stretch::{Stretch, cut};
 use crate::utf8::{line_after, text_of};
 use crate::value::{ValueEnd, read_value};
-use basics::Text;
+use basics::{Text, is_blank};
 use std::alloc::{AllocError, Global};
 
 /// An assignment of a text, such as `USE="doc -x"`.
@@ -116,7 +115,7 @@ fn skipped(text: &[u8]) -> Option<&[u8]>
     ensures { MatchOption result (BeginsWord text.now) (λ rest. Skips text.now rest.now) }
 {
     match first(text) {
-        Some((byte, rest)) if is_white(byte) => Some(rest),
+        Some((byte, rest)) if is_blank(byte) => Some(rest),
         Some((b'#', rest)) => {
             let (_, rest) = cut(Stretch::Line, rest);
             Some(rest)

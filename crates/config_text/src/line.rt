@@ -2,12 +2,13 @@ ghost use Rattle.std.specs.Prelude.{◌≡◌, IfErr, IfOk, OnOk, map, not};
 ghost use Rattle.std.specs.List.{list_any, slice_split};
 ghost use Rattle.std.specs.Str.{IsUtf8};
 ghost use Rattle.config_text.specs.Faults.{LineFault};
-ghost use Rattle.config_text.specs.Lines.{begins_with_hash, counts, is_newline, is_white, lines};
+ghost use Rattle.basics.specs.Blanks.{is_blank};
+ghost use Rattle.config_text.specs.Lines.{begins_with_hash, counts, is_newline, lines};
 ghost use Rattle.config_text.specs.declared.fault.TextFault.TheVariants.{Memory};
 
 use crate::fault::TextFault;
 use crate::utf8::{line_number, text_of};
-use basics::Text;
+use basics::{Text, is_blank};
 use std::alloc::{AllocError, Global};
 
 /// A line of a text, without its newline.
@@ -18,7 +19,7 @@ pub struct Line {
     pub text: Text,
 }
 
-/// The lines of the text, but those of white space only and those that begin with `#`.
+/// The lines of the text, but those of blanks only and those that begin with `#`.
 pub fn lines(alloc: Global, bytes: &[u8]) -> Result<Vec<Line>, TextFault>
     ensures found { IfOk result (λ v. v.items ≡ lines bytes.now) }
     ensures utf8 { OnOk result (IsUtf8 bytes.now) }
@@ -65,13 +66,7 @@ fn begins_with_hash(line: &[u8]) -> bool
 }
 
 fn has_solid(line: &[u8]) -> bool
-    ensures { result ≡ list_any (λ b. not (is_white b)) line.now }
+    ensures { result ≡ list_any (λ b. not (is_blank b)) line.now }
 {
-    line.iter().any(|b| !is_white(*b))
-}
-
-pub fn is_white(byte: u8) -> bool
-    ensures { result ≡ is_white byte }
-{
-    basics::is_blank(byte) || byte == 0x0C
+    line.iter().any(|b| !is_blank(*b))
 }

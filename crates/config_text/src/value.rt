@@ -8,9 +8,9 @@ ghost use Rattle.config_text.specs.Values.{double_quote, single_quote};
 
 use crate::head::{behind, first};
 use crate::known::Known;
-use crate::line::is_white;
 use crate::part::read_part;
 use crate::stretch::{Stretch, cut};
+use basics::is_blank;
 use std::alloc::{AllocError, Global};
 
 /// Reads what stands behind a single quote, and answers what is behind the second one.
@@ -97,7 +97,7 @@ fn has_run(text: &[u8]) -> bool
     ensures { MatchBool result (Begins is_solid text.now) (Stops is_solid text.now) }
 {
     match first(text) {
-        Some((byte, _)) => !is_white(byte),
+        Some((byte, _)) => !is_blank(byte),
         None => false,
     }
 }

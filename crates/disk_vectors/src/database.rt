@@ -1,6 +1,6 @@
 //! The files of a package's record.
 
-use ask_trees::{cut, entries_of, not_in_form, push_between, push_object};
+use ask_lines::{cut, entries_of, not_in_form, push_between, push_object};
 use dep_atom::{Facts, PackageId};
 use file_tree::Entry;
 use pms_names::{Flags, SlotName};

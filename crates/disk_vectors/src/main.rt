@@ -31,8 +31,7 @@ mod sinks;
 mod texts;
 mod trees;
 
-use ask_lines::{answer_each, exit_of};
-use ask_trees::{cut, not_in_form};
+use ask_lines::{answer_each, cut, exit_of, not_in_form};
 use std::alloc::Global;
 use std::io;
 use std::process::ExitCode;

@@ -1,6 +1,6 @@
 //! Orders to builders.
 
-use ask_trees::{cut, not_in_form};
+use ask_lines::{cut, not_in_form};
 use build_pool::{Binds, Order};
 use dep_atom::PackageId;
 use pms_names::{Flags, SlotName};

@@ -1,6 +1,6 @@
 //! The journal's records, their names and digests.
 
-use ask_trees::{
+use ask_lines::{
     bytes_of, cut, kind_of, letter_of, not_in_form, number_of, path_of, push_hex, small_number_of,
 };
 use file_tree::Path;

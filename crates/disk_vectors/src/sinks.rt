@@ -2,7 +2,7 @@
 //! `write BYTES` writes, `written` tells the bytes so far, and `refused` how many growths were
 //! refused.
 
-use ask_trees::{bytes_of, cut, not_in_form, number_of, push_between, push_hex};
+use ask_lines::{bytes_of, cut, not_in_form, number_of, push_between, push_hex};
 use file_tree::Sink;
 use std::alloc::{AllocError, Global};
 use std::io;

@@ -1,6 +1,6 @@
 //! Bytes, texts and paths.
 
-use ask_trees::{bytes_of, cut, path_of};
+use ask_lines::{bytes_of, cut, path_of};
 use basics::{Text, is_digit, is_lower};
 use file_tree::{Path, PathFault};
 use std::alloc::{AllocError, Global};

@@ -5,7 +5,7 @@
 //! `image` takes the tree as a crash leaves it, where each path that is named holds that object, or
 //! nothing by `gone PATH`.
 
-use ask_trees::{
+use ask_lines::{
     THEN, cut, entry_of, letter_of, not_in_form, number_of, path_of, push_between, push_object,
 };
 use file_tree::{Entry, Look, Object, Path, Tree, TreeFault};

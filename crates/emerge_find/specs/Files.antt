@@ -6,7 +6,8 @@ use Rattle.vdb_law.specs.Fields.{text_of}
 use Rattle.file_tree.specs.Disk.{Map}
 use Rattle.plan_text.specs.Faults.{IsFaulty, line_number}
 use Rattle.plan_text.specs.Plans.{GroupValue}
-use Rattle.plan_text.specs.Texts.{IsPlan, most_groups, plan_text}
+use Rattle.plan_text.specs.Texts.{IsPlan, plan_text}
+use Rattle.basics.specs.Limits.{most_groups}
 use Rattle.plan_text.specs.declared.fault.PlanTextFault.{PlanTextFault}
 use Rattle.plan_text.specs.declared.fault.PlanTextFault.TheVariants as texts
 

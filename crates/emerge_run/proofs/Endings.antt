@@ -11,9 +11,9 @@ use Rattle.vdb_law.specs.Packages.{Installed}
 use Rattle.merge_journal.specs.Group as journal
 use Rattle.merge_journal.specs.Group.{applied}
 use Rattle.merge_core.specs.Trail.{IsAtRest}
-use Rattle.merge_journal.specs.Names.{jobs}
+use Rattle.file_tree.specs.Fixed.{jobs}
 use Rattle.merge_journal.specs.Recovered.{IsRecovered}
-use Rattle.owner_book.specs.declared.fault.ImageBad.{ImageBad}
+use Rattle.merge_fit.specs.declared.fault.ImageBad.{ImageBad}
 use Rattle.recovery.specs.Promise as promises
 use Rattle.recovery.specs.Promise.{IsFaultOf}
 use Rattle.file_tree.specs.declared.fault.TreeFault.TheVariants as trees

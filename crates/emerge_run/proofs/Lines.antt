@@ -1,7 +1,8 @@
 -- What a run writes, from its groups' lines to its last line.
 use Rattle.std.proofs.Common.{◌≡◌, ◌≤◌, ℕ, Bool, List, [], ◌∷◌, ◌++◌, inl, inr, refl, ap, sym, ◌∙◌, subst, append_assoc, append-nil, length, take}
 use Rattle.file_tree.specs.Disk.{Map, Rose}
-use Rattle.merge_group.specs.Lines.{AreLines, Wrote}
+use Rattle.merge_group.specs.Lines.{AreLines}
+use Rattle.file_tree.specs.Output.{Wrote}
 use Rattle.plan_law.specs.Plans.{Group}
 use Rattle.run_turns.specs.Plans.{line_for}
 use Rattle.run_turns.specs.declared.job.Job.{Job}

@@ -12,12 +12,12 @@ use Rattle.file_tree.specs.declared.objects.Entry.{Entry}
 use Rattle.file_tree.specs.declared.objects.Kind.TheVariants.{Plain}
 use Rattle.merge_image.specs.Images.{IsBuilt}
 use Rattle.merge_image.specs.Images as seen
-use Rattle.merge_fit.specs.declared.limits.TheConstants.{MOST_ENTRIES}
+use Rattle.merge_image.specs.declared.limits.TheConstants.{MOST_ENTRIES}
 use Rattle.vdb_law.specs.Packages.{Installed}
 use Rattle.law_run.specs.Openings.{AreOwners}
 use Rattle.owner_book.specs.Book.{Book}
 use Rattle.owner_book.specs.declared.fault.Collision as books
-use Rattle.owner_book.specs.declared.fault.ImageBad.{ImageBad}
+use Rattle.merge_fit.specs.declared.fault.ImageBad.{ImageBad}
 use Rattle.owner_book.specs.declared.fault.Collision.TheVariants as met
 use Rattle.plan_law.specs.Plans.{Group}
 use Rattle.merge_site.specs.declared.fault.ClaimStop.{ClaimStop}

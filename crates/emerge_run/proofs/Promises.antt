@@ -15,7 +15,7 @@ use Rattle.file_tree.specs.declared.traits.Tree.{Ghosts as Tree}
 use Rattle.vdb_law.specs.Packages.{Installed}
 use Rattle.merge_core.specs.CoreValue.{CoreValue}
 use Rattle.merge_group.specs.Applied.{number}
-use Rattle.merge_group.specs.Lines.{Wrote}
+use Rattle.file_tree.specs.Output.{Wrote}
 use Rattle.merge_group.specs.Went.{HaveRun}
 use Rattle.merge_group.proofs.Rising.{rose_earlier, rose_later}
 use Rattle.merge_image.specs.Images.{IsBuilt, IsPastLimit}

@@ -4,7 +4,7 @@ use Rattle.basics.specs.Members.{Has}
 use Rattle.build_pool.specs.declared.orders.Order.{Order}
 use Rattle.dep_atom.specs.declared.package.PackageId.{PackageId}
 use Rattle.file_tree.specs.declared.objects.Entry.{Entry}
-use Rattle.merge_fit.specs.declared.limits.TheConstants.{MOST_ENTRIES}
+use Rattle.merge_image.specs.declared.limits.TheConstants.{MOST_ENTRIES}
 use Rattle.plan_law.specs.Plans.{Group}
 use Rattle.emerge_choose.specs.declared.chosen.Chosen.{Chosen}
 use Rattle.run_turns.specs.Plans.{AreJobs, line_for, orders_at}

@@ -8,7 +8,8 @@ use Rattle.file_tree.specs.Disk.{CountsFault, Map}
 use Rattle.file_tree.specs.declared.traits.Sink.{Ghosts as Sink}
 use Rattle.file_tree.specs.declared.traits.Tree.{Ghosts as Tree}
 use Rattle.merge_group.specs.Applied.{number}
-use Rattle.merge_group.specs.Lines.{AreTold, Wrote}
+use Rattle.merge_group.specs.Lines.{AreTold}
+use Rattle.file_tree.specs.Output.{Wrote}
 use Rattle.merge_image.specs.Images.{IsBuilt}
 use Rattle.run_sound.specs.Ends.{Images}
 use Rattle.emerge_run.specs.Answers.{Asks}

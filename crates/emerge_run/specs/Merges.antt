@@ -8,7 +8,8 @@ use Rattle.file_tree.specs.declared.traits.Sink.{Ghosts as Sink}
 use Rattle.file_tree.specs.declared.traits.Tree.{Ghosts as Tree}
 use Rattle.vdb_law.specs.Packages.{Installed}
 use Rattle.merge_group.specs.Applied.{number}
-use Rattle.merge_group.specs.Lines.{AreLines, AreTold, Wrote}
+use Rattle.merge_group.specs.Lines.{AreLines, AreTold}
+use Rattle.file_tree.specs.Output.{Wrote}
 use Rattle.merge_image.specs.Images.{IsBuilt}
 use Rattle.plan_law.specs.Plans.{Group}
 use Rattle.run_plan.specs.declared.merge.Task.{Task}

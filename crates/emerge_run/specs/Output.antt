@@ -1,7 +1,8 @@
 -- What a run writes: the lines of its groups, or the plan that it shows, and its last line.
 use Rattle.std.specs.Prelude.{◌≡◌, ◌⊎◌, ◌≤◌, ℕ, Bool, true, false, List, [], ◌++◌}
 use Rattle.file_tree.specs.Disk.{Map, Rose}
-use Rattle.merge_group.specs.Lines.{AreLines, IsBeginning}
+use Rattle.merge_group.specs.Lines.{AreLines}
+use Rattle.file_tree.specs.Output.{IsBeginning}
 use Rattle.plan_law.specs.Plans.{Group}
 use Rattle.merge_report.specs.Last.{IsLast}
 use Rattle.merge_report.specs.declared.status.Status.{Status}

@@ -2,7 +2,7 @@ ghost use Rattle.std.specs.Prelude.{◌≡◌, ◌<◌, ◌≤◌, ◌⊎◌, []
 ghost use Rattle.std.specs.Prelude.{map, string_bytes, true};
 ghost use Rattle.file_tree.specs.Disk.{Map, Rose};
 ghost use Rattle.vdb_law.specs.Packages.{Installed};
-ghost use Rattle.merge_group.specs.Lines.{Wrote};
+ghost use Rattle.file_tree.specs.Output.{Wrote};
 ghost use Rattle.law_run.specs.Ends.{BeginsWith};
 ghost use Rattle.merge_report.specs.Last.{IsEnd};
 ghost use Rattle.emerge_run.specs.Commands.{RunsCommand};

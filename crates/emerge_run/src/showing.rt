@@ -1,6 +1,6 @@
 ghost use Rattle.std.specs.Prelude.{◌≡◌, ◌⊎◌, ◌≤◌, IsTrue, string_bytes};
 ghost use Rattle.file_tree.specs.Disk.{Rose};
-ghost use Rattle.merge_group.specs.Lines.{Wrote};
+ghost use Rattle.file_tree.specs.Output.{Wrote};
 ghost use Rattle.emerge_run.specs.Output.{IsCut};
 
 use file_tree::Sink;

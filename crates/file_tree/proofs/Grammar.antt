@@ -1,6 +1,8 @@
 -- When a text is a path, and which fault is its first.
 use Rattle.std.proofs.Common.{◌≡◌, ◌<◌, ◌≤◌, ◌+◌, ◌&&◌, ℕ, zero, suc, Bool, true, false, not, List, length, ap, sym, ◌∙◌, subst, refl, arith, ltb, leb, inl, inr, Option, Some, None, MatchOption, below_more}
 use Rattle.std.proofs.lemmas.Bool.{lt-ltb, le-ltb, le-leb, lt-leb, and_from, and_left, and_right, and_parts, cases_lt, true≢false, not-true}
+use Rattle.std.specs.Str.{is_utf8, IsUtf8}
+use Rattle.std.proofs.lemmas.Str.{IsUtf8-from_is_utf8}
 use Rattle.file_tree.specs.declared.limits.TheConstants.{MOST_PATH_BYTES}
 use Rattle.file_tree.specs.Paths.{is_path, none_below, bad_at, bad_char_at, bad_part_at, FaultAt, FirstFault, IsGoodBefore}
 use Rattle.file_tree.specs.declared.fault.PathFault.{PathFault}
@@ -86,3 +88,12 @@ pub end_decides : (bytes : List ℕ) (r : Option PathFault) → 0 < length bytes
 end_decides bytes None some short good h = is_path_if_good bytes some short (below_more _ _ good h)
 end_decides bytes (Some f) some short good h =
     first_bad bytes (length bytes) f (record { some = some; short = short; in_range = omega arith; before = good }) h
+
+-- ---- texts of which the bytes are UTF-8
+
+not_utf8 : (b : Bool) (bytes : List ℕ) → is_utf8 bytes ≡ b → (IsUtf8 bytes → ⊥) → b ≡ false
+not_utf8 true bytes e h = absurd (h (IsUtf8-from_is_utf8 bytes e))
+not_utf8 false bytes e h = refl
+
+pub is_utf8-false : (bytes : List ℕ) → (IsUtf8 bytes → ⊥) → is_utf8 bytes ≡ false
+is_utf8-false bytes h = not_utf8 (is_utf8 bytes) bytes refl h

@@ -1,6 +1,7 @@
 -- The texts that are paths, and the first fault of a text that is none.
 use Rattle.std.specs.Prelude.{◌≡◌, ◌==◌, ◌<◌, ◌≤◌, ◌+◌, ◌-◌, ◌&&◌, ◌||◌, ℕ, zero, suc, Bool, true, false, not, nat_lt, nat_le, nat_eq, List, [], ◌∷◌, length, drop, slice_index, take_while, bytes_eq, ⊤}
 use Rattle.std.specs.List.{starts_with}
+use Rattle.std.specs.Str.{is_utf8}
 use Rattle.file_tree.specs.declared.limits.TheConstants.{MOST_PATH_BYTES}
 use Rattle.file_tree.specs.declared.fault.PathFault.{PathFault}
 use Rattle.file_tree.specs.declared.fault.PathFault.TheVariants.{Empty, BadChar, BadPart, TooLong, Memory}
@@ -42,6 +43,10 @@ none_below test (suc n) = not (test n) && none_below test n
 unfoldable pub is_path : List ℕ → Bool
 is_path bytes = nat_lt 0 (length bytes) &&
     (nat_le (length bytes) MOST_PATH_BYTES && none_below (bad_at bytes) (length bytes + 1))
+
+-- a text that is a path
+abbrev pub IsPathText : List ℕ → Type 0
+IsPathText text = is_utf8 text && is_path text ≡ true
 
 -- the second path is strictly below the first: it goes on with a slash behind the whole of it
 abbrev pub is_below : List ℕ → List ℕ → Bool

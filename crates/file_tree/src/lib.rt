@@ -19,13 +19,17 @@
 #![tactic(auto)]
 
 mod fault;
+mod fixed;
 mod limits;
 mod objects;
 mod paths;
+mod taken;
 mod traits;
 
 pub use fault::{Failed, PathFault, TreeFault};
+pub use fixed::{DATABASE, JOBS, OWN_FILES};
 pub use limits::{MOST_PATH_BYTES, Quantity};
 pub use objects::{Entry, Kind, Look, Object};
-pub use paths::{Path, is_below};
+pub use paths::{Path, is_below, path_from};
+pub use taken::TakenPaths;
 pub use traits::{Sink, Tree};

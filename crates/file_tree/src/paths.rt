@@ -1,6 +1,7 @@
 ghost use Rattle.std.specs.Prelude.{◌≡◌, ◌≤◌, ◌==◌, ◌&&◌, ◌||◌, drop, false, length, true};
-ghost use Rattle.std.specs.Prelude.{MatchOption, slice_index, nat_eq};
+ghost use Rattle.std.specs.Prelude.{IfOk, MatchOption, slice_index, nat_eq};
 ghost use Rattle.std.specs.List.{starts_with};
+ghost use Rattle.std.specs.Str.{is_utf8};
 ghost use Rattle.file_tree.specs.Paths.{FaultAt, FirstFault, bad_at, begins_badly, first_part};
 ghost use Rattle.file_tree.specs.Paths.{is_bad_part, is_below, is_path};
 
@@ -9,6 +10,7 @@ use crate::limits::MOST_PATH_BYTES;
 use basics::Text;
 use std::alloc::{AllocError, Global};
 use std::marker::Model;
+use std::str::from_utf8;
 
 /// A place in a tree: a relative path with `/` between its parts, none of which is empty, `.` or
 /// `..`. It has at most 4,095 bytes and no newline, no NUL byte and no ` ->`.
@@ -112,6 +114,22 @@ impl Path {
     {
         let text = self.text.try_clone()?;
         Ok(Path { text })
+    }
+}
+
+/// The path that the bytes spell, if they spell one.
+pub fn path_from(alloc: Global, text: &[u8]) -> Result<Option<Path>, AllocError>
+    ensures { IfOk result (λ found.
+        MatchOption found (is_utf8 text.now && is_path text.now ≡ false)
+        (λ p. (p ≡ text.now) × (is_utf8 text.now && is_path text.now ≡ true))) }
+{
+    let Ok(text) = from_utf8(text) else {
+        return Ok(None);
+    };
+    match Path::parse(alloc, text) {
+        Ok(path) => Ok(Some(path)),
+        Err(PathFault::Memory) => Err(AllocError),
+        Err(_) => Ok(None),
     }
 }
 

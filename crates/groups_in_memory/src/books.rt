@@ -4,7 +4,7 @@ ghost use Rattle.std.specs.Prelude.{◌≡◌, [], IfOk};
 
 use crate::given::{book, brought, paths, said};
 use crate::told::push_fault;
-use ask_trees::{cut, small_number_of};
+use ask_lines::{cut, small_number_of};
 use file_tree::Path;
 use merge_record::OwnerKey;
 use owner_book::{ClaimFault, OwnerBook, Wish};

@@ -2,7 +2,7 @@
 
 ghost use Rattle.std.specs.Prelude.{◌≡◌, ◌<◌, [], IfOk, length};
 
-use ask_trees::{cut, entry_of, path_of, small_number_of};
+use ask_lines::{cut, entry_of, path_of, small_number_of};
 use file_tree::{Entry, Object, Path};
 use merge_record::OwnerKey;
 use merge_site::SiteGroup;

@@ -4,7 +4,7 @@
 ghost use Rattle.std.specs.Prelude.{◌≡◌, Some, IfOk};
 ghost use Rattle.merge_journal.specs.Judging.{IsStaged};
 
-use ask_trees::{cut, not_in_form, path_of, push_between, small_number_of};
+use ask_lines::{cut, not_in_form, path_of, push_between, small_number_of};
 use file_tree::{Kind, Object};
 use merge_core::{Core, Refusal, Step};
 use merge_record::{Placement, digest_of};

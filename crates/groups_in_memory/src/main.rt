@@ -2,7 +2,7 @@
 //! recoveries, of the claims of an ownership book, and of the steps of the machine.
 //!
 //! Each line of its input is a case, whose fields stand apart by tabs, and it prints one line for
-//! each. Objects are told as `ask_trees` says, and ` -> ` is between two in one field. The first
+//! each. Objects are told as `ask_lines` says, and ` -> ` is between two in one field. The first
 //! field is what is done, and each other one a word and what it says:
 //!
 //! | field | what it says |
@@ -39,8 +39,7 @@ mod recovered;
 mod told;
 mod walk;
 
-use ask_lines::{answer_each, exit_of};
-use ask_trees::{cut, not_in_form};
+use ask_lines::{answer_each, cut, exit_of, not_in_form};
 use std::alloc::Global;
 use std::io;
 use std::process::ExitCode;

@@ -6,7 +6,7 @@ ghost use Rattle.tree_mem.specs.MemTree.{mem_story};
 ghost use Rattle.groups_in_memory.specs.Three.{AreThree};
 
 use crate::given::{book, group, held, said};
-use ask_trees::{not_in_form, number_of};
+use ask_lines::{not_in_form, number_of};
 use merge_site::{Site, SiteGroup};
 use recovery::recover;
 use std::alloc::Global;

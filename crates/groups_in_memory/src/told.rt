@@ -1,9 +1,10 @@
 //! What is told of a tree, a sink and a claim.
 
-use ask_trees::{THEN, cut, path_of, push_hex, push_object};
+use ask_lines::{THEN, cut, path_of, push_hex, push_object};
 use file_tree::{Path, TreeFault};
+use merge_fit::ImageBad;
 use merge_site::ClaimStop;
-use owner_book::{ClaimFault, Collision, ImageBad};
+use owner_book::{ClaimFault, Collision};
 use std::alloc::{AllocError, Global};
 use std::io;
 use tree_mem::{ImageFault, MemSink, MemTree};

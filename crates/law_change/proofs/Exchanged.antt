@@ -15,16 +15,18 @@ use Rattle.file_tree.specs.ObjectValue.{ObjectValue}
 use Rattle.file_tree.specs.declared.objects.Entry.{Entry}
 use Rattle.merge_fit.specs.Images as images
 use Rattle.merge_journal.specs.Group.{Group}
-use Rattle.merge_journal.specs.Judging.{is_in}
+use Rattle.file_tree.specs.PathSets.{is_in}
 use Rattle.merge_record.specs.declared.record.OwnerKey.{OwnerKey}
-use Rattle.merge_journal.proofs.Form.{are_free-words, has_if_in, in_if_has}
+use Rattle.merge_journal.proofs.Form.{are_free-words}
+use Rattle.file_tree.proofs.PathSets.{has_if_in, in_if_has}
 use Rattle.merge_site.specs.Booking.{dying_at, wish_for}
 use Rattle.merge_site.specs.declared.group.SiteGroup.{SiteGroup}
 use Rattle.owner_book.specs.Book as books
 use Rattle.owner_book.specs.Book.{Book, owner_in}
 use Rattle.owner_book.specs.Rules.{is_dying, is_reserved}
 use Rattle.owner_book.specs.declared.wish.Wish.{Wish}
-use Rattle.vdb_paths.specs.Files.{database_path, package_file_path}
+use Rattle.vdb_paths.specs.Files.{package_file_path}
+use Rattle.file_tree.specs.Fixed.{database_path}
 use Rattle.vdb_paths.proofs.Packages.{OneSpelling, one_id}
 use Rattle.vdb_contents.specs.Contents.{path_of}
 use Rattle.vdb_contents.specs.declared.owned.Owned.{Owned}

@@ -9,8 +9,8 @@ use Rattle.basics.proofs.Tests.{none_is_not_some}
 use Rattle.file_tree.specs.Disk.{held_by}
 use Rattle.file_tree.specs.declared.objects.Entry.{Entry}
 use Rattle.merge_fit.specs.Images as images
-use Rattle.merge_journal.specs.Judging.{is_in}
-use Rattle.merge_journal.proofs.Form.{has_if_in, in_if_has}
+use Rattle.file_tree.specs.PathSets.{is_in}
+use Rattle.file_tree.proofs.PathSets.{has_if_in, in_if_has}
 use Rattle.merge_site.specs.Booking.{wish_for}
 use Rattle.owner_book.specs.Book as books
 use Rattle.owner_book.specs.declared.wish.Wish.{Wish}

@@ -8,10 +8,11 @@ use Rattle.basics.proofs.Membership.{has-map, has-map_back}
 use Rattle.basics.proofs.Tests.{none_is_not_some, or_rest}
 use Rattle.file_tree.specs.Disk.{Map}
 use Rattle.file_tree.specs.Paths.{is_below}
-use Rattle.merge_journal.specs.Judging.{is_in, path_of}
+use Rattle.merge_journal.specs.Judging.{path_of}
+use Rattle.file_tree.specs.PathSets.{is_in}
 use Rattle.merge_record.specs.declared.record.OwnerKey.{OwnerKey}
-use Rattle.merge_journal.proofs.Form.{has_if_in}
-use Rattle.merge_journal.proofs.Free.{is_in-append}
+use Rattle.file_tree.proofs.PathSets.{has_if_in}
+use Rattle.file_tree.proofs.PathSets.{is_in-append}
 use Rattle.dep_atom.specs.Ids.{id_text}
 use Rattle.dep_atom.specs.declared.package.PackageId.{PackageId}
 use Rattle.merge_journal.specs.Group.{covers}

@@ -7,9 +7,9 @@ use Rattle.basics.specs.Members.{Has}
 use Rattle.basics.proofs.Tests.{none_is_not_some, or_first}
 use Rattle.file_tree.specs.Disk.{Map}
 use Rattle.file_tree.specs.ObjectValue.{ObjectValue}
-use Rattle.merge_journal.specs.Judging.{is_in}
+use Rattle.file_tree.specs.PathSets.{is_in}
 use Rattle.merge_record.specs.declared.record.OwnerKey.{OwnerKey}
-use Rattle.merge_journal.proofs.Form.{has_if_in, in_if_has}
+use Rattle.file_tree.proofs.PathSets.{has_if_in, in_if_has}
 use Rattle.dep_atom.specs.Ids.{id_text}
 use Rattle.dep_atom.proofs.Joined.{ComesApart}
 use Rattle.owner_book.specs.Book as books

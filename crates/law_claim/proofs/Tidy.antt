@@ -6,7 +6,7 @@ use Rattle.std.proofs.lemmas.Option.{same_Some}
 use Rattle.basics.specs.Members.{Has}
 use Rattle.basics.proofs.Tests.{none_is_not_some, some-IsSome}
 use Rattle.file_tree.specs.Paths.{is_below}
-use Rattle.merge_journal.specs.Judging.{is_in}
+use Rattle.file_tree.specs.PathSets.{is_in}
 use Rattle.merge_record.specs.declared.record.OwnerKey.{OwnerKey}
 use Rattle.owner_book.specs.Book.{AreDisjoint, Book, ChangesClaim, HasOwnersOf, HasSettled, IsClaimedBy, IsTaken, ClaimValue, claim_in, has, is_wished, key_in, owner_in}
 use Rattle.owner_book.specs.Near.{is_near}

@@ -6,10 +6,11 @@ use Rattle.basics.specs.Members.{Has}
 use Rattle.basics.proofs.Tests.{none_is_not_some}
 use Rattle.file_tree.specs.Disk.{Map}
 use Rattle.file_tree.specs.Paths.{is_below}
-use Rattle.merge_journal.specs.Judging.{is_in, path_of}
-use Rattle.merge_journal.specs.Names.{jobs}
-use Rattle.merge_journal.proofs.Form.{in_if_has}
-use Rattle.merge_journal.proofs.Free.{is_in-append}
+use Rattle.merge_journal.specs.Judging.{path_of}
+use Rattle.file_tree.specs.PathSets.{is_in}
+use Rattle.file_tree.specs.Fixed.{jobs}
+use Rattle.file_tree.proofs.PathSets.{in_if_has}
+use Rattle.file_tree.proofs.PathSets.{is_in-append}
 use Rattle.dep_atom.proofs.Joined.{ComesApart}
 use Rattle.vdb_paths.specs.Files.{package_file_path}
 use Rattle.vdb_paths.proofs.Packages.{OneSpelling}

@@ -20,7 +20,7 @@ use Rattle.merge_core.proofs.Stays.{Stays, stays_then}
 use Rattle.vdb_law.specs.Packages.{Installed}
 use Rattle.vdb_law.specs.Step.{Change, groups_of}
 use Rattle.plan_law.specs.Plans as plans
-use Rattle.plan_law.proofs.Members.{distinct_joined}
+use Rattle.basics.proofs.Members.{distinct_joined}
 use Rattle.law_commit.specs.Commits.{CommitsLeaveSoundTrees}
 use Rattle.law_commit.specs.Crashes.{AreStepsAllAlong, AreStepsCommitted, CrashesRecoverSoundly, EachMomentRecoversSoundly, IsPlanned, Merges, RecoversSoundly, SoundTrail}
 use Rattle.law_commit.proofs.Stays.{answer_stays, begun_listed, run_stays}

@@ -6,7 +6,7 @@ use Rattle.basics.specs.Members.{AreDistinct, Has}
 use Rattle.basics.proofs.Membership.{has-append_right, has-filter_back}
 use Rattle.file_tree.specs.Disk.{Map, Story}
 use Rattle.file_tree.specs.Paths.{is_below}
-use Rattle.merge_journal.specs.Names.{jobs}
+use Rattle.file_tree.specs.Fixed.{jobs}
 use Rattle.merge_journal.specs.Open.{IsRising, open_groups}
 use Rattle.dep_atom.proofs.Joined.{ComesApart}
 use Rattle.vdb_paths.proofs.Packages.{OneSpelling}

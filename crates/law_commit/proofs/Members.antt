@@ -19,7 +19,7 @@ use Rattle.pkg_state.proofs.Lines.{one_on_line}
 use Rattle.vdb_law.specs.Database.{folder_name}
 use Rattle.vdb_law.specs.Packages.{Installed}
 use Rattle.vdb_law.proofs.Places.{all_less}
-use Rattle.plan_law.proofs.Members.{passes_some, some_passes}
+use Rattle.basics.proofs.Members.{passes_some, some_passes}
 use Rattle.law_commit.specs.Lit.{lit, packages_of}
 use Rattle.basics.proofs.Tests.{same_tests}
 use Rattle.basics.proofs.Texts.{not_less}

@@ -2,8 +2,9 @@
 use Rattle.std.proofs.Common.{◌≡◌, ℕ, false, List}
 use Rattle.std.proofs.lemmas.Bool.{or_parts}
 use Rattle.file_tree.specs.Paths.{is_below}
-use Rattle.owner_book.specs.Rules.{is_reserved, own_files, touches}
-use Rattle.vdb_paths.specs.Files.{database_path}
+use Rattle.owner_book.specs.Rules.{is_reserved, touches}
+use Rattle.file_tree.specs.Fixed.{own_files}
+use Rattle.file_tree.specs.Fixed.{database_path}
 use Rattle.vdb_contents.specs.Contents.{meets}
 
 -- a path that an image may have doesn't meet the database

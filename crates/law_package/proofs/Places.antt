@@ -13,9 +13,10 @@ use Rattle.merge_fit.specs.Images.{path_of}
 use Rattle.merge_journal.specs.Group.{with_placements}
 use Rattle.merge_journal.proofs.Changes.{placed_outside}
 use Rattle.merge_journal.specs.Judging as judging
-use Rattle.merge_journal.specs.Judging.{is_in}
+use Rattle.file_tree.specs.PathSets.{is_in}
 use Rattle.merge_record.specs.declared.record.OwnerKey.{OwnerKey}
-use Rattle.merge_journal.proofs.Form.{false_if_absent, has_if_in}
+use Rattle.merge_journal.proofs.Form.{false_if_absent}
+use Rattle.file_tree.proofs.PathSets.{has_if_in}
 use Rattle.merge_site.specs.Staging.{placement_of}
 use Rattle.vdb_law.specs.Step.{put}
 use Rattle.merge_group.specs.Granted.{wishes_for}

@@ -6,7 +6,8 @@ use Rattle.file_tree.specs.Disk.{Map, new_story}
 use Rattle.file_tree.specs.Paths.{is_below}
 use Rattle.merge_journal.specs.Group.{Group, applied, with_groups}
 use Rattle.merge_core.proofs.Paths.{file_below}
-use Rattle.merge_journal.specs.Names.{Gate, jobs}
+use Rattle.merge_journal.specs.Names.{Gate}
+use Rattle.file_tree.specs.Fixed.{jobs}
 use Rattle.recovery.specs.Phases.{IsShut}
 use Rattle.recovery.specs.Promise.{RecoversTo}
 use Rattle.recovery.proofs.Shut.{shut_leaves}

@@ -4,8 +4,8 @@ use Rattle.std.specs.List.{AllByRecursion}
 use Rattle.file_tree.specs.declared.objects.Entry.{Entry}
 use Rattle.file_tree.specs.declared.objects.Kind.{Kind}
 use Rattle.file_tree.specs.declared.objects.Kind.TheVariants.{Exec, Link, Plain}
-use Rattle.owner_book.specs.declared.fault.ImageBad.{ImageBad}
-use Rattle.owner_book.specs.declared.fault.ImageBad.TheVariants as bad
+use Rattle.merge_fit.specs.declared.fault.ImageBad.{ImageBad}
+use Rattle.merge_fit.specs.declared.fault.ImageBad.TheVariants as bad
 use Rattle.merge_fit.specs.Images.{IsFirst, is_good}
 
 -- what the object of a kind is refused for, at its path

@@ -16,9 +16,9 @@
 
 mod above;
 mod blocks;
-mod limits;
+mod fault;
 mod objects;
 
 pub use blocks::block_of;
-pub use limits::MOST_ENTRIES;
+pub use fault::ImageBad;
 pub use objects::{bad_by, is_good};

@@ -2,10 +2,10 @@ ghost use Rattle.std.specs.Prelude.{◌≡◌};
 ghost use Rattle.merge_fit.specs.Images.{is_good};
 ghost use Rattle.merge_fit.specs.Misfits.{bad_by};
 
+use crate::fault::ImageBad;
 use file_link::is_target;
 use file_tree::{Entry, Kind, Path};
 use merge_record::MOST_FILE_BYTES;
-use owner_book::ImageBad;
 
 /// Whether an object may be placed: a file that isn't too large, or a link whose target is in form.
 pub fn is_good(entry: &Entry) -> bool

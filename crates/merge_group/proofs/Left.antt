@@ -11,8 +11,8 @@ use Rattle.basics.specs.Members.{AreDistinct, Has}
 use Rattle.basics.proofs.Membership.{distinct-apart, has-append_right}
 use Rattle.file_tree.specs.Disk.{Map}
 use Rattle.file_tree.specs.Paths.{is_below}
-use Rattle.merge_journal.specs.Judging.{is_in}
-use Rattle.merge_journal.specs.Names.{jobs}
+use Rattle.file_tree.specs.PathSets.{is_in}
+use Rattle.file_tree.specs.Fixed.{jobs}
 use Rattle.merge_record.specs.declared.record.OwnerKey.{OwnerKey}
 use Rattle.merge_journal.specs.Group.{Group, applied, with_group, with_groups}
 use Rattle.owner_book.specs.Book.{Book, HasOwnersOf, HasSettled, ClaimValue, key_in, owner_in, settled_owner}
@@ -21,7 +21,8 @@ use Rattle.merge_site.specs.declared.group.SiteGroup.{SiteGroup}
 use Rattle.merge_group.specs.Applied.{number}
 use Rattle.merge_group.specs.Causes.{IsOfGroup, StopsChanges}
 use Rattle.merge_group.specs.Granted.{MayChange}
-use Rattle.merge_group.specs.Lines.{AreTold, IsBeginning}
+use Rattle.merge_group.specs.Lines.{AreTold}
+use Rattle.file_tree.specs.Output.{IsBeginning}
 use Rattle.merge_group.specs.Through.{settled_all}
 use Rattle.merge_group.specs.Turns.{AreFirst, AreLetIn, StopsBehind, changes_of, group_for, numbers, settled}
 use Rattle.merge_group.specs.Working.{Changes}

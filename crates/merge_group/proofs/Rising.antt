@@ -4,7 +4,8 @@ use Rattle.std.specs.Prelude.{⊤}
 use Rattle.file_tree.specs.Disk.{Rose}
 use Rattle.file_tree.specs.declared.traits.Sink.{Ghosts as Sink}
 use Rattle.merge_site.specs.declared.group.SiteGroup.{SiteGroup}
-use Rattle.merge_group.specs.Lines.{AreLines, Wrote, line_in}
+use Rattle.merge_group.specs.Lines.{AreLines, line_in}
+use Rattle.file_tree.specs.Output.{Wrote}
 use Rattle.merge_group.proofs.Told.{wrote_anyhow}
 
 pub rose_later : (a b c : ℕ) → Rose a b → b ≤ c → Rose a c

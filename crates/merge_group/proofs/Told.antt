@@ -12,7 +12,8 @@ use Rattle.merge_core.specs.declared.phase.Phase.TheVariants as phases
 use Rattle.merge_core.proofs.Standings.{set_here}
 use Rattle.merge_site.specs.Site.{SiteValue, Adds, Writes}
 use Rattle.merge_site.specs.declared.group.SiteGroup.{SiteGroup}
-use Rattle.merge_group.specs.Lines.{AreLines, Wrote, line_in, line_or_none}
+use Rattle.merge_group.specs.Lines.{AreLines, line_in, line_or_none}
+use Rattle.file_tree.specs.Output.{Wrote}
 use Rattle.merge_group.specs.Working.{is_shut, standing_at}
 use Rattle.merge_group.proofs.Worked.{at_after}
 

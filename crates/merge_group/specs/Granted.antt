@@ -6,7 +6,7 @@ use Rattle.file_tree.specs.Paths.{is_below}
 use Rattle.file_tree.specs.declared.objects.Entry.{Entry}
 use Rattle.merge_fit.specs.Misfits.{AreGood}
 use Rattle.merge_journal.specs.Group.{Group}
-use Rattle.merge_journal.specs.Names.{jobs}
+use Rattle.file_tree.specs.Fixed.{jobs}
 use Rattle.merge_record.specs.declared.record.OwnerKey.{OwnerKey}
 use Rattle.owner_book.specs.Book.{Book, HasOwnersOf, claim_in, owner_in}
 use Rattle.owner_book.specs.declared.wish.Wish.{Wish}

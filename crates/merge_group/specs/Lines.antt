@@ -1,15 +1,8 @@
 -- What is written for groups.
-use Rattle.std.specs.Prelude.{◌≡◌, ◌⊎◌, ◌++◌, ℕ, List, [], ◌∷◌, Option, Some, None, slice_get, take}
+use Rattle.std.specs.Prelude.{◌≡◌, ◌⊎◌, ◌++◌, ℕ, List, [], ◌∷◌, Option, Some, None, slice_get}
 use Rattle.std.specs.List.{flat_map}
+use Rattle.file_tree.specs.Output.{IsBeginning}
 use Rattle.merge_site.specs.declared.group.SiteGroup.{SiteGroup}
-
--- what was written since then has P
-abbrev pub Wrote : (List ℕ → Type 0) → List ℕ → List ℕ → Type 0
-Wrote P old new = (text : List ℕ) × P text × (new ≡ old ++ text)
-
--- some beginning of a text
-abbrev pub IsBeginning : List ℕ → List ℕ → Type 0
-IsBeginning whole text = (n : ℕ) × (text ≡ take n whole)
 
 -- of the history all groups are acknowledged, or all but its last
 abbrev pub AreTold : List ℕ → List ℕ → Type 0

@@ -7,7 +7,8 @@ use Rattle.merge_core.specs.Roll.{resting}
 use Rattle.merge_site.specs.Site.{SiteValue}
 use Rattle.merge_group.specs.Applied.{number}
 use Rattle.merge_group.specs.Causes.{IsOfGroup}
-use Rattle.merge_group.specs.Lines.{AreTold, IsBeginning}
+use Rattle.merge_group.specs.Lines.{AreTold}
+use Rattle.file_tree.specs.Output.{IsBeginning}
 use Rattle.merge_group.specs.Through.{HasEnded, IsThrough}
 use Rattle.merge_group.specs.Turns.{StopsBehind, numbers}
 use Rattle.merge_group.specs.Working.{standing_at}

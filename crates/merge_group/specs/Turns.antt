@@ -4,7 +4,7 @@ use Rattle.std.specs.Prelude.{Option, Some, None, ⊤}
 use Rattle.file_tree.specs.Disk.{Map}
 use Rattle.file_tree.specs.declared.fault.TreeFault.TheVariants as trees
 use Rattle.merge_journal.specs.Group.{Group, applied}
-use Rattle.merge_journal.specs.Judging.{is_in}
+use Rattle.file_tree.specs.PathSets.{is_in}
 use Rattle.owner_book.specs.Book.{Book}
 use Rattle.merge_core.specs.CoreValue.{CoreValue}
 use Rattle.merge_site.specs.declared.group.SiteGroup.{SiteGroup}

@@ -1,7 +1,8 @@
 ghost use Rattle.std.specs.Prelude.{◌<◌, ◌++◌, ◌∷◌, [], ℕ, List, suc, length};
 ghost use Rattle.std.specs.Prelude.{IfErr, IsErrOf, IsTrue, OnOk, ⊤};
 ghost use Rattle.file_tree.specs.Disk.{CountsFault, Rose};
-ghost use Rattle.merge_group.specs.Lines.{AreLines, Wrote, line_in};
+ghost use Rattle.merge_group.specs.Lines.{AreLines, line_in};
+ghost use Rattle.file_tree.specs.Output.{Wrote};
 ghost use Rattle.merge_group.specs.Runs.{EndsAt, IsNew, IsUnderWay};
 ghost use Rattle.merge_group.specs.Through.{HasRoom};
 ghost use Rattle.merge_site.specs.Site.{IsSameSite};

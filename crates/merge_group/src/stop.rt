@@ -1,6 +1,6 @@
 use file_tree::{Failed, TreeFault};
+use merge_fit::ImageBad;
 use merge_site::{ClaimStop, SiteFault, StageFault};
-use owner_book::ImageBad;
 
 /// Why a run of groups ended before all of them were told.
 #[derive(Debug, Drop)]

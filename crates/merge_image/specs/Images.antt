@@ -2,7 +2,7 @@
 use Rattle.std.specs.Prelude.{◌≡◌, ◌<◌, Bool, List, Contains, IsTrue, length}
 use Rattle.file_tree.specs.declared.objects.Entry.{Entry}
 use Rattle.build_pool.specs.declared.orders.Order.{Order}
-use Rattle.merge_fit.specs.declared.limits.TheConstants.{MOST_ENTRIES}
+use Rattle.merge_image.specs.declared.limits.TheConstants.{MOST_ENTRIES}
 
 -- the image is the one told, where the builder tells
 abbrev pub IsTold : Bool → List Entry → List Entry → Type 0

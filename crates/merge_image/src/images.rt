@@ -5,9 +5,9 @@ ghost use Rattle.build_pool.specs.Pool.{PoolRose, SameIds, faults_of};
 ghost use Rattle.merge_image.specs.Images.{HasMany, HoldsOfOne, IsBuilt};
 ghost use Rattle.merge_image.specs.Images.{IsPastLimit, IsTold, TellAlike};
 
+use crate::limits::MOST_ENTRIES;
 use build_pool::{BuildPool, BuildStop, Builder, Order};
 use file_tree::Entry;
-use merge_fit::MOST_ENTRIES;
 use std::alloc::Global;
 
 /// Why there is no image.

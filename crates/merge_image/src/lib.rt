@@ -14,5 +14,7 @@
 #![tactic(auto)]
 
 mod images;
+mod limits;
 
 pub use images::{ImageStop, built_image};
+pub use limits::MOST_ENTRIES;

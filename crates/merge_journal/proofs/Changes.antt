@@ -4,9 +4,10 @@ use Rattle.std.specs.Prelude.{bytes_eq, slice_get}
 use Rattle.std.proofs.lemmas.Bool.{cases_Bool, cond-true, cond-false, or_parts}
 use Rattle.basics.specs.Members.{Has}
 use Rattle.file_tree.specs.ObjectValue.{ObjectValue}
-use Rattle.merge_journal.specs.Judging.{IsStaged, is_in, path_of}
+use Rattle.merge_journal.specs.Judging.{IsStaged, path_of}
+use Rattle.file_tree.specs.PathSets.{is_in}
 use Rattle.merge_record.specs.declared.record.Placement.{Placement}
-use Rattle.merge_journal.proofs.Free.{is_in-append}
+use Rattle.file_tree.proofs.PathSets.{is_in-append}
 use Rattle.merge_journal.specs.Group.{AreStaged, Group, covers, with_group, with_groups, with_placements}
 use Rattle.basics.proofs.Tests.{or_rest}
 

@@ -1,7 +1,7 @@
 -- A verdict in words: a group that is judged good is in form, and one that is in form is judged good.
 use Rattle.std.proofs.Common.{◌≡◌, ◌+◌, ◌<◌, ◌^◌, ◌++◌, ◌&&◌, ◌||◌, ℕ, zero, suc, Bool, true, false, not, cond, eqb, List, [], ◌∷◌, length, Option, Some, None, Result, Ok, Err, refl, sym, ap, subst, ◌∙◌, inl, inr, arith, eq-eqb}
 use Rattle.std.specs.Prelude.{bytes_eq, slice_get}
-use Rattle.std.proofs.lemmas.Bool.{and_from, and_parts, eqb-true, or_cases, or_left, or_right}
+use Rattle.std.proofs.lemmas.Bool.{and_from, and_parts, eqb-true}
 use Rattle.std.proofs.lemmas.Slice.Eq.{bytes_eq-Decides}
 use Rattle.basics.specs.Members.{AreDistinct, Has}
 use Rattle.basics.proofs.Membership.{has-append_cases}
@@ -11,7 +11,9 @@ use Rattle.file_tree.specs.ObjectValue.{ObjectValue}
 use Rattle.file_tree.specs.declared.objects.Kind.{Kind}
 use Rattle.file_tree.specs.declared.objects.Kind.TheVariants.{Plain, Exec, Link}
 use Rattle.merge_record.specs.RecordValue.{RecordValue}
-use Rattle.merge_journal.specs.Judging.{◌>>=◌, AreApplicable, IsGroupInForm, IsStaged, are_free, footprint, is_free, is_in, is_staged, judged, meets_jobs, paths_judged, record_in, record_read, stages_judged}
+use Rattle.merge_journal.specs.Judging.{◌>>=◌, AreApplicable, IsGroupInForm, IsStaged, are_free, footprint, is_free, is_staged, judged, meets_jobs, paths_judged, record_in, record_read, stages_judged}
+use Rattle.file_tree.specs.PathSets.{is_in}
+use Rattle.file_tree.proofs.PathSets.{has_if_in, in_if_has}
 use Rattle.merge_journal.specs.Names.{record_path, stage_path}
 use Rattle.merge_record.specs.Spelling.{byte_of}
 use Rattle.merge_journal.specs.declared.fault.JudgeFault.{JudgeFault}
@@ -19,17 +21,6 @@ use Rattle.merge_journal.specs.declared.fault.JudgeFault.TheVariants as faults
 use Rattle.merge_record.specs.declared.fault.DecodeFault.{DecodeFault}
 use Rattle.merge_record.specs.declared.record.Placement.{Placement}
 use Rattle.merge_journal.proofs.Verdicts.{fine, judged_ok, paths_pass}
-
--- ---- membership as a test and as a fact
-
-pub has_if_in : (paths : List (List ℕ)) (q : List ℕ) → is_in paths q ≡ true → Has paths q
-has_if_in [] q h = absurd cc
-has_if_in (p ∷ ps) q h = elim (or_cases (bytes_eq q p) (is_in ps q) h) [ inl e ↦ inl (sym ((bytes_eq-Decides q p).0 e)) | inr k ↦ inr (has_if_in ps q k) ]
-
-pub in_if_has : (paths : List (List ℕ)) (q : List ℕ) → Has paths q → is_in paths q ≡ true
-in_if_has [] q h = absurd h
-in_if_has (p ∷ ps) q (inl e) = or_left (bytes_eq q p) (is_in ps q) ((bytes_eq-Decides q p).1 (sym e))
-in_if_has (p ∷ ps) q (inr h) = or_right (bytes_eq q p) (is_in ps q) (in_if_has ps q h)
 
 not_in : (paths : List (List ℕ)) (q : List ℕ) → is_in paths q ≡ false → Has paths q → ⊥
 not_in paths q h has = let e = in_if_has paths q has in cc

@@ -7,13 +7,16 @@ use Rattle.file_tree.specs.Disk.{Map}
 use Rattle.file_tree.specs.Paths.{is_below}
 use Rattle.file_tree.specs.ObjectValue.{ObjectValue}
 use Rattle.merge_record.specs.RecordValue.{RecordValue}
-use Rattle.merge_journal.specs.Judging.{IsStaged, footprint, is_in, judged, judged_all, judged_open, ◌>>=◌}
-use Rattle.merge_journal.specs.Names.{jobs, stage_path}
+use Rattle.merge_journal.specs.Judging.{IsStaged, footprint, judged, judged_all, judged_open, ◌>>=◌}
+use Rattle.file_tree.specs.PathSets.{is_in}
+use Rattle.merge_journal.specs.Names.{stage_path}
+use Rattle.file_tree.specs.Fixed.{jobs}
 use Rattle.merge_journal.specs.Open.{IsRising, open_groups}
 use Rattle.merge_journal.specs.Recovered.{IsRecovered}
 use Rattle.merge_journal.specs.declared.fault.JudgeFault.{JudgeFault}
 use Rattle.merge_record.specs.declared.record.Placement.{Placement}
-use Rattle.merge_journal.proofs.Form.{are_free-words, in_if_has, judged_if, shift}
+use Rattle.merge_journal.proofs.Form.{are_free-words, judged_if, shift}
+use Rattle.file_tree.proofs.PathSets.{in_if_has}
 use Rattle.merge_journal.proofs.Opened.{open_groups_rise}
 use Rattle.merge_journal.proofs.Recovery.{placed_at, rebuilt, recovered_is, remade}
 use Rattle.merge_journal.specs.Group.{AreInForm, AreStaged, Group, IsFiled, IsGroup, applied, contents, covers, groups, with_group, with_groups, with_placements}

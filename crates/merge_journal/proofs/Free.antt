@@ -1,24 +1,15 @@
 -- Which paths are free, one after the other.
-use Rattle.std.proofs.Common.{◌≡◌, ◌<◌, ◌≤◌, ◌+◌, ◌&&◌, ◌||◌, ℕ, zero, suc, Bool, length, map, get_or, take, drop, subst, arith, add-one, append_assoc, true, false, not, cond, List, [], ◌∷◌, ◌++◌, refl, sym, ap, ◌∙◌}
+use Rattle.std.proofs.Common.{◌≡◌, ◌<◌, ◌≤◌, ◌+◌, ◌&&◌, ◌||◌, ℕ, zero, suc, Bool, length, map, get_or, take, drop, subst, arith, add-one, append_assoc, true, false, List, [], ◌∷◌, ◌++◌, refl, sym, ap, ◌∙◌}
 use Rattle.std.specs.Prelude.{bytes_eq}
-use Rattle.std.specs.List.{list_any}
 use Rattle.std.specs.Bool.{OnTrue}
-use Rattle.std.specs.BTreeMap.{is_at}
-use Rattle.std.specs.Cmp.Lexicographic.{slice_cmp, texts_ties}
-use Rattle.std.specs.Ordering.{nat_cmp}
-use Rattle.std.proofs.lemmas.Bool.Decides.{same_from_decides}
-use Rattle.std.proofs.lemmas.Slice.Eq.{bytes_eq-Decides}
 use Rattle.std.proofs.lemmas.List.{take_more, drop_all, take_all}
 use Rattle.std.proofs.Math.Seq.{drop-cons}
 use Rattle.std.proofs.Math.Bool.{or_comm}
-use Rattle.std.proofs.lemmas.List.Folds.{list_any-append}
 use Rattle.basics.proofs.Tests.{or-assoc}
 use Rattle.merge_record.specs.declared.record.Placement.{Placement}
-use Rattle.merge_journal.specs.Judging.{path_of, HasSame, are_free, is_free, is_in}
-
-pub is_in_keys : (keys : List (List ℕ)) (q : List ℕ) → is_in keys q ≡ list_any (is_at (slice_cmp nat_cmp q)) keys
-is_in_keys [] q = refl
-is_in_keys (p ∷ ps) q = rw (texts_ties q p, is_in_keys ps q) refl
+use Rattle.merge_journal.specs.Judging.{path_of, are_free, is_free}
+use Rattle.file_tree.specs.PathSets.{HasSame, is_in}
+use Rattle.file_tree.proofs.PathSets.{is_in-append}
 
 or_swap : (a b c : Bool) → a || (b || c) ≡ b || (a || c)
 or_swap true true c = refl
@@ -48,25 +39,6 @@ are_free-append t (x ∷ xs) ys u h =
     and_assoc : (a b c : Bool) → a && (b && c) ≡ (a && b) && c
     and_assoc true b c = refl
     and_assoc false b c = refl
-
--- the keys of a set with one more
-pub taken_more : (p q : List ℕ) (old new : List (List ℕ))
-    → list_any (is_at (slice_cmp nat_cmp q)) new ≡ cond (is_at (slice_cmp nat_cmp p) q) true (list_any (is_at (slice_cmp nat_cmp q)) old) → is_in new q ≡ is_in (p ∷ old) q
-taken_more p q old new e =
-    let at : is_at (slice_cmp nat_cmp p) q ≡ bytes_eq q p = sym (texts_ties p q) ∙ same_from_decides (bytes_eq p q) (bytes_eq q p) (bytes_eq-Decides p q) (λ h. sym ((bytes_eq-Decides q p).0 h), λ h. (bytes_eq-Decides q p).1 (sym h)) in
-    is_in_keys new q ∙ e ∙ rw (at, sym (is_in_keys old q)) (cond_or (bytes_eq q p) (is_in old q))
-  where
-    cond_or : (a b : Bool) → cond a true b ≡ a || b
-    cond_or true b = refl
-    cond_or false b = refl
-
-pub free_key : (key path : List ℕ) (keys old : List (List ℕ)) (b : Bool) → key ≡ path → keys ≡ old → b ≡ not (list_any (is_at (slice_cmp nat_cmp key)) keys) → b ≡ not (is_in old path)
-free_key key path keys old b same_key same e = e ∙ ap not (sym (is_in_keys keys key) ∙ ap (is_in keys) same_key ∙ ap (λ (t : List (List ℕ)). is_in t path) same)
-
-pub taken_key : (key path : List ℕ) (keys old new : List (List ℕ)) → key ≡ path → keys ≡ old
-    → ((q : List ℕ) → list_any (is_at (slice_cmp nat_cmp q)) new ≡ cond (is_at (slice_cmp nat_cmp key) q) true (list_any (is_at (slice_cmp nat_cmp q)) keys)) → HasSame new (path ∷ old)
-taken_key key path keys old new same_key same e q =
-    taken_more key q keys new (e q) ∙ ap (λ (k : List ℕ). is_in (k ∷ keys) q) same_key ∙ ap (λ (t : List (List ℕ)). is_in (path ∷ t) q) same
 
 -- ---- a walk over paths, each of which is taken
 
@@ -108,9 +80,6 @@ path_at_map (x ∷ ps) zero p lt at = ap path_of at
 path_at_map (x ∷ ps) (suc i) p lt at = path_at_map ps i p (omega arith) at
 
 -- ---- the footprint of a record
-
-pub is_in-append : (xs ys : List (List ℕ)) (q : List ℕ) → is_in (xs ++ ys) q ≡ (is_in xs q || is_in ys q)
-is_in-append xs ys q = list_any-append (λ p. bytes_eq q p) xs ys
 
 pub has_same-swap : (a b : List (List ℕ)) → HasSame (a ++ b) (b ++ a)
 has_same-swap a b q = is_in-append a b q ∙ or_comm (is_in a q) (is_in b q) ∙ sym (is_in-append b a q)

@@ -8,7 +8,8 @@ use Rattle.std.proofs.lemmas.List.{append-nil, length-append}
 use Rattle.hex.specs.Hex.{encode_with, lower_digits}
 use Rattle.file_tree.specs.Paths.{is_path}
 use Rattle.file_tree.proofs.PlainParts.{has_plain_parts, plain_parts_path}
-use Rattle.merge_journal.specs.Names.{Part, Gate, Changes, Token, Stage, digits, folder, jobs, named, part_path}
+use Rattle.merge_journal.specs.Names.{Part, Gate, Changes, Token, Stage, digits, folder, named, part_path}
+use Rattle.file_tree.specs.Fixed.{jobs}
 use Rattle.merge_record.specs.Spelling.{number_text}
 use Rattle.merge_journal.proofs.Naming.{length-digits, length-folder}
 use Rattle.merge_record.proofs.Numbers.{IsBytes-number_text}

@@ -7,7 +7,8 @@ use Rattle.hex.specs.Hex.{decode_of, decode_sized, lower_digits}
 use Rattle.hex.specs.declared.error.FromHexError.{FromHexError}
 use Rattle.hex.proofs.HexLemmas.{decode_of-encode_lower, decode_sized-encode_lower, length-encode_with}
 use Rattle.file_tree.specs.Paths.{is_below}
-use Rattle.merge_journal.specs.Names.{Part, Gate, Changes, Token, Stage, IsPart, digits, folder, jobs, named, part_name, part_path}
+use Rattle.merge_journal.specs.Names.{Part, Gate, Changes, Token, Stage, IsPart, digits, folder, named, part_name, part_path}
+use Rattle.file_tree.specs.Fixed.{jobs}
 use Rattle.merge_record.specs.Spelling.{number_text}
 use Rattle.merge_record.proofs.Numbers.{IsBytes-number_text, length-number_text}
 

@@ -8,12 +8,15 @@ use Rattle.file_tree.specs.Disk.{Map}
 use Rattle.file_tree.specs.Paths.{is_below}
 use Rattle.file_tree.specs.ObjectValue.{ObjectValue}
 use Rattle.merge_record.specs.RecordValue.{RecordValue}
-use Rattle.merge_journal.specs.Judging.{◌>>=◌, footprint, is_in, judged, judged_all, judged_open, path_of}
-use Rattle.merge_journal.specs.Names.{jobs, stage_path}
+use Rattle.merge_journal.specs.Judging.{◌>>=◌, footprint, judged, judged_all, judged_open, path_of}
+use Rattle.file_tree.specs.PathSets.{is_in}
+use Rattle.merge_journal.specs.Names.{stage_path}
+use Rattle.file_tree.specs.Fixed.{jobs}
 use Rattle.merge_journal.specs.Open.{open_groups}
 use Rattle.merge_journal.specs.Recovered.{IsRecovered}
 use Rattle.merge_record.specs.declared.record.Placement.{Placement}
-use Rattle.merge_journal.proofs.Form.{AreFree, bind_ok, has_if_in, in_if_has, judged_words, shift, false_if_absent}
+use Rattle.merge_journal.proofs.Form.{AreFree, bind_ok, judged_words, shift, false_if_absent}
+use Rattle.file_tree.proofs.PathSets.{has_if_in, in_if_has}
 use Rattle.merge_journal.proofs.Verdicts.{ok_all}
 
 -- ---- the map that the records make of an image, straight from its stages

@@ -7,7 +7,8 @@ use Rattle.std.proofs.lemmas.List.{drop_all, append-nil, drop_more}
 use Rattle.file_tree.specs.Disk.{Map, Story}
 use Rattle.merge_record.specs.RecordValue.{RecordValue}
 use Rattle.merge_journal.proofs.Free.{are_free-same, both_walks, first_stops, has_same-append, has_same-swap, on_true, second_decides}
-use Rattle.merge_journal.specs.Judging.{◌>>=◌, HasSame, Misses, are_free, footprint, is_staged, judged, judged_all, paths_judged, record_in, record_read, path_of, stages_judged}
+use Rattle.merge_journal.specs.Judging.{◌>>=◌, Misses, are_free, footprint, is_staged, judged, judged_all, paths_judged, record_in, record_read, path_of, stages_judged}
+use Rattle.file_tree.specs.PathSets.{HasSame}
 use Rattle.merge_journal.specs.Names.{record_path, stage_path}
 use Rattle.merge_journal.specs.declared.fault.JudgeFault.{JudgeFault}
 use Rattle.merge_journal.specs.declared.fault.JudgeFault.TheVariants as faults

@@ -5,8 +5,10 @@ use Rattle.file_tree.specs.Disk.{Map}
 use Rattle.file_tree.specs.Paths.{is_below}
 use Rattle.file_tree.specs.ObjectValue.{ObjectValue, plain}
 use Rattle.merge_record.specs.RecordValue.{RecordValue}
-use Rattle.merge_journal.specs.Judging.{IsStaged, are_free, footprint, is_in, record_in}
-use Rattle.merge_journal.specs.Names.{jobs, record_path, stage_path}
+use Rattle.merge_journal.specs.Judging.{IsStaged, are_free, footprint, record_in}
+use Rattle.file_tree.specs.PathSets.{is_in}
+use Rattle.merge_journal.specs.Names.{record_path, stage_path}
+use Rattle.file_tree.specs.Fixed.{jobs}
 use Rattle.merge_journal.specs.Open.{open_groups}
 use Rattle.merge_record.specs.declared.record.Placement.{Placement}
 

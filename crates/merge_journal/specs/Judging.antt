@@ -1,13 +1,14 @@
 -- When the open groups of a crash image are in form, and the first that isn't.
 use Rattle.std.specs.Prelude.{◌≡◌, ◌==◌, ◌<◌, ◌^◌, ◌&&◌, ◌||◌, ◌++◌, ℕ, suc, Bool, true, false, not, length, map, List, [], ◌∷◌, Option, Some, None, Result, Ok, Err, bytes_eq, slice_get, if◌then◌else◌, ⊤}
-use Rattle.std.specs.List.{list_any}
 use Rattle.basics.specs.Members.{AreDistinct, Has}
 use Rattle.file_tree.specs.Disk.{Map}
+use Rattle.file_tree.specs.Fixed.{jobs}
+use Rattle.file_tree.specs.PathSets.{is_in}
 use Rattle.file_tree.specs.Paths.{is_below}
 use Rattle.file_tree.specs.ObjectValue.{ObjectValue}
 use Rattle.md5.specs.Md5.{md5}
 use Rattle.merge_record.specs.RecordValue.{RecordValue}
-use Rattle.merge_journal.specs.Names.{jobs, record_path, stage_path}
+use Rattle.merge_journal.specs.Names.{record_path, stage_path}
 use Rattle.merge_journal.specs.Open.{open_groups}
 use Rattle.merge_record.specs.Reading.{record_of}
 use Rattle.merge_record.specs.Spelling.{byte_of}
@@ -22,13 +23,6 @@ abbrev pub ◌>>=◌ : {A B : Type 0} → Result A JudgeFault → (A → Result 
     Result B JudgeFault
 (Ok x) >>= f = f x
 (Err e) >>= f = Err e
-
-abbrev pub is_in : List (List ℕ) → List ℕ → Bool
-is_in paths q = list_any (λ p. bytes_eq q p) paths
-
--- two lists with the same members
-abbrev pub HasSame : List (List ℕ) → List (List ℕ) → Type 0
-HasSame a b = (q : List ℕ) → is_in a q ≡ is_in b q
 
 -- equal to the journal's folder, above it or below it
 abbrev pub meets_jobs : List ℕ → Bool

@@ -1,11 +1,8 @@
 -- The paths of the journal. The files of a group stand in a folder of its own.
 use Rattle.std.specs.Prelude.{◌<◌, ◌^◌, ℕ, List, ◌∷◌, ◌++◌, codes, ⊤}
 use Rattle.hex.specs.Hex.{encode_lower}
+use Rattle.file_tree.specs.Fixed.{jobs}
 use Rattle.merge_record.specs.Spelling.{number_text}
-
--- the folder of all groups
-abbrev pub jobs : List ℕ
-jobs = codes "var/lib/portage/jobs"
 
 -- a number as eight hex digits in lower case
 unfoldable pub digits : ℕ → List ℕ

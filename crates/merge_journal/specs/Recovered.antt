@@ -5,7 +5,8 @@ use Rattle.file_tree.specs.Disk.{Map}
 use Rattle.file_tree.specs.Paths.{is_below}
 use Rattle.merge_record.specs.RecordValue.{RecordValue}
 use Rattle.merge_journal.specs.Judging.{footprint, judged_open}
-use Rattle.merge_journal.specs.Names.{jobs, stage_path}
+use Rattle.merge_journal.specs.Names.{stage_path}
+use Rattle.file_tree.specs.Fixed.{jobs}
 use Rattle.merge_record.specs.declared.record.Placement.{Placement}
 
 -- Each placed path of an open group holds its staged object, each removed path none, nothing is

@@ -2,16 +2,17 @@ ghost use Rattle.std.specs.Prelude.{◌≡◌, ◌<◌, ◌^◌, ◌∷◌, ◌+
 ghost use Rattle.std.specs.Prelude.{IfOk, IsErrOf, IsTrue, OnOk};
 ghost use Rattle.std.specs.Bool.{OnTrue};
 ghost use Rattle.file_tree.specs.Disk.{CountsFault};
-ghost use Rattle.merge_journal.specs.Judging.{Agrees, AreApplicable, HasSame, are_free, footprint, is_free, is_in};
+ghost use Rattle.merge_journal.specs.Judging.{Agrees, AreApplicable, are_free, footprint, is_free};
+ghost use Rattle.file_tree.specs.PathSets.{HasSame};
 ghost use Rattle.merge_journal.specs.Judging.{is_staged, judged, judged_all, meets_jobs, path_of};
 ghost use Rattle.merge_journal.specs.Judging.{paths_judged, record_in, record_read, stages_judged};
-ghost use Rattle.merge_journal.specs.Names.{jobs, record_path};
+ghost use Rattle.merge_journal.specs.Names.{record_path};
+ghost use Rattle.file_tree.specs.Fixed.{jobs};
 ghost use Rattle.merge_record.specs.Reading.{record_of};
 
 use crate::fault::JudgeFault;
 use crate::names::{jobs_folder, record_path, stage_path};
-use crate::taken::TakenPaths;
-use file_tree::{Object, Path, Tree, TreeFault};
+use file_tree::{Object, Path, TakenPaths, Tree, TreeFault};
 use merge_record::{DecodeFault, Placement, Record, byte_of, decode, digest_of};
 use std::alloc::{AllocError, Global};
 

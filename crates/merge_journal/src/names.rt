@@ -1,15 +1,13 @@
 ghost use Rattle.std.specs.Prelude.{◌≡◌, ◌<◌, ◌^◌, ◌++◌, ◌∷◌, ℕ, List, Some, true, codes};
 ghost use Rattle.std.specs.Prelude.{string_bytes, IfOk, MatchOption};
 ghost use Rattle.file_tree.specs.Paths.{is_below, is_path};
-ghost use Rattle.merge_journal.specs.Names.{IsPart, Part, digits, gate_path, jobs, named, part_path};
+ghost use Rattle.merge_journal.specs.Names.{IsPart, Part, digits, gate_path, named, part_path};
+ghost use Rattle.file_tree.specs.Fixed.{jobs};
 ghost use Rattle.merge_journal.specs.Names.{record_path, stage_path, token_path};
 
 use byteorder::{BigEndian, ByteOrder};
-use file_tree::Path;
+use file_tree::{JOBS, Path};
 use std::alloc::{AllocError, Global};
-
-/// The folder of all groups' journals.
-pub const JOBS: &str = "var/lib/portage/jobs";
 
 /// The number as eight hex digits in lower case.
 #[tactic(auto, unfolding(crate::specs::Names::digits, merge_record::specs::Spelling::number_text))]

@@ -1,9 +1,7 @@
 -- Steps of a reading that may fail, and the tests on the way.
 use Rattle.std.proofs.Common.{◌≡◌, ◌++◌, ◌+◌, ◌<◌, ℕ, suc, Bool, true, false, cond, List, ◌∷◌, get_or, take, drop, Result, Ok, Err, refl, sym, ap, ◌∙◌, append_assoc, arith, inl, inr}
-use Rattle.std.specs.Str.{is_utf8, IsUtf8}
 use Rattle.std.proofs.lemmas.Bool.{cases_lt}
 use Rattle.std.proofs.lemmas.List.{get_or-drop, get_or-take, get_or_past, length-take}
-use Rattle.std.proofs.lemmas.Str.{IsUtf8-from_is_utf8}
 use Rattle.merge_record.specs.Reading.{◌>>=◌}
 use Rattle.merge_record.specs.declared.fault.DecodeFault.{DecodeFault}
 
@@ -60,10 +58,3 @@ Takes-then a x b y c p q = record { parts = p.parts ∙ ap (λ (t : List ℕ). x
 pub record Reads {A : Type 0} (read : List ℕ → Result (A × List ℕ) DecodeFault) (text : A → List ℕ) (Good : A → Type 0) : Type 0 where
   pub takes : (bytes : List ℕ) (x : A × List ℕ) → IsBytes bytes → read bytes ≡ Ok x → Takes bytes (text x.0) x.1 × Good x.0
   pub again : (x : A) (rest : List ℕ) → Good x → read (text x ++ rest) ≡ Ok (x, rest)
-
-not_utf8 : (b : Bool) (bytes : List ℕ) → is_utf8 bytes ≡ b → (IsUtf8 bytes → ⊥) → b ≡ false
-not_utf8 true bytes e h = absurd (h (IsUtf8-from_is_utf8 bytes e))
-not_utf8 false bytes e h = refl
-
-pub is_utf8-false : (bytes : List ℕ) → (IsUtf8 bytes → ⊥) → is_utf8 bytes ≡ false
-is_utf8-false bytes h = not_utf8 (is_utf8 bytes) bytes refl h

@@ -11,7 +11,8 @@ use Rattle.file_tree.specs.declared.limits.TheConstants.{MOST_PATH_BYTES}
 use Rattle.file_tree.specs.declared.objects.Kind.{Kind}
 use Rattle.file_tree.specs.declared.objects.Kind.TheVariants.{Plain, Exec, Link}
 use Rattle.merge_record.specs.RecordValue.{RecordValue}
-use Rattle.merge_record.specs.Spelling.{IsPathText, IsPlacement, IsSpellable, byte_of, counted, lead, number_text, path_text, placement_text, spelling}
+use Rattle.merge_record.specs.Spelling.{IsPlacement, IsSpellable, byte_of, counted, lead, number_text, path_text, placement_text, spelling}
+use Rattle.file_tree.specs.Paths.{IsPathText}
 use Rattle.merge_record.specs.Reading.{◌>>=◌, Gives, byte_at, bytes_at, count_at, counted_at, fields_at, kind_at, lead_at, many_at, number_at, path_at, placement_at, record_of, size_at}
 use Rattle.merge_record.specs.declared.fault.DecodeFault.{DecodeFault}
 use Rattle.merge_record.specs.declared.fault.DecodeFault.TheVariants as faults

@@ -5,7 +5,7 @@ use Rattle.std.specs.Str.{IsUtf8, is_utf8}
 use Rattle.std.proofs.lemmas.Str.{is_utf8-from_IsUtf8}
 use Rattle.std.proofs.lemmas.Bool.{and_from}
 use Rattle.file_tree.specs.Paths.{is_path}
-use Rattle.merge_record.specs.Spelling.{IsPathText}
+use Rattle.file_tree.specs.Paths.{IsPathText}
 
 -- a text at the end, unless memory ran out
 pub appended : {T E : Type 0} (r : Result T E) (old new other text : List ℕ) → new ≡ cond (is_ok r) (old ++ other) old → other ≡ text → OnOk r (new ≡ old ++ text)

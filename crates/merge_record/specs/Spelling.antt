@@ -1,9 +1,8 @@
 -- The one spelling of each record, and which records have one.
 use Rattle.std.specs.Prelude.{◌≡◌, ◌⊎◌, ◌<◌, ◌≤◌, ◌+◌, ◌^◌, ◌&&◌, ℕ, true, List, [], ◌∷◌, ◌++◌, length, Any}
 use Rattle.std.specs.List.{AllByRecursion, flat_map}
-use Rattle.std.specs.Str.{is_utf8}
 use Rattle.byteorder.specs.Endian.{big_bytes}
-use Rattle.file_tree.specs.Paths.{is_path}
+use Rattle.file_tree.specs.Paths.{IsPathText}
 use Rattle.file_tree.specs.declared.objects.Kind.{Kind}
 use Rattle.file_tree.specs.declared.objects.Kind.TheVariants.{Plain, Exec, Link}
 use Rattle.merge_record.specs.RecordValue.{RecordValue}
@@ -39,10 +38,6 @@ counted text xs = number_text 4 (length xs) ++ flat_map text xs
 abbrev pub spelling : RecordValue → List ℕ
 spelling r = lead ++
     (number_text 4 r.group ++ (counted path_text r.removals ++ counted placement_text r.placements))
-
--- a text that is a path
-abbrev pub IsPathText : List ℕ → Type 0
-IsPathText text = is_utf8 text && is_path text ≡ true
 
 pub record IsPlacement (p : Placement) : Type 0 where
   pub path : IsPathText p.path

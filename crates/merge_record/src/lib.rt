@@ -26,6 +26,6 @@ pub use digest::digest_of;
 pub use fault::DecodeFault;
 pub use laws::one_spelling;
 pub use limits::{MOST_FILE_BYTES, MOST_GROUP_PATHS, MOST_RECORD_BYTES};
-pub use reading::{decode, path_from};
+pub use reading::decode;
 pub use record::{OwnerKey, Placement, Record};
 pub use writing::{byte_of, decode_encode, encode};

@@ -11,9 +11,8 @@ use crate::fault::DecodeFault;
 use crate::limits::{LEAD, MOST_FILE_BYTES, MOST_GROUP_PATHS, MOST_RECORD_BYTES};
 use crate::record::{Placement, Record};
 use byteorder::{BigEndian, ByteOrder};
-use file_tree::{Kind, Path, PathFault};
+use file_tree::{Kind, Path, path_from};
 use std::alloc::{AllocError, Global};
-use std::str::from_utf8;
 
 #[tactic(auto, unfolding(crate::specs::Reading::byte_at))]
 fn after_byte(size: usize, want: u8, bytes: &[u8]) -> Result<&[u8], DecodeFault>
@@ -126,22 +125,6 @@ fn kind_of(size: usize, bytes: &[u8]) -> Result<(Kind, &[u8]), DecodeFault>
         [_, ..] => Err(DecodeFault::Tag {
             at: size.saturating_sub(bytes.len()),
         }),
-    }
-}
-
-/// The path that the bytes spell, if they spell one.
-pub fn path_from(alloc: Global, text: &[u8]) -> Result<Option<Path>, AllocError>
-    ensures { IfOk result (λ found.
-        MatchOption found (is_utf8 text.now && is_path text.now ≡ false)
-        (λ p. (p ≡ text.now) × (is_utf8 text.now && is_path text.now ≡ true))) }
-{
-    let Ok(text) = from_utf8(text) else {
-        return Ok(None);
-    };
-    match Path::parse(alloc, text) {
-        Ok(path) => Ok(Some(path)),
-        Err(PathFault::Memory) => Err(AllocError),
-        Err(_) => Ok(None),
     }
 }
 

@@ -1,7 +1,8 @@
 ghost use Rattle.std.specs.Prelude.{◌≡◌, ◌⊎◌, ◌<◌, ◌^◌, ◌++◌, ◌≤◌, false, length, All, Any, IfErr};
 ghost use Rattle.std.specs.Prelude.{IfOk, IsErrOf, IsTrue, OnOk};
 ghost use Rattle.std.specs.List.{AllByRecursion, flat_map};
-ghost use Rattle.merge_record.specs.Spelling.{IsSpellable, IsPathText, PassesLimit, byte_of, counted};
+ghost use Rattle.merge_record.specs.Spelling.{IsSpellable, PassesLimit, byte_of, counted};
+ghost use Rattle.file_tree.specs.Paths.{IsPathText};
 ghost use Rattle.merge_record.specs.Spelling.{lead, number_text, path_text, placement_text};
 ghost use Rattle.merge_record.specs.Spelling.{spelling};
 

@@ -1,6 +1,6 @@
 -- What becomes of the last line of a run.
 use Rattle.std.proofs.Common.{◌≡◌, ℕ, List, ◌++◌, inl, inr, refl, ap, take}
-use Rattle.merge_group.specs.Lines.{Wrote}
+use Rattle.file_tree.specs.Output.{Wrote}
 use Rattle.merge_report.specs.Last.{IsEnd, IsLast, unwritten}
 use Rattle.merge_report.specs.Texts.{last_line}
 use Rattle.merge_report.specs.declared.status.Status.{Status}

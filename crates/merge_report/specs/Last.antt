@@ -1,6 +1,6 @@
 -- What is written of the last line of a run, and the status that it ends with then.
 use Rattle.std.specs.Prelude.{◌≡◌, ◌⊎◌, ℕ, List}
-use Rattle.merge_group.specs.Lines.{IsBeginning}
+use Rattle.file_tree.specs.Output.{IsBeginning}
 use Rattle.merge_report.specs.Texts.{last_line}
 use Rattle.merge_report.specs.declared.status.Status.{Status}
 use Rattle.merge_report.specs.declared.status.Status.TheVariants as status

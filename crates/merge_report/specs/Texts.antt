@@ -27,8 +27,8 @@ use Rattle.merge_report.specs.declared.status.Part.{Part}
 use Rattle.merge_report.specs.declared.status.Part.TheVariants.{Command, Result}
 use Rattle.file_tree.specs.declared.limits.Quantity.{Quantity}
 use Rattle.file_tree.specs.declared.limits.Quantity.TheVariants.{Candidates, Groups, Packages, Paths, RecordBytes}
-use Rattle.owner_book.specs.declared.fault.ImageBad.{ImageBad}
-use Rattle.owner_book.specs.declared.fault.ImageBad.TheVariants as bad
+use Rattle.merge_fit.specs.declared.fault.ImageBad.{ImageBad}
+use Rattle.merge_fit.specs.declared.fault.ImageBad.TheVariants as bad
 use Rattle.recovery.specs.declared.fault.RecoverFault.{RecoverFault}
 use Rattle.recovery.specs.declared.fault.RecoverFault.TheVariants as recovery
 use Rattle.merge_report.specs.declared.status.Status.{Status}

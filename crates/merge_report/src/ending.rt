@@ -1,6 +1,6 @@
 ghost use Rattle.std.specs.Prelude.{◌≡◌, ◌≤◌, ◌⊎◌, IsTrue};
 ghost use Rattle.file_tree.specs.Disk.{Rose};
-ghost use Rattle.merge_group.specs.Lines.{Wrote};
+ghost use Rattle.file_tree.specs.Output.{Wrote};
 ghost use Rattle.merge_report.specs.Last.{IsEnd, IsLast, unwritten};
 ghost use Rattle.merge_report.specs.Texts.{last_line};
 

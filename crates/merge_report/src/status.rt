@@ -4,7 +4,7 @@ use dep_atom::{Atom, PackageId};
 use emerge_choose::NotTaken;
 use emerge_words::WordFault;
 use file_tree::{Path, Quantity};
-use owner_book::ImageBad;
+use merge_fit::ImageBad;
 use pkg_state::Broken;
 use plan_rules::PlanRefused;
 use recovery::RecoverFault;

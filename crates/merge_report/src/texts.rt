@@ -16,7 +16,7 @@ use dep_atom::{Atom, PackageId};
 use emerge_choose::{NotTaken, Reason};
 use emerge_words::WordFault;
 use file_tree::{Path, Quantity};
-use owner_book::ImageBad;
+use merge_fit::ImageBad;
 use pkg_state::{Broken, Pkg};
 use plan_lives::{Group, Removal};
 use plan_rules::PlanRefused;

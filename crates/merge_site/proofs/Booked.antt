@@ -6,10 +6,11 @@ use Rattle.std.proofs.lemmas.Bool.{cases_Bool, cases_eq, cond-false, cond-true, 
 use Rattle.std.proofs.Math.Bool.{or_comm}
 use Rattle.basics.specs.Members.{Has}
 use Rattle.file_tree.specs.ObjectValue.{ObjectValue}
-use Rattle.merge_journal.specs.Judging.{are_free, is_in, path_of}
+use Rattle.merge_journal.specs.Judging.{are_free, path_of}
+use Rattle.file_tree.specs.PathSets.{is_in}
 use Rattle.merge_record.specs.declared.record.OwnerKey.{OwnerKey}
 use Rattle.merge_record.specs.declared.record.Placement.{Placement}
-use Rattle.merge_journal.proofs.Free.{is_in-append}
+use Rattle.file_tree.proofs.PathSets.{is_in-append}
 use Rattle.owner_book.specs.Book as books
 use Rattle.owner_book.specs.Book.{AreDisjoint, Book, ChangesClaim, HasOwnersOf, HasSettled, IsClaimedBy, ClaimValue, claim_in, has, is_wished, key_in, owner_in, settled_owner}
 use Rattle.owner_book.specs.declared.wish.Wish.{Wish}

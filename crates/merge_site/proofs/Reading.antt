@@ -7,9 +7,10 @@ use Rattle.file_tree.specs.Disk.{Disk, Map}
 use Rattle.file_tree.specs.Paths.{is_below}
 use Rattle.merge_journal.specs.Group.{covers, token}
 use Rattle.merge_journal.proofs.Changes.{staged_at}
-use Rattle.merge_journal.proofs.Form.{in_if_has}
+use Rattle.file_tree.proofs.PathSets.{in_if_has}
 use Rattle.merge_journal.specs.Judging.{footprint, path_of}
-use Rattle.merge_journal.specs.Names.{jobs, stage_path, token_path}
+use Rattle.merge_journal.specs.Names.{stage_path, token_path}
+use Rattle.file_tree.specs.Fixed.{jobs}
 use Rattle.merge_journal.specs.Names.Part.{Stage, Token}
 use Rattle.merge_record.specs.declared.record.Placement.{Placement}
 use Rattle.merge_core.specs.Order.{IsInOrder}

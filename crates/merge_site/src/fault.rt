@@ -1,6 +1,7 @@
 use file_tree::{Path, TreeFault};
 use merge_core::Refusal;
-use owner_book::{ClaimFault, Collision, ImageBad};
+use merge_fit::ImageBad;
+use owner_book::{ClaimFault, Collision};
 use std::alloc::AllocError;
 use thiserror::Error;
 

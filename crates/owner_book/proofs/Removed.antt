@@ -7,7 +7,7 @@ use Rattle.std.proofs.lemmas.Map.Lookups.{exact_unsigned}
 use Rattle.std.proofs.lemmas.Slice.Eq.{bytes_eq-Decides}
 use Rattle.std.proofs.lemmas.Option.{slice_get_read}
 use Rattle.merge_record.specs.declared.record.OwnerKey.{OwnerKey}
-use Rattle.merge_journal.specs.Judging.{is_in}
+use Rattle.file_tree.specs.PathSets.{is_in}
 use Rattle.owner_book.specs.declared.index.Slot.{Slot}
 use Rattle.owner_book.specs.declared.index.Mark.{Mark}
 use Rattle.owner_book.specs.Book.{Book, ChangesClaim, HasOwnersOf, IsClaimedBy, ClaimValue, claim_in, owner_in}

@@ -11,7 +11,7 @@ use Rattle.merge_record.specs.declared.record.OwnerKey.{OwnerKey}
 use Rattle.owner_book.specs.declared.fault.ClaimFault.{ClaimFault}
 use Rattle.owner_book.specs.declared.fault.ClaimFault.TheVariants as faults
 use Rattle.owner_book.specs.declared.fault.Collision.TheVariants as collisions
-use Rattle.owner_book.specs.declared.fault.ImageBad.TheVariants as images
+use Rattle.merge_fit.specs.declared.fault.ImageBad.TheVariants as images
 use Rattle.owner_book.specs.declared.wish.Wish.{Wish}
 use Rattle.owner_book.specs.Book.{AreDisjoint, Book, IsClaimedBy, IsTaken, is_wished, owner_in}
 use Rattle.owner_book.specs.Rules.{IsFirstRefusal, IsNearest, IsPassed, Refuses, is_kept_out}

@@ -1,7 +1,7 @@
 -- Which paths a group may remove, and books as those of an index.
 use Rattle.std.specs.Prelude.{◌≡◌, ◌&&◌, ℕ, Bool, true, false, not, List, Option, Some, None, is_some, slice_get, take}
 use Rattle.merge_record.specs.declared.record.OwnerKey.{OwnerKey}
-use Rattle.merge_journal.specs.Judging.{is_in}
+use Rattle.file_tree.specs.PathSets.{is_in}
 use Rattle.owner_book.specs.declared.index.Slot.{Slot}
 use Rattle.owner_book.specs.Book.{Book, IsClaimedBy, ClaimValue, owner_in}
 use Rattle.owner_book.specs.Slots.{IndexValue}

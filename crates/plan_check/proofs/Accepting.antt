@@ -20,7 +20,7 @@ use Rattle.plan_law.specs.Plans.{Group, Removal, clears, group_at, no_group}
 use Rattle.plan_law.specs.Lives.{Enters, IsCleared, IsLife, Life, Meets, Moment, commit, never, opening, stretch_of, until}
 use Rattle.plan_law.specs.Accepted.{AreLeft, IsAccepted, IsFirmThrough}
 use Rattle.plan_law.specs.Sound.{bars, is_of_build}
-use Rattle.plan_law.proofs.Members.{passes_some, some_passes}
+use Rattle.basics.proofs.Members.{passes_some, some_passes}
 use Rattle.plan_law.proofs.There.{some_life}
 use Rattle.plan_lives.specs.Lives.{lives}
 use Rattle.plan_lives.specs.Left.{is_never, left_of}

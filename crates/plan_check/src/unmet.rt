@@ -9,7 +9,7 @@ ghost use Rattle.plan_lives.specs.Stretches.{IsWithin};
 ghost use Rattle.plan_check.specs.Home.{among, met_rule};
 ghost use Rattle.plan_check.specs.PackageRules.{if_left, satisfied_rule};
 ghost use Rattle.plan_rules.specs.Refusals.{Says};
-ghost use Rattle.plan_text.specs.Texts.{most_groups};
+ghost use Rattle.basics.specs.Limits.{most_groups};
 
 use pkg_state::{Class, copy_leaf};
 use plan_lives::{Index, Life, Moment, Packages, there_at};

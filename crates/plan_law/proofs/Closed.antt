@@ -3,7 +3,7 @@ use Rattle.std.proofs.Common.{◌≡◌, ◌⊎◌, ◌≤◌, ℕ, List, inl, i
 use Rattle.basics.specs.Members.{Has}
 use Rattle.plan_law.specs.Plans.{Group, Reaches, WaitsForEarlier, before, group_at, itself}
 use Rattle.plan_law.specs.Lives.{IsAhead, IsPast, Life, Meets, Moment, Precedes, Stretch, commit, never, opening, stretch_of, until}
-use Rattle.plan_law.proofs.Members.{has_or_not}
+use Rattle.basics.proofs.Members.{has_or_not}
 
 abbrev pub IsClosed : List Group → List ℕ → Type 0
 IsClosed plan done = (g h : ℕ) → Has done g → Has (group_at plan g).after h → Has done h

@@ -1,4 +1,3 @@
-pub mod Members
 pub mod Closed
 pub mod Chains
 pub mod Truth

@@ -10,7 +10,7 @@ use Rattle.plan_law.specs.Lives.{ComesBefore, Enters, IsCleared, IsLife, Life, M
 use Rattle.plan_law.specs.Accepted.{Changes, IsAccepted}
 use Rattle.plan_law.proofs.Cleared.{some_first}
 use Rattle.plan_law.proofs.Closed.{HasCome, IsAlive, IsClosed, not_behind, reached, reached_before}
-use Rattle.plan_law.proofs.Members.{distinct_filtered, distinct_joined}
+use Rattle.basics.proofs.Members.{distinct_filtered, distinct_joined}
 
 abbrev pub line : Package → List ℕ
 line p = line_of p.facts

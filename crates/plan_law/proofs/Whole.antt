@@ -22,7 +22,7 @@ use Rattle.plan_law.proofs.Apart.{differ_too}
 use Rattle.plan_law.proofs.Cleared.{adding_is_there, clearing_is_there}
 use Rattle.plan_law.proofs.Chains.{chained_alive}
 use Rattle.plan_law.proofs.Closed.{HasCome, IsWithin, alive_meets, within_life, within_until}
-use Rattle.plan_law.proofs.Members.{passes_some, some_passes}
+use Rattle.basics.proofs.Members.{passes_some, some_passes}
 use Rattle.plan_law.proofs.There.{AreThere, all_done, line, there_at_first, there_behind}
 use Rattle.plan_law.proofs.Truth.{firm_all}
 

@@ -2,7 +2,7 @@
 use Rattle.std.specs.Prelude.{◌<◌, ◌≤◌, ℕ, List, length}
 use Rattle.basics.specs.Members.{Has}
 use Rattle.plan_law.specs.Plans.{Group, WaitsForEarlier}
-use Rattle.plan_text.specs.Texts.{most_groups}
+use Rattle.basics.specs.Limits.{most_groups}
 
 -- all of these are below
 abbrev pub AreBelow : List ℕ → ℕ → Type 0

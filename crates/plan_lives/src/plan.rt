@@ -2,9 +2,9 @@ ghost use Rattle.std.specs.Prelude.{◌≡◌, ◌↔◌, IsTrue, MatchOption};
 ghost use Rattle.plan_law.specs.Plans.{WaitsForEarlier};
 ghost use Rattle.plan_lives.specs.Form.{AreBelow, IsPlanInForm};
 
+use basics::MOST_GROUPS;
 use dep_atom::PackageId;
 use pkg_state::Pkg;
-use plan_text::MOST_GROUPS;
 use pms_names::SlotName;
 use std::marker::Model;
 

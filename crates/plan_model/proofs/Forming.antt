@@ -9,7 +9,8 @@ use Rattle.plan_law.specs.Plans as law
 use Rattle.plan_law.specs.Plans.{group_at}
 use Rattle.plan_text.specs.Numbers.{rise_between}
 use Rattle.plan_text.specs.Plans.{GroupValue}
-use Rattle.plan_text.specs.Texts.{AreGroups, IsPlan, most_groups}
+use Rattle.plan_text.specs.Texts.{AreGroups, IsPlan}
+use Rattle.basics.specs.Limits.{most_groups}
 use Rattle.plan_lives.specs.Form.{IsPlanInForm}
 use Rattle.plan_model.specs.Linked.{IsLinked, IsLinkedGroup}
 use Rattle.plan_model.proofs.Pairs.{zip_length}

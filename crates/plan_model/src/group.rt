@@ -1,7 +1,7 @@
 ghost use Rattle.std.specs.Prelude.{◌≡◌, ◌-◌, ◌<◌, IfOk, map};
 ghost use Rattle.std.specs.List.{AllZip};
 ghost use Rattle.plan_text.specs.Plans.{addition_value, group_value};
-ghost use Rattle.plan_text.specs.Texts.{most_groups};
+ghost use Rattle.basics.specs.Limits.{most_groups};
 ghost use Rattle.plan_rules.specs.Verdicts.{each};
 ghost use Rattle.plan_model.specs.Faults.{Says, addition_rule, flag_rule, group_rule};
 ghost use Rattle.plan_model.specs.Linked.{IsLinkedGroup, removal_of};

@@ -1,6 +1,7 @@
 ghost use Rattle.std.specs.Prelude.{◌≡◌, ◌≢◌, ◌≤◌, IfErr, IfOk, None, Some, length, map};
 ghost use Rattle.plan_text.specs.Plans.{group_value, plan_value};
-ghost use Rattle.plan_text.specs.Texts.{IsPlan, most_groups};
+ghost use Rattle.plan_text.specs.Texts.{IsPlan};
+ghost use Rattle.basics.specs.Limits.{most_groups};
 ghost use Rattle.plan_model.specs.Faults.{Says, link_rule};
 ghost use Rattle.plan_model.specs.Linked.{IsLinked};
 ghost use Rattle.plan_model.specs.declared.fault.LinkFault.TheVariants.{Memory};

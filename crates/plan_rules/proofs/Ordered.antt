@@ -20,7 +20,7 @@ use Rattle.plan_law.specs.Plans.{Group, Reaches, Removal, WaitsForEarlier, clear
 use Rattle.plan_law.specs.Accepted.{Changes}
 use Rattle.plan_law.proofs.Cleared.{adding_is_there, clearing_is_there}
 use Rattle.plan_law.proofs.Closed.{not_behind}
-use Rattle.plan_law.proofs.Members.{passes_some, some_passes}
+use Rattle.basics.proofs.Members.{passes_some, some_passes}
 use Rattle.plan_lives.specs.Reaching.{AreReaching, has_bit}
 use Rattle.plan_lives.proofs.Clears.{Stands, all_stand, rest_stands, stands_here}
 use Rattle.plan_rules.specs.Changes.{AreByLine, changes_from, changes_of, earlier, groups_on}

@@ -2,7 +2,7 @@ ghost use Rattle.std.specs.Prelude.{◌<◌};
 ghost use Rattle.plan_lives.specs.Form.{IsPlanInForm};
 ghost use Rattle.plan_rules.specs.Refusals.{Says};
 ghost use Rattle.plan_rules.specs.Rules.{apart_rule, single_rule};
-ghost use Rattle.plan_text.specs.Texts.{most_groups};
+ghost use Rattle.basics.specs.Limits.{most_groups};
 
 use crate::refusal::{PlanRefused, occupied};
 use pkg_state::first_twins;

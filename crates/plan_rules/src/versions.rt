@@ -8,7 +8,7 @@ ghost use Rattle.plan_lives.specs.Lives.{life_of, moment_of};
 ghost use Rattle.plan_lives.specs.Stretches.{IsStretchWithin, IsWithin, stretch_value};
 ghost use Rattle.plan_rules.specs.Refusals.{Says};
 ghost use Rattle.plan_rules.specs.Rules.{AreOneVersion, number_of, versions_of, versions_rule};
-ghost use Rattle.plan_text.specs.Texts.{most_groups};
+ghost use Rattle.basics.specs.Limits.{most_groups};
 
 use crate::refusal::{PlanRefused, occupied};
 use pkg_state::Pkg;

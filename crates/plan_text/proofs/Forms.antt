@@ -9,7 +9,8 @@ use Rattle.plan_text.specs.Lines.{LineValue, line_of}
 use Rattle.plan_text.specs.Numbers.{IsNumber, rise_between}
 use Rattle.plan_text.specs.Plans.{AdditionValue, GroupValue}
 use Rattle.plan_text.specs.Standing.{StandingValue, ends, may_end, runs, standing, start}
-use Rattle.plan_text.specs.Texts.{AreGroups, IsAddition, IsPlan, addition_lines, after_lines, group_lines, groups_lines, most_groups, plan_lines, remove_line}
+use Rattle.plan_text.specs.Texts.{AreGroups, IsAddition, IsPlan, addition_lines, after_lines, group_lines, groups_lines, plan_lines, remove_line}
+use Rattle.basics.specs.Limits.{most_groups}
 use Rattle.plan_text.specs.Words.{IsBind, IsEntry, IsRemoval, rise}
 use Rattle.plan_text.specs.declared.kind.Kind.TheVariants as kinds
 use Rattle.plan_text.specs.declared.plan.Removal.{Removal}

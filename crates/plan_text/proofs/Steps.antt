@@ -10,7 +10,8 @@ use Rattle.plan_text.specs.Lines.{IsLine, LineValue, Said, line_of, line_text}
 use Rattle.plan_text.specs.Plans.{GroupValue, group_value}
 use Rattle.plan_text.specs.Progress.{Grows, IsReadTo, body, body_of, is_inner}
 use Rattle.plan_text.specs.Standing.{StandingValue, ends, follows, is_start, may_end, next, runs, standing, start, takes, behind}
-use Rattle.plan_text.specs.Texts.{IsPlan, group_lines, groups_lines, most_groups, plan_lines}
+use Rattle.plan_text.specs.Texts.{IsPlan, group_lines, groups_lines, plan_lines}
+use Rattle.basics.specs.Limits.{most_groups}
 use Rattle.plan_text.specs.declared.kind.Kind.{Kind}
 use Rattle.plan_text.specs.declared.kind.Kind.TheVariants as kinds
 use Rattle.plan_text.specs.declared.standing.Place.{Place}

@@ -5,7 +5,7 @@ use Rattle.plan_text.specs.Lines.{LineValue}
 use Rattle.plan_text.specs.Progress.{AreRead, Stops}
 use Rattle.plan_text.specs.Reading.{is_newline}
 use Rattle.plan_text.specs.Standing.{ends, may_end, start}
-use Rattle.plan_text.specs.Texts.{most_groups}
+use Rattle.basics.specs.Limits.{most_groups}
 use Rattle.plan_text.specs.declared.fault.PlanTextFault.{PlanTextFault}
 use Rattle.plan_text.specs.declared.fault.PlanTextFault.TheVariants as faults
 

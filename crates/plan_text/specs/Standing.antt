@@ -2,7 +2,7 @@
 use Rattle.std.specs.Prelude.{◌==◌, ◌&&◌, ◌+◌, ℕ, Bool, false, true, List, [], ◌∷◌, nat_lt}
 use Rattle.plan_text.specs.Lines.{LineValue, Said, line_text}
 use Rattle.plan_text.specs.Numbers.{rise_between}
-use Rattle.plan_text.specs.Texts.{most_groups}
+use Rattle.basics.specs.Limits.{most_groups}
 use Rattle.plan_text.specs.Words.{is_before}
 use Rattle.plan_text.specs.declared.kind.Kind.{Kind}
 use Rattle.plan_text.specs.declared.kind.Kind.TheVariants as kinds

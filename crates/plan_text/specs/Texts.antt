@@ -1,16 +1,13 @@
 -- The text of a plan, and when a plan is in form.
 use Rattle.std.specs.Prelude.{◌≡◌, ◌<◌, ◌≤◌, ◌+◌, ℕ, true, List, [], ◌∷◌, ◌++◌, length, map, ⊤}
 use Rattle.std.specs.List.{AllByRecursion, flat_map}
+use Rattle.basics.specs.Limits.{most_groups}
 use Rattle.plan_text.specs.Lines.{LineValue, line_of, line_text}
 use Rattle.plan_text.specs.Numbers.{rise_between}
 use Rattle.plan_text.specs.Plans.{AdditionValue, GroupValue}
 use Rattle.plan_text.specs.Words.{IsBind, IsEntry, IsRemoval, rise}
 use Rattle.plan_text.specs.declared.kind.Kind.TheVariants as kinds
 use Rattle.plan_text.specs.declared.plan.Removal.{Removal}
-
--- the most groups of a plan
-abbrev pub most_groups : ℕ
-most_groups = 4096
 
 -- the addition without its binds
 abbrev pub entry : AdditionValue → AdditionValue

@@ -4,8 +4,9 @@ ghost use Rattle.plan_text.specs.Faults.{Names, TellsLine, line_number};
 use crate::fault::PlanTextFault;
 use crate::line::words;
 use crate::number::read_number;
-use crate::standing::{MOST_GROUPS, rise_between};
+use crate::standing::rise_between;
 use crate::words::{first_word, read_numbers};
+use basics::MOST_GROUPS;
 use std::alloc::Global;
 
 /// The fault of a line behind which no plan goes on: so many groups have begun before it, and so

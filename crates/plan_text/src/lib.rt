@@ -44,4 +44,3 @@ pub use fault::PlanTextFault;
 pub use laws::one_plan;
 pub use plan::{Addition, Group, Plan, Removal};
 pub use print::push_flags;
-pub use standing::MOST_GROUPS;

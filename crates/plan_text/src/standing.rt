@@ -3,13 +3,11 @@ ghost use Rattle.plan_text.specs.Numbers.{rise_between};
 ghost use Rattle.plan_text.specs.Reading.{line_value};
 ghost use Rattle.plan_text.specs.Standing.{behind, follows, is_bare, may_end, standing_value};
 ghost use Rattle.plan_text.specs.Standing.{takes, takes_addition, takes_removal};
-ghost use Rattle.plan_text.specs.Texts.{most_groups};
+ghost use Rattle.basics.specs.Limits.{most_groups};
 
 use crate::line::Line;
 use crate::words::is_before;
-
-/// The most groups of a plan.
-pub const MOST_GROUPS: u32 = 4096;
+use basics::MOST_GROUPS;
 
 /// What the last line of a text was.
 #[derive(Clone, Copy)]

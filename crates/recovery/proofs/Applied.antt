@@ -9,7 +9,7 @@ use Rattle.file_tree.specs.Disk.{Disk, Map, Moves, Story}
 use Rattle.file_tree.specs.Paths.{is_below}
 use Rattle.merge_record.specs.RecordValue.{RecordValue}
 use Rattle.merge_journal.specs.Judging.{are_free, footprint, judged, judged_all, judged_open, ◌>>=◌}
-use Rattle.merge_journal.specs.Names.{jobs}
+use Rattle.file_tree.specs.Fixed.{jobs}
 use Rattle.merge_journal.specs.Open.{open_groups}
 use Rattle.merge_journal.specs.declared.fault.JudgeFault.{JudgeFault}
 use Rattle.merge_journal.proofs.Form.{bind_ok, judged_words}

@@ -6,9 +6,10 @@ use Rattle.file_tree.specs.Disk.{Disk, Map, Story, Syncs, settled, write}
 use Rattle.file_tree.specs.Paths.{is_below}
 use Rattle.file_tree.specs.ObjectValue.{ObjectValue}
 use Rattle.file_tree.proofs.Moments.{Runs, runs_start, runs_sync}
-use Rattle.merge_journal.specs.Judging.{is_in}
-use Rattle.merge_journal.specs.Names.{gate_path, jobs}
-use Rattle.merge_journal.proofs.Form.{in_if_has}
+use Rattle.file_tree.specs.PathSets.{is_in}
+use Rattle.merge_journal.specs.Names.{gate_path}
+use Rattle.file_tree.specs.Fixed.{jobs}
+use Rattle.file_tree.proofs.PathSets.{in_if_has}
 use Rattle.merge_core.specs.Recovery.{Asked, with_removed}
 use Rattle.merge_core.proofs.Keeps.{fixed_write}
 use Rattle.merge_core.proofs.Redone.{removed_reads}

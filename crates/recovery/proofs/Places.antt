@@ -6,7 +6,8 @@ use Rattle.basics.proofs.Membership.{has-append_left, has-append_right, has-map}
 use Rattle.file_tree.specs.Paths.{is_below}
 use Rattle.merge_record.specs.RecordValue.{RecordValue}
 use Rattle.merge_journal.specs.Judging.{are_free, footprint, path_of}
-use Rattle.merge_journal.specs.Names.{gate_path, jobs, record_path}
+use Rattle.merge_journal.specs.Names.{gate_path, record_path}
+use Rattle.file_tree.specs.Fixed.{jobs}
 use Rattle.merge_journal.specs.Names.Part.{Changes, Gate}
 use Rattle.merge_record.specs.declared.record.Placement.{Placement}
 use Rattle.merge_journal.proofs.Form.{are_free-words}

@@ -6,7 +6,8 @@ use Rattle.file_tree.specs.Moments.{Leaves}
 use Rattle.file_tree.specs.Paths.{is_below}
 use Rattle.file_tree.specs.ObjectValue.{ObjectValue}
 use Rattle.merge_journal.specs.Judging.{judged_all, judged_open}
-use Rattle.merge_journal.specs.Names.{gate_path, jobs}
+use Rattle.merge_journal.specs.Names.{gate_path}
+use Rattle.file_tree.specs.Fixed.{jobs}
 use Rattle.merge_journal.specs.Open.{is_open, open_groups}
 use Rattle.merge_journal.specs.Recovered.{IsRecovered}
 use Rattle.merge_journal.proofs.Opened.{Opens, open_groups_only}

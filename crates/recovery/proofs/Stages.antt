@@ -8,7 +8,8 @@ use Rattle.file_tree.specs.ObjectValue.{ObjectValue}
 use Rattle.merge_core.specs.Recovery.{with_placed, with_removed}
 use Rattle.merge_core.proofs.Keeps.{write_reads}
 use Rattle.merge_core.proofs.Paths.{file_below}
-use Rattle.merge_journal.specs.Names.{jobs, stage_path}
+use Rattle.merge_journal.specs.Names.{stage_path}
+use Rattle.file_tree.specs.Fixed.{jobs}
 use Rattle.merge_journal.specs.Names.Part.{Stage}
 use Rattle.merge_record.specs.declared.record.Placement.{Placement}
 use Rattle.merge_journal.proofs.Form.{shift}

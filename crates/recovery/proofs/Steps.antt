@@ -7,7 +7,8 @@ use Rattle.basics.specs.Members.{Has}
 use Rattle.file_tree.specs.Disk.{Disk, Moves, Story, write}
 use Rattle.file_tree.specs.Paths.{is_below}
 use Rattle.file_tree.specs.ObjectValue.{ObjectValue}
-use Rattle.merge_journal.specs.Names.{jobs, record_path}
+use Rattle.merge_journal.specs.Names.{record_path}
+use Rattle.file_tree.specs.Fixed.{jobs}
 use Rattle.merge_journal.specs.Names.Part.{Changes}
 use Rattle.merge_record.specs.Spelling.{PassesLimit}
 use Rattle.merge_record.specs.declared.record.Placement.{Placement}

@@ -11,11 +11,13 @@ use Rattle.file_tree.specs.ObjectValue.{ObjectValue}
 use Rattle.file_tree.proofs.Moments.{since_then, since_weaker}
 use Rattle.merge_journal.specs.Group.{Group, covers}
 use Rattle.merge_record.specs.RecordValue.{RecordValue}
-use Rattle.merge_journal.specs.Judging.{are_free, footprint, is_in, judged_open}
-use Rattle.merge_journal.specs.Names.{gate_path, jobs, record_path}
+use Rattle.merge_journal.specs.Judging.{are_free, footprint, judged_open}
+use Rattle.file_tree.specs.PathSets.{is_in}
+use Rattle.merge_journal.specs.Names.{gate_path, record_path}
+use Rattle.file_tree.specs.Fixed.{jobs}
 use Rattle.merge_journal.specs.Names.Part.{Gate}
 use Rattle.merge_journal.specs.Open.{is_open, open_groups}
-use Rattle.merge_journal.proofs.Form.{in_if_has}
+use Rattle.file_tree.proofs.PathSets.{in_if_has}
 use Rattle.merge_core.specs.Order.{IsFirm}
 use Rattle.merge_core.specs.Phase.{gate_owed}
 use Rattle.merge_core.specs.Recovery.{Asked, Recovers, RecoversOn, found_group, recovered, redo, redone, redone_phase, shut, with_removed}

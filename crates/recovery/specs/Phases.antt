@@ -6,7 +6,8 @@ use Rattle.merge_core.specs.Order.{IsFirm}
 use Rattle.merge_core.specs.Recovery.{redone}
 use Rattle.merge_record.specs.RecordValue.{RecordValue}
 use Rattle.merge_journal.specs.Judging.{judged_open}
-use Rattle.merge_journal.specs.Names.{gate_path, jobs}
+use Rattle.merge_journal.specs.Names.{gate_path}
+use Rattle.file_tree.specs.Fixed.{jobs}
 use Rattle.recovery.specs.Found.{AreGates}
 
 -- the open groups of the map are applied for good, and each odd gate has a record without paths:

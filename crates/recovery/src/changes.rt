@@ -4,7 +4,8 @@ ghost use Rattle.file_tree.specs.Disk.{CountsFault};
 ghost use Rattle.file_tree.specs.Paths.{is_below};
 ghost use Rattle.merge_core.specs.Recovery.{Asked, with_placed, with_removed};
 ghost use Rattle.merge_journal.specs.Judging.{path_of};
-ghost use Rattle.merge_journal.specs.Names.{jobs, stage_path};
+ghost use Rattle.merge_journal.specs.Names.{stage_path};
+ghost use Rattle.file_tree.specs.Fixed.{jobs};
 ghost use Rattle.merge_record.specs.declared.record.Placement.{Placement};
 
 use crate::paths::StagePaths;

@@ -12,7 +12,7 @@ use Rattle.merge_fit.specs.Images as images
 use Rattle.merge_fit.specs.Images.{is_good}
 use Rattle.merge_fit.specs.Misfits.{AreGood}
 use Rattle.merge_journal.specs.Judging.{meets_jobs}
-use Rattle.merge_record.specs.Spelling.{IsPathText}
+use Rattle.file_tree.specs.Paths.{IsPathText}
 use Rattle.owner_book.specs.Rules.{is_reserved}
 use Rattle.vdb_contents.specs.Contents.{IsOwnable, is_dropped, path_of}
 use Rattle.vdb_contents.specs.declared.owned.Owned.{Owned}

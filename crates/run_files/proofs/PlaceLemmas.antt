@@ -8,8 +8,8 @@ use Rattle.basics.specs.Members.{Has}
 use Rattle.basics.proofs.Membership.{has-append_left, has-map}
 use Rattle.basics.proofs.Tests.{or-false}
 use Rattle.basics.proofs.Texts.{bytes_eq-same, same_text}
-use Rattle.merge_journal.specs.Judging.{is_in}
-use Rattle.merge_journal.proofs.Form.{has_if_in, in_if_has}
+use Rattle.file_tree.specs.PathSets.{is_in}
+use Rattle.file_tree.proofs.PathSets.{has_if_in, in_if_has}
 use Rattle.pkg_state.specs.Package.{Package}
 use Rattle.vdb_law.specs.Database.{folder_name}
 use Rattle.vdb_law.specs.Packages.{Installed}

@@ -7,8 +7,8 @@ use Rattle.std.proofs.lemmas.Slice.Eq.{bytes_eq-Decides}
 use Rattle.basics.specs.Members.{AreDistinct, Has}
 use Rattle.basics.proofs.Membership.{distinct-push, has-append_cases, has-append_left, has-append_right}
 use Rattle.basics.proofs.Tests.{or-false}
-use Rattle.merge_journal.specs.Judging.{HasSame, is_in}
-use Rattle.merge_journal.proofs.Form.{has_if_in, in_if_has}
+use Rattle.file_tree.specs.PathSets.{HasSame, is_in}
+use Rattle.file_tree.proofs.PathSets.{has_if_in, in_if_has}
 use Rattle.run_files.specs.Removing.{AddsFree}
 
 pub in_append : (xs ys : List (List ℕ)) (q : List ℕ) → is_in (xs ++ ys) q ≡ is_in xs q || is_in ys q

@@ -3,7 +3,7 @@ use Rattle.std.specs.Prelude.{◌≡◌, Bool, List, map}
 use Rattle.std.specs.List.{AllByRecursion}
 use Rattle.dep_atom.specs.Ids.{IsId}
 use Rattle.merge_fit.specs.Misfits.{AreGood}
-use Rattle.merge_record.specs.Spelling.{IsPathText}
+use Rattle.file_tree.specs.Paths.{IsPathText}
 use Rattle.pkg_state.specs.Package.{Package, line_of}
 use Rattle.plan_law.specs.Plans.{Group, clears}
 use Rattle.vdb_law.specs.Packages.{Installed}

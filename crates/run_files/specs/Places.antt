@@ -1,7 +1,7 @@
 -- The places of folders, as they are looked up.
 use Rattle.std.specs.Prelude.{◌≡◌, ℕ, List, Option, None, Some, length, if◌then◌else◌}
 use Rattle.std.specs.BTreeMap.{get_by_text}
-use Rattle.merge_journal.specs.Judging.{is_in}
+use Rattle.file_tree.specs.PathSets.{is_in}
 use Rattle.law_run.specs.Openings.{place_of}
 use Rattle.run_files.specs.declared.places.Places.{Places}
 

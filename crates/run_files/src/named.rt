@@ -1,5 +1,5 @@
 ghost use Rattle.std.specs.List.{AllByRecursion};
-ghost use Rattle.merge_record.specs.Spelling.{IsPathText};
+ghost use Rattle.file_tree.specs.Paths.{IsPathText};
 ghost use Rattle.run_files.specs.Made.{IsNamed};
 
 use crate::newcomer::Newcomer;

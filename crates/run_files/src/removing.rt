@@ -1,12 +1,11 @@
 ghost use Rattle.std.specs.Prelude.{◌≡◌, ◌++◌, List, ℕ, IfOk, OnOk, map};
 ghost use Rattle.merge_group.specs.Working.{all_of};
 ghost use Rattle.merge_fit.specs.Images.{path_of as entry_path};
-ghost use Rattle.merge_journal.specs.Judging.{HasSame};
+ghost use Rattle.file_tree.specs.PathSets.{HasSame};
 ghost use Rattle.run_files.specs.Removing.{AddsFree};
 
-use file_tree::{Entry, Path};
+use file_tree::{Entry, Path, TakenPaths};
 use merge_group::Files;
-use merge_journal::TakenPaths;
 use std::alloc::{AllocError, Global};
 
 /// The paths that the files are for.

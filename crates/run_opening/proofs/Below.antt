@@ -1,20 +1,12 @@
--- What a package owns, by what is listed below its folder.
-use Rattle.std.proofs.Common.{◌≡◌, ◌∙◌, ℕ, true, List, ◌∷◌, ◌++◌, drop, inl, inr, refl, ap, sym, subst, append_assoc}
-use Rattle.std.specs.Prelude.{◌↔◌, codes}
+-- Paths in the folders of packages.
+use Rattle.std.proofs.Common.{◌≡◌, ◌∙◌, ℕ, List, ◌∷◌, ◌++◌, drop, refl, ap, sym}
+use Rattle.std.specs.Prelude.{codes}
 use Rattle.std.proofs.lemmas.List.{append_cancel_left}
-use Rattle.basics.specs.Members.{Has}
-use Rattle.basics.proofs.Membership.{contains-from_has, has-append_cases, has-append_left, has-append_right, has-from_contains}
 use Rattle.dep_atom.specs.Ids.{IsId, id_text, name_and_version}
 use Rattle.dep_atom.proofs.Cuts.{cut_once}
 use Rattle.dep_atom.specs.declared.package.PackageId.{PackageId}
-use Rattle.file_tree.specs.Disk.{Lists, Map}
-use Rattle.file_tree.specs.Paths.{is_below}
-use Rattle.file_tree.proofs.Below.{below_goes_on, below_if_goes_on}
 use Rattle.vdb_paths.specs.Files.{package_file_path}
 use Rattle.vdb_paths.proofs.Packages.{package_file_path-parts}
-use Rattle.vdb_law.specs.Database.{IsOf}
-use Rattle.vdb_law.specs.Packages.{Installed, id_of, paths}
-use Rattle.vdb_law.specs.Step.{Owns}
 use Rattle.vdb_law.proofs.Places.{category_counts, lacks_from, version_counts}
 
 -- two packages whose folders have a path have one name and version
@@ -24,30 +16,3 @@ one_name a b x y is is' e =
     let one = cut_once 47 47 a.name.category (47 ∷ (name_and_version a ++ (47 ∷ x))) b.name.category (47 ∷ (name_and_version b ++ (47 ∷ y))) (lacks_from a.name.category (category_counts a is).part) (lacks_from b.name.category (category_counts b is').part) refl refl behind in
     let two = cut_once 47 47 (name_and_version a) (47 ∷ x) (name_and_version b) (47 ∷ y) (lacks_from (name_and_version a) (version_counts a is).part) (lacks_from (name_and_version b) (version_counts b is').part) refl refl (ap (drop 1) one.1) in
     ap (λ (t : List ℕ). t ++ (47 ∷ name_and_version a)) one.0 ∙ ap (λ (t : List ℕ). b.name.category ++ (47 ∷ t)) two.0
-
-abbrev own_folder : PackageId → List ℕ
-own_folder id = codes "var/db/pkg/" ++ id_text id
-
-path_in : (id : PackageId) (name : List ℕ) → package_file_path id name ≡ own_folder id ++ 47 ∷ name
-unfolding package_file_path
-path_in id name = sym (append_assoc (codes "var/db/pkg/") (id_text id) (47 ∷ name))
-
-below_if_own : (id : PackageId) (q : List ℕ) → IsOf id q → is_below (own_folder id) q ≡ true
-below_if_own id q (name, e) = subst (λ (p : List ℕ). is_below (own_folder id) p ≡ true) (sym (e ∙ path_in id name)) (below_if_goes_on (own_folder id) name)
-
-own_if_below : (id : PackageId) (q : List ℕ) → is_below (own_folder id) q ≡ true → IsOf id q
-own_if_below id q h = let k = below_goes_on (own_folder id) q h in (k.0, k.1 ∙ sym (path_in id k.0))
-
--- what is listed below the package's folder, and then its recorded paths, are what it owns
-pub owned_paths : (m : Map) (p : Installed) (folder : List ℕ) (listed all : List (List ℕ)) → folder ≡ own_folder (id_of p) → Lists m folder listed → all ≡ listed ++ paths p → (q : List ℕ) → Has all q ↔ Owns m p q
-owned_paths m p folder listed all at lists is q =
-    let lists' : Lists m (own_folder (id_of p)) listed = subst (λ (f : List ℕ). Lists m f listed) at lists in (
-      λ has. elim (has-append_cases listed (paths p) q (subst (λ (l : List (List ℕ)). Has l q) is has)) [
-        | inl here ↦ (let k = (lists' q).0 (contains-from_has listed q here) in inr (own_if_below (id_of p) q k.0, k.1))
-        | inr recorded ↦ inl recorded
-      ],
-      λ owns. subst (λ (l : List (List ℕ)). Has l q) (sym is) (elim owns [
-        | inl recorded ↦ has-append_right listed (paths p) q recorded
-        | inr own ↦ has-append_left listed (paths p) q (has-from_contains listed q ((lists' q).1 (below_if_own (id_of p) q own.0, own.1)))
-      ]),
-    )

@@ -9,9 +9,9 @@ use Rattle.basics.proofs.Texts.{bytes_eq-apart, bytes_eq-same, not_less}
 use Rattle.basics.proofs.Tests.{none_is_not_some}
 use Rattle.pms_names.specs.Flags.{IsRising}
 use Rattle.file_tree.specs.Disk.{Map}
-use Rattle.merge_journal.specs.Judging.{is_in}
+use Rattle.file_tree.specs.PathSets.{is_in}
 use Rattle.merge_record.specs.declared.record.OwnerKey.{OwnerKey}
-use Rattle.merge_journal.proofs.Form.{has_if_in, in_if_has}
+use Rattle.file_tree.proofs.PathSets.{has_if_in, in_if_has}
 use Rattle.owner_book.specs.Book.{Book, owner_among, owner_in}
 use Rattle.vdb_law.specs.Database.{IsCounted, IsDatabase, IsOf, IsTidy, folder, folder_name}
 use Rattle.vdb_law.specs.Packages.{Installed, id_of, paths}

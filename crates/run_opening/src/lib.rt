@@ -29,6 +29,5 @@ mod reading;
 pub use fault::OpeningFault;
 pub use lighting::lit;
 pub use opened::Opening;
-pub use owners::paths_of;
 pub use places::is_matched;
 pub use reading::read_opening;

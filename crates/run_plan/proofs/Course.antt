@@ -13,7 +13,7 @@ use Rattle.merge_site.specs.Site.{SiteValue}
 use Rattle.plan_law.specs.Plans.{Group, group_at}
 use Rattle.vdb_law.specs.Packages.{Installed}
 use Rattle.merge_group.specs.Causes.{IsOfGroup}
-use Rattle.merge_group.specs.Lines.{IsBeginning}
+use Rattle.file_tree.specs.Output.{IsBeginning}
 use Rattle.merge_group.specs.Runs.{EndsAt}
 use Rattle.merge_group.specs.Turns.{numbers}
 use Rattle.merge_group.specs.declared.stop.Stop.{Stop}

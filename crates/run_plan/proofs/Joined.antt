@@ -11,7 +11,8 @@ use Rattle.merge_site.specs.Site.{SiteValue}
 use Rattle.plan_law.specs.Plans.{Group}
 use Rattle.vdb_law.specs.Packages.{Installed}
 use Rattle.merge_group.specs.Causes.{IsOfGroup}
-use Rattle.merge_group.specs.Lines.{AreLines, Wrote, line_in}
+use Rattle.merge_group.specs.Lines.{AreLines, line_in}
+use Rattle.file_tree.specs.Output.{Wrote}
 use Rattle.merge_group.specs.Runs.{IsOver, IsUnderWay}
 use Rattle.merge_group.specs.Turns.{AreFirst, StopsBehind, numbers}
 use Rattle.merge_group.specs.Went.{WentWith}

@@ -13,7 +13,7 @@ use Rattle.merge_core.specs.CoreValue.{CoreValue}
 use Rattle.merge_core.specs.Trail.{IsAtRest}
 use Rattle.plan_law.specs.Plans.{Group}
 use Rattle.vdb_law.specs.Packages.{Installed}
-use Rattle.merge_group.specs.Lines.{IsBeginning}
+use Rattle.file_tree.specs.Output.{IsBeginning}
 use Rattle.merge_group.specs.declared.stop.Stop.TheVariants as merges
 use Rattle.merge_group.specs.Went.{HaveRun}
 use Rattle.merge_group.proofs.Rising.{rose_earlier}

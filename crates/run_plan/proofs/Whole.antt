@@ -15,7 +15,8 @@ use Rattle.plan_law.specs.Plans.{Group}
 use Rattle.vdb_law.specs.Packages.{Installed}
 use Rattle.merge_group.specs.Applied.{number}
 use Rattle.merge_group.specs.Causes.{IsOfGroup}
-use Rattle.merge_group.specs.Lines.{IsBeginning, line_in, line_or_none}
+use Rattle.merge_group.specs.Lines.{line_in, line_or_none}
+use Rattle.file_tree.specs.Output.{IsBeginning}
 use Rattle.merge_group.specs.Went.{HaveRun}
 use Rattle.merge_group.specs.declared.stop.Stop.{Stop}
 use Rattle.merge_group.proofs.Rising.{rose_earlier, rose_later}

@@ -11,7 +11,8 @@ use Rattle.file_tree.specs.declared.traits.Tree.{Ghosts as Tree}
 use Rattle.merge_site.specs.Site.{SiteValue, IsSameSite}
 use Rattle.plan_law.specs.Plans.{Group, group_at}
 use Rattle.vdb_law.specs.Packages.{Installed}
-use Rattle.merge_group.specs.Lines.{AreLines, IsBeginning, Wrote, line_in}
+use Rattle.merge_group.specs.Lines.{AreLines, line_in}
+use Rattle.file_tree.specs.Output.{IsBeginning, Wrote}
 use Rattle.merge_group.specs.Runs.{IsOver, IsUnderWay}
 use Rattle.merge_group.specs.Through.{HasRoom}
 use Rattle.merge_group.specs.Turns.{numbers}

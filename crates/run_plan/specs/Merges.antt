@@ -9,7 +9,8 @@ use Rattle.file_tree.specs.declared.traits.Tree.{Ghosts as Tree}
 use Rattle.plan_law.specs.Plans.{Group}
 use Rattle.vdb_law.specs.Packages.{Installed}
 use Rattle.merge_group.specs.Causes.{IsOfGroup}
-use Rattle.merge_group.specs.Lines.{AreLines, AreTold, IsBeginning, Wrote}
+use Rattle.merge_group.specs.Lines.{AreLines, AreTold}
+use Rattle.file_tree.specs.Output.{IsBeginning, Wrote}
 use Rattle.merge_group.specs.Went.{HaveRun}
 use Rattle.merge_group.specs.declared.stop.Stop.TheVariants as merges
 use Rattle.merge_image.specs.Images.{IsBuilt, IsPastLimit}

@@ -12,7 +12,7 @@ use Rattle.merge_site.specs.declared.group.SiteGroup.{SiteGroup}
 use Rattle.plan_law.specs.Plans.{Group}
 use Rattle.vdb_law.specs.Packages.{Installed}
 use Rattle.merge_group.specs.Causes.{IsOfGroup}
-use Rattle.merge_group.specs.Lines.{IsBeginning}
+use Rattle.file_tree.specs.Output.{IsBeginning}
 use Rattle.merge_group.specs.Turns.{AreFirst, StopsBehind}
 use Rattle.merge_group.specs.Went.{Went, WentWith}
 use Rattle.merge_group.specs.declared.stop.Stop.{Stop}

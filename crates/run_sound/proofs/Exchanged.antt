@@ -21,7 +21,7 @@ use Rattle.pkg_state.specs.Package.{Package, line_of}
 use Rattle.vdb_paths.proofs.Packages.{OneSpelling}
 use Rattle.plan_law.specs.Accepted.{IsAccepted}
 use Rattle.plan_law.specs.Plans.{Group, Removal, WaitsForEarlier, after, group_at, no_group, removed_line}
-use Rattle.plan_law.proofs.Members.{passes_some, some_passes}
+use Rattle.basics.proofs.Members.{passes_some, some_passes}
 use Rattle.vdb_law.specs.Database.{IsDatabase, folder_name}
 use Rattle.vdb_law.specs.Packages.{Installed, id_of}
 use Rattle.vdb_law.specs.Step.{Leaves, Owns}

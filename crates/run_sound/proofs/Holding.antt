@@ -9,9 +9,9 @@ use Rattle.file_tree.specs.Disk.{Map}
 use Rattle.file_tree.specs.ObjectValue.{ObjectValue}
 use Rattle.merge_fit.specs.Images as images
 use Rattle.merge_journal.specs.Group.{applied}
-use Rattle.merge_journal.specs.Judging.{is_in}
+use Rattle.file_tree.specs.PathSets.{is_in}
 use Rattle.merge_record.specs.declared.record.OwnerKey.{OwnerKey}
-use Rattle.merge_journal.proofs.Form.{in_if_has}
+use Rattle.file_tree.proofs.PathSets.{in_if_has}
 use Rattle.merge_site.specs.Booking.{wish_for}
 use Rattle.owner_book.specs.Book as books
 use Rattle.owner_book.specs.Book.{has, is_wished, key_in}

@@ -19,7 +19,7 @@ use Rattle.plan_law.specs.Lives.{ComesBefore, Life, Moment, StandsBefore, commit
 use Rattle.plan_law.specs.Plans.{Group, Removal, WaitsForEarlier, after, clears, group_at, removed_line}
 use Rattle.plan_law.specs.Sound.{IsSound}
 use Rattle.plan_law.proofs.Closed.{HasCome, IsAlive}
-use Rattle.plan_law.proofs.Members.{passes_some, some_passes}
+use Rattle.basics.proofs.Members.{passes_some, some_passes}
 use Rattle.plan_law.proofs.There.{AreThere, all_done, there_at_first, there_behind}
 use Rattle.plan_law.proofs.Whole.{run_done, run_is_done}
 use Rattle.vdb_law.specs.Packages.{Installed, id_of}

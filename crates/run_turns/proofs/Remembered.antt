@@ -14,14 +14,14 @@ use Rattle.dep_atom.specs.Ids.{id_text}
 use Rattle.file_tree.specs.Disk.{Map}
 use Rattle.law_package.proofs.Places.{distinct_front}
 use Rattle.plan_law.specs.Plans.{Group, Removal}
-use Rattle.plan_law.proofs.Members.{passes_some}
+use Rattle.basics.proofs.Members.{passes_some}
 use Rattle.vdb_law.specs.Database.{folder_name}
 use Rattle.vdb_law.specs.Packages.{Installed}
 use Rattle.vdb_law.specs.Step.{Owns}
 use Rattle.merge_group.specs.Working.{all_in}
 use Rattle.merge_group.specs.declared.files.Files.{Files}
 use Rattle.merge_fit.specs.Images.{path_of}
-use Rattle.merge_journal.specs.Judging.{HasSame}
+use Rattle.file_tree.specs.PathSets.{HasSame}
 use Rattle.run_files.specs.Keys.{folder_of}
 use Rattle.run_files.specs.Removing.{AddsFree}
 use Rattle.run_files.specs.declared.newcomer.Newcomer.{Newcomer}

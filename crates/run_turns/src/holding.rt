@@ -11,10 +11,10 @@ use crate::held::Held;
 use file_tree::{Tree, TreeFault};
 use pkg_state::Pkg;
 use plan_lives::{Group, Removal};
-use run_opening::paths_of;
 use std::alloc::{AllocError, Global};
 use std::collections::BTreeSet;
 use vdb_record::Installed;
+use vdb_text::paths_of;
 
 /// What the installed packages own that some group of the plan removes. The tree is only read.
 pub fn held_paths<T: Tree>(

@@ -8,7 +8,7 @@ use Rattle.std.proofs.lemmas.Bool.{and_parts}
 use Rattle.file_tree.specs.Paths.{bad_char_at, bad_part_at, begins_badly, is_path}
 use Rattle.file_tree.proofs.Grammar.{form_of_path}
 use Rattle.file_link.specs.Targets.{is_target}
-use Rattle.merge_record.specs.Spelling.{IsPathText}
+use Rattle.file_tree.specs.Paths.{IsPathText}
 use Rattle.vdb_contents.specs.Cuts.{LacksArrow}
 
 lacks_tail : (x : ℕ) (p : List ℕ) → LacksArrow (x ∷ p) → LacksArrow p

@@ -15,7 +15,7 @@ use Rattle.file_tree.specs.Paths.{bad_char_at, bad_part_at, begins_badly, is_pat
 use Rattle.file_tree.proofs.Grammar.{form_of_path}
 use Rattle.std.specs.Str.{is_utf8}
 use Rattle.file_link.specs.Targets.{is_target, is_target_byte, most_bytes}
-use Rattle.merge_record.specs.Spelling.{IsPathText}
+use Rattle.file_tree.specs.Paths.{IsPathText}
 use Rattle.vdb_contents.specs.Contents.{AreLines, GoodHasNoFault, OneFault, ContentsAreReadBack, OneContents, IsContent, IsFaultyLine, IsLine, IsOwnable, Line, Repeats, before_lines, contents_text, dir, is_dropped, is_time, line_of, line_text, lines, obj, owned_by, owned_in, sym as link_line, path_of, unless_dropped, written_line}
 use Rattle.vdb_contents.specs.Cuts.{HasNoSpace}
 use Rattle.vdb_contents.specs.declared.owned.Content.{Content}

@@ -6,9 +6,9 @@ use Rattle.std.proofs.Math.Bool.{or_comm}
 use Rattle.std.proofs.lemmas.List.{append-nil, length-append, map-append, take_at}
 use Rattle.basics.specs.Members.{AreDistinct, Has}
 use Rattle.basics.proofs.Membership.{distinct-append, has-map_back}
-use Rattle.merge_journal.specs.Judging.{is_in}
-use Rattle.merge_journal.proofs.Form.{has_if_in, in_if_has}
-use Rattle.merge_journal.proofs.Free.{is_in-append}
+use Rattle.file_tree.specs.PathSets.{is_in}
+use Rattle.file_tree.proofs.PathSets.{has_if_in, in_if_has}
+use Rattle.file_tree.proofs.PathSets.{is_in-append}
 use Rattle.vdb_contents.specs.Contents.{FirstFault, IsLine, Line, TellsOwned, dir, is_dropped, line_text, lines, obj, owned_by, owned_in, path_of, sym as link_line, unless_dropped}
 use Rattle.vdb_contents.specs.Cuts.{IsFirstLine}
 use Rattle.vdb_contents.specs.Reading.{Adds, Bars, Goes, Reads, Stops, item_of}

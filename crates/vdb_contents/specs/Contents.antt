@@ -5,9 +5,9 @@ use Rattle.hex.specs.Hex.{encode_lower}
 use Rattle.basics.specs.Bytes.{is_digit}
 use Rattle.basics.specs.Members.{AreDistinct, Has}
 use Rattle.file_tree.specs.Paths.{is_below}
-use Rattle.merge_journal.specs.Judging.{meets_jobs}
-use Rattle.merge_record.specs.Spelling.{IsPathText}
-use Rattle.vdb_paths.specs.Files.{database_path}
+use Rattle.file_tree.specs.Fixed.{jobs}
+use Rattle.file_tree.specs.Paths.{IsPathText}
+use Rattle.file_tree.specs.Fixed.{database_path}
 use Rattle.file_link.specs.Targets.{is_target}
 use Rattle.file_digest.specs.Digests.{IsDigest}
 use Rattle.vdb_contents.specs.declared.fault.ContentsFault.{ContentsFault}
@@ -48,7 +48,7 @@ meets top path = bytes_eq path top || (is_below top path || is_below path top)
 
 -- a path that no package owns: in the database, in the journal, or above one of them
 abbrev pub is_dropped : List ℕ → Bool
-is_dropped path = meets database_path path || meets_jobs path
+is_dropped path = meets database_path path || meets jobs path
 
 abbrev pub unless_dropped : Owned → List Owned
 unless_dropped o = if is_dropped o.path then [] else o ∷ []

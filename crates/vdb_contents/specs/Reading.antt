@@ -1,7 +1,7 @@
 -- What reading CONTENTS line by line gives.
 use Rattle.std.specs.Prelude.{◌≡◌, ℕ, true, false, List, ◌++◌, Option, None, Some, map}
 use Rattle.basics.specs.Members.{Has}
-use Rattle.merge_journal.specs.Judging.{is_in}
+use Rattle.file_tree.specs.PathSets.{is_in}
 use Rattle.vdb_contents.specs.Contents.{IsLine, Line, dir, line_text, obj, owned_by, path_of, sym}
 use Rattle.vdb_contents.specs.declared.line.Item.{Item}
 use Rattle.vdb_contents.specs.declared.line.Item.TheVariants as items

@@ -1,13 +1,11 @@
 ghost use Rattle.std.specs.Prelude.{◌≡◌};
 ghost use Rattle.vdb_contents.specs.Contents.{is_dropped, meets};
 
-use file_tree::is_below;
-use merge_journal::JOBS;
-use vdb_paths::DATABASE;
+use file_tree::{DATABASE, JOBS, is_below};
 
 /// Whether the path is one that no package owns: in the database, in the journal, or above one of
 /// them.
-#[tactic(auto, unfolding(vdb_paths::specs::Files::database_path))]
+#[tactic(auto, unfolding(file_tree::specs::Fixed::database_path))]
 pub(crate) fn is_dropped(path: &[u8]) -> bool
     ensures { result ≡ is_dropped path.now }
 {

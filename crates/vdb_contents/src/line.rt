@@ -12,7 +12,7 @@ use crate::owned::{Content, Owned};
 use basics::{Text, is_digit};
 use file_digest::digest_from;
 use file_link::is_target;
-use merge_record::path_from;
+use file_tree::path_from;
 use std::alloc::{AllocError, Global};
 use std::str::from_utf8;
 

@@ -9,7 +9,7 @@ use crate::dropped::is_dropped;
 use crate::fault::ContentsFault;
 use crate::line::{Item, read_line};
 use crate::owned::Owned;
-use merge_journal::TakenPaths;
+use file_tree::TakenPaths;
 use std::alloc::{AllocError, Global};
 
 /// What the text of CONTENTS tells: the paths that the package owns, in the order of their lines.

@@ -4,7 +4,7 @@ use Rattle.std.specs.Prelude.{◌↔◌, if◌then◌else◌, unwrap_or}
 use Rattle.std.specs.List.{AllByRecursion}
 use Rattle.basics.specs.Members.{AreDistinct}
 use Rattle.basics.proofs.Each.{all-append, all_by_has}
-use Rattle.merge_record.specs.Spelling.{IsPathText}
+use Rattle.file_tree.specs.Paths.{IsPathText}
 use Rattle.pms_names.specs.Names.{IsName}
 use Rattle.pms_names.specs.declared.kind.Kind.TheVariants as kinds
 use Rattle.dep_atom.specs.Atoms.{IsAtomValue}

@@ -8,17 +8,19 @@ use Rattle.basics.proofs.Tests.{none_is_not_some, some-IsSome}
 use Rattle.file_tree.specs.Disk.{Map}
 use Rattle.file_tree.specs.Paths.{is_below}
 use Rattle.file_tree.specs.ObjectValue.{ObjectValue}
-use Rattle.merge_journal.specs.Judging.{is_in, meets_jobs}
-use Rattle.merge_journal.specs.Names.{jobs}
+use Rattle.merge_journal.specs.Judging.{meets_jobs}
+use Rattle.file_tree.specs.PathSets.{is_in}
+use Rattle.file_tree.specs.Fixed.{jobs}
 use Rattle.merge_record.specs.declared.record.Placement.{Placement}
-use Rattle.merge_journal.proofs.Form.{has_if_in, in_if_has}
+use Rattle.file_tree.proofs.PathSets.{has_if_in, in_if_has}
 use Rattle.vdb_contents.specs.Contents.{is_dropped, meets, path_of}
 use Rattle.vdb_law.specs.Database.{Holds, IsCounted, IsDatabase, IsKept, IsOf, folder}
 use Rattle.vdb_law.specs.Fields.{Folder, Says}
 use Rattle.dep_atom.specs.Ids.{IsId, id_text}
 use Rattle.dep_atom.specs.declared.package.PackageId.{PackageId}
 use Rattle.dep_atom.proofs.Joined.{ComesApart}
-use Rattle.vdb_paths.specs.Files.{database_path, package_file_path}
+use Rattle.vdb_paths.specs.Files.{package_file_path}
+use Rattle.file_tree.specs.Fixed.{database_path}
 use Rattle.vdb_paths.proofs.Packages.{OneSpelling, one_id}
 use Rattle.merge_journal.specs.Group.{Group, applied, with_group, with_groups, with_placements}
 use Rattle.vdb_contents.specs.declared.owned.Content.{Content}

@@ -11,7 +11,7 @@ use Rattle.basics.proofs.Membership.{has-append_cases, has-map_back}
 use Rattle.basics.proofs.Texts.{not_less}
 use Rattle.file_tree.specs.Paths.{is_below}
 use Rattle.file_tree.specs.ObjectValue.{ObjectValue}
-use Rattle.merge_journal.specs.Names.{jobs}
+use Rattle.file_tree.specs.Fixed.{jobs}
 use Rattle.pms_names.specs.Flags.{IsRising, byte_order}
 use Rattle.vdb_contents.specs.Contents.{TellsOwned, Line, is_dropped, obj, sym as link_line, dir, owned_by, owned_in, path_of, unless_dropped}
 use Rattle.vdb_law.specs.Database.{IsCounted, IsFolderName, folder_name, has_slash, is_skipped}
@@ -24,7 +24,8 @@ use Rattle.pms_names.specs.Bytes.{begins_badly, may_contain}
 use Rattle.pms_names.specs.Names.{IsName}
 use Rattle.pms_names.specs.declared.kind.Kind.TheVariants.{Category, Package}
 use Rattle.pms_grammar.specs.Grammar.{spelling}
-use Rattle.vdb_paths.specs.Files.{database_path, package_file_path}
+use Rattle.vdb_paths.specs.Files.{package_file_path}
+use Rattle.file_tree.specs.Fixed.{database_path}
 use Rattle.vdb_paths.proofs.Packages.{package_file_path-parts}
 use Rattle.vdb_contents.specs.declared.owned.Content.TheVariants.{File, Link}
 use Rattle.vdb_contents.specs.declared.owned.Owned.{Owned}

@@ -6,7 +6,7 @@ use Rattle.file_tree.specs.Paths.{is_below}
 use Rattle.pms_names.specs.Flags.{IsRising}
 use Rattle.dep_atom.specs.Ids.{IsId}
 use Rattle.merge_journal.specs.Group.{Group, applied, with_placements}
-use Rattle.vdb_paths.specs.Files.{database_path}
+use Rattle.file_tree.specs.Fixed.{database_path}
 use Rattle.vdb_law.specs.Database.{Holds, IsDatabase, IsKept, IsOf, folder, folder_name}
 use Rattle.vdb_law.specs.Fields.{Says}
 use Rattle.vdb_contents.specs.declared.owned.Owned.{Owned}

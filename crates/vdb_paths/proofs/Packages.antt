@@ -11,7 +11,8 @@ use Rattle.dep_atom.specs.declared.package.PackageId.{PackageId}
 use Rattle.dep_atom.proofs.Cuts.{cut_once}
 use Rattle.dep_atom.proofs.Joined.{ComesApart, id_same}
 use Rattle.dep_atom.proofs.Plain.{lacks-append, lacks_plain, plain_name, plain_version}
-use Rattle.vdb_paths.specs.Files.{database_path, package_file_path}
+use Rattle.vdb_paths.specs.Files.{package_file_path}
+use Rattle.file_tree.specs.Fixed.{database_path}
 
 category_lacks : (id : PackageId) → IsId id → Lacks 47 47 id.name.category
 category_lacks id is = lacks_plain 47 47 id.name.category refl refl (plain_name Category id.name.category is.category)

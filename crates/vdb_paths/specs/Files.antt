@@ -10,10 +10,6 @@ use Rattle.dep_atom.specs.declared.package.PackageId.{PackageId}
 use Rattle.pms_slot.specs.Slots.{slot_text}
 use Rattle.vdb_paths.specs.Contents.{IsContentsOf}
 
--- the folder of the installed packages
-unfoldable pub database_path : List ℕ
-database_path = codes "var/db/pkg"
-
 -- the package's own folder there
 abbrev pub package_folder : PackageId → List ℕ
 package_folder id = codes "var/db/pkg/" ++ id_text id

@@ -2,23 +2,21 @@ ghost use Rattle.std.specs.Prelude.{◌≡◌, ◌++◌, ◌∷◌, [], IfOk, st
 ghost use Rattle.dep_atom.specs.Ids.{IsId};
 ghost use Rattle.file_tree.specs.ObjectValue.{plain};
 ghost use Rattle.pms_slot.specs.Slots.{slot_text};
-ghost use Rattle.vdb_paths.specs.Files.{AreRecordOf, database_path, is_file_name, package_folder};
+ghost use Rattle.vdb_paths.specs.Files.{AreRecordOf, is_file_name, package_folder};
+ghost use Rattle.file_tree.specs.Fixed.{database_path};
 ghost use Rattle.vdb_paths.specs.Files.{record_file, record_files, package_file_path};
 
 use crate::written::text_of_contents;
 use dep_atom::{Facts, PackageId};
-use file_tree::{Entry, Kind, Object, Path};
+use file_tree::{DATABASE, Entry, Kind, Object, Path};
 use pms_slot::print_slots;
 use std::alloc::{AllocError, Global};
-
-/// The folder of the installed packages.
-pub const DATABASE: &str = "var/db/pkg";
 
 /// The text of EAPI.
 const EAPI_TEXT: &str = "8\n";
 
 /// The path of the folder of the installed packages.
-#[tactic(auto, unfolding(crate::specs::Files::database_path, file_tree::specs::Paths::is_path))]
+#[tactic(auto, unfolding(file_tree::specs::Fixed::database_path, file_tree::specs::Paths::is_path))]
 pub fn path_of_database(alloc: Global) -> Result<Path, AllocError>
     ensures { IfOk result (λ p. p ≡ database_path) }
 {

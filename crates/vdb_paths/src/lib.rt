@@ -19,7 +19,5 @@ mod files;
 mod laws;
 mod written;
 
-pub use files::{
-    DATABASE, id_is_one, path_of_database, path_of_package, path_of_record, record_files,
-};
+pub use files::{id_is_one, path_of_database, path_of_package, path_of_record, record_files};
 pub use laws::files_apart;

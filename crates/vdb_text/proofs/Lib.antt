@@ -2,6 +2,7 @@ mod Cuts
 mod Files
 mod Listed
 mod Owners
+mod PackagePaths
 mod Placed
 mod Record
 mod Steps

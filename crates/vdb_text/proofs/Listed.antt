@@ -7,7 +7,7 @@ use Rattle.basics.specs.Members.{Has}
 use Rattle.basics.proofs.Membership.{contains-from_has, has-append_cases, has-append_left, has-append_right, has-from_contains}
 use Rattle.file_tree.specs.Disk.{Lists, Map}
 use Rattle.pms_names.specs.Flags.{byte_order}
-use Rattle.vdb_paths.specs.Files.{database_path}
+use Rattle.file_tree.specs.Fixed.{database_path}
 use Rattle.vdb_law.specs.Database.{IsCounted}
 use Rattle.vdb_law.proofs.Places.{counted_below}
 use Rattle.vdb_overlap.proofs.Sets.{is_there, was_there}

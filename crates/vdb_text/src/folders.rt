@@ -10,10 +10,10 @@ ghost use Rattle.vdb_text.specs.Folders.{AreFolders, IsAmong, IsInFolder, folder
 ghost use Rattle.vdb_text.specs.Telling.{AreAtPaths};
 
 use basics::Text;
-use file_tree::{Path, Tree, TreeFault};
+use file_tree::{DATABASE, Path, Tree, TreeFault};
 use std::alloc::{AllocError, Global};
 use std::collections::BTreeSet;
-use vdb_paths::{DATABASE, path_of_database};
+use vdb_paths::path_of_database;
 
 /// The folders of the database in which something stands, as `category/name-version` in byte order.
 /// Those whose name or whose category's name begins with a hyphen or a full stop are left out.

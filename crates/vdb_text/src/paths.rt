@@ -3,9 +3,8 @@ ghost use Rattle.file_tree.specs.Paths.{is_path};
 ghost use Rattle.vdb_record.specs.Views.{field_of};
 ghost use Rattle.vdb_text.specs.Telling.{HasFilePaths, file_path, folder_path};
 
-use file_tree::Path;
+use file_tree::{DATABASE, Path};
 use std::alloc::{AllocError, Global};
-use vdb_paths::DATABASE;
 use vdb_record::RecordFile;
 
 /// The path of the folder of this text.

@@ -9,7 +9,7 @@ use Rattle.std.proofs.lemmas.List.Folds.{list_any-append}
 use Rattle.basics.specs.Members.{Has}
 use Rattle.basics.proofs.Membership.{has-map, has-map_back, has-slice_get}
 use Rattle.basics.proofs.Tests.{or-false}
-use Rattle.merge_journal.proofs.Form.{has_if_in, in_if_has}
+use Rattle.file_tree.proofs.PathSets.{has_if_in, in_if_has}
 use Rattle.pms_names.specs.Flags.{IsRising, has}
 use Rattle.pms_names.specs.Names.{IsName}
 use Rattle.pms_names.specs.declared.kind.Kind.TheVariants as kinds

@@ -1,7 +1,7 @@
 use Rattle.std.proofs.Common.{◌∙◌, ℕ, List, Ok, ap, map, subst}
 use Rattle.std.specs.Prelude.{string_bytes}
 use Rattle.file_tree.specs.Disk.{Rose}
-use Rattle.merge_group.specs.Lines.{Wrote}
+use Rattle.file_tree.specs.Output.{Wrote}
 use Rattle.emerge_run.specs.Output.{IsCut}
 use Rattle.emerge_run.proofs.Promises.{chooses_as, runs_empty, runs_merging, runs_showing, runs_unfound}
 use Rattle.emerge_run.proofs.run.attempt.Goals as goal

@@ -5,7 +5,8 @@ use Rattle.std.proofs.lemmas.Result.{err_from_is_err_and}
 use Rattle.std.proofs.lemmas.Iterator.Adapters.{YieldsList-from_vec}
 use Rattle.std.proofs.lemmas.Iterator.Consumers.{YieldsList-end, YieldsList-turn}
 use Rattle.merge_site.specs.declared.group.SiteGroup.{SiteGroup}
-use Rattle.merge_group.specs.Lines.{AreLines, Wrote, line_in}
+use Rattle.merge_group.specs.Lines.{AreLines, line_in}
+use Rattle.file_tree.specs.Output.{Wrote}
 use Rattle.merge_group.specs.Runs.{EndsAt, IsOver, IsUnderWay}
 use Rattle.merge_group.specs.declared.turn.Turn.{Turn}
 use Rattle.merge_group.proofs.Caused.{front_push}

@@ -1,6 +1,7 @@
 use Rattle.std.proofs.Common.{◌≡◌, ◌++◌, take}
 use Rattle.std.specs.List.{AllByRecursion, flat_map}
-use Rattle.merge_record.specs.Spelling.{IsPathText, path_text}
+use Rattle.merge_record.specs.Spelling.{path_text}
+use Rattle.file_tree.specs.Paths.{IsPathText}
 use Rattle.merge_record.proofs.writing.put_paths.Given as goal
 
 abbrev pub invariant-loop-path : goal.invariant-loop-path

@@ -1,6 +1,7 @@
 use Rattle.std.proofs.Common.{◌≡◌, ◌++◌, take, length}
 use Rattle.std.specs.List.{AllByRecursion, flat_map}
-use Rattle.merge_record.specs.Spelling.{IsPathText, placement_text}
+use Rattle.merge_record.specs.Spelling.{placement_text}
+use Rattle.file_tree.specs.Paths.{IsPathText}
 use Rattle.merge_record.proofs.writing.put_placements.Given as goal
 
 abbrev pub invariant-loop-placement : goal.invariant-loop-placement

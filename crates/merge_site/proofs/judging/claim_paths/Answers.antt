@@ -2,7 +2,7 @@ use Rattle.std.proofs.Common.{List, subst, sym}
 use Rattle.owner_book.specs.Book.{path_count}
 use Rattle.owner_book.specs.declared.limits.TheConstants.{MOST_PATHS}
 use Rattle.std.specs.Prelude.{◌≤◌, ◌≡◌, true, ℕ}
-use Rattle.merge_journal.specs.Judging.{is_in}
+use Rattle.file_tree.specs.PathSets.{is_in}
 use Rattle.owner_book.specs.declared.wish.Wish.{Wish}
 use Rattle.owner_book.specs.Rules.{is_dying}
 use Rattle.owner_book.specs.Whole.{AreFree, IsRefused}

@@ -2,7 +2,7 @@ use Rattle.std.proofs.Common.{◌≡◌, List, length, map, subst, sym}
 use Rattle.pkg_state.specs.Package.{Package}
 use Rattle.plan_law.specs.Accepted.{AreLeft}
 use Rattle.plan_law.specs.Lives as law
-use Rattle.plan_text.specs.Texts.{most_groups}
+use Rattle.basics.specs.Limits.{most_groups}
 use Rattle.plan_lives.specs.Index.{plan_of, start_of}
 use Rattle.plan_lives.specs.Lives.{life_of, moment_of}
 use Rattle.plan_lives.specs.declared.life.Moment.{Moment}

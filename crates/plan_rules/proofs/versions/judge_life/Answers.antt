@@ -2,7 +2,7 @@ use Rattle.std.proofs.Common.{◌≡◌, ◌∙◌, Option, None, Some, ap, leng
 use Rattle.dep_atom.specs.declared.package.PackageId.{PackageId}
 use Rattle.pkg_state.specs.Package.{Package}
 use Rattle.plan_law.specs.Lives as law
-use Rattle.plan_text.specs.Texts.{most_groups}
+use Rattle.basics.specs.Limits.{most_groups}
 use Rattle.plan_lives.specs.Index.{all_lives, name_key, plan_of, start_of}
 use Rattle.plan_lives.specs.Lives.{life_of, lives_of, moment_of}
 use Rattle.plan_lives.proofs.Steps.{within_more}

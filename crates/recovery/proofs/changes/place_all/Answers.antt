@@ -4,7 +4,8 @@ use Rattle.basics.proofs.Membership.{has-at}
 use Rattle.file_tree.specs.Disk.{Moves, Story, write}
 use Rattle.file_tree.specs.Paths.{is_below}
 use Rattle.merge_journal.specs.Judging.{path_of}
-use Rattle.merge_journal.specs.Names.{jobs, stage_path}
+use Rattle.merge_journal.specs.Names.{stage_path}
+use Rattle.file_tree.specs.Fixed.{jobs}
 use Rattle.merge_journal.specs.Names.Part.{Stage}
 use Rattle.merge_record.specs.declared.record.Placement.{Placement}
 use Rattle.recovery.specs.Stages.{StagePathsValue}

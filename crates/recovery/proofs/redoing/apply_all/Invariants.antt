@@ -1,7 +1,7 @@
 use Rattle.std.proofs.Common.{◌≡◌, ◌≤◌, List, ℕ, true, drop}
 use Rattle.std.specs.Prelude.{IsTrue}
 use Rattle.file_tree.specs.Paths.{is_below}
-use Rattle.merge_journal.specs.Names.{jobs}
+use Rattle.file_tree.specs.Fixed.{jobs}
 use Rattle.merge_core.specs.Recovery.{Recovers, redo}
 use Rattle.recovery.proofs.Applied.{redone_by}
 use Rattle.recovery.proofs.redoing.apply_all.Given as goal

@@ -1,6 +1,6 @@
 use Rattle.std.proofs.Common.{take}
 use Rattle.std.specs.List.{AllByRecursion}
-use Rattle.merge_record.specs.Spelling.{IsPathText}
+use Rattle.file_tree.specs.Paths.{IsPathText}
 use Rattle.run_files.proofs.named.paths_are_texts.Given as goal
 
 abbrev pub invariant-loop-entry : goal.invariant-loop-entry

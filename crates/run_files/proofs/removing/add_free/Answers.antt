@@ -2,7 +2,7 @@ use Rattle.std.proofs.Common.{◌≡◌, ◌∙◌, ◌++◌, ℕ, List, ap, len
 use Rattle.std.proofs.Math.Seq.{take-length}
 use Rattle.std.proofs.lemmas.Iterator.Adapters.{YieldsList-from_vec}
 use Rattle.std.proofs.lemmas.Iterator.Consumers.{YieldsList-end, YieldsList-turn}
-use Rattle.merge_journal.specs.Judging.{HasSame, is_in}
+use Rattle.file_tree.specs.PathSets.{HasSame, is_in}
 use Rattle.merge_group.proofs.Caused.{front_push}
 use Rattle.run_files.specs.Removing.{AddsFree}
 use Rattle.run_files.proofs.Taking.{append_more, free_added, free_from_not, still_taken, taken_from_not, taken_more, taken_passed}

@@ -1,5 +1,5 @@
 use Rattle.std.proofs.Common.{◌≡◌, ◌++◌, List, length, take, ℕ}
-use Rattle.merge_journal.specs.Judging.{HasSame}
+use Rattle.file_tree.specs.PathSets.{HasSame}
 use Rattle.run_files.specs.Removing.{AddsFree}
 use Rattle.run_files.proofs.removing.add_free.Given as goal
 

@@ -2,7 +2,8 @@ use Rattle.std.proofs.Common.{◌≡◌, ◌+◌, ◌≤◌, ℕ, length}
 use Rattle.std.specs.Prelude.{IsTrue}
 use Rattle.build_pool.specs.Pool.{SameIds, faults_of}
 use Rattle.file_tree.specs.Disk.{Rose}
-use Rattle.merge_group.specs.Lines.{AreLines, Wrote, line_in}
+use Rattle.merge_group.specs.Lines.{AreLines, line_in}
+use Rattle.file_tree.specs.Output.{Wrote}
 use Rattle.merge_group.specs.Through.{HasRoom}
 use Rattle.merge_site.specs.Site.{IsSameSite}
 use Rattle.merge_image.specs.Images.{IsBuilt, TellAlike}

@@ -4,7 +4,7 @@ use Rattle.std.specs.List.{AllByRecursion}
 use Rattle.basics.specs.Members.{Has}
 use Rattle.file_tree.specs.Disk.{Lists}
 use Rattle.file_tree.specs.Paths.{is_path}
-use Rattle.vdb_paths.specs.Files.{database_path}
+use Rattle.file_tree.specs.Fixed.{database_path}
 use Rattle.vdb_text.specs.Folders.{IsAmong}
 use Rattle.vdb_text.proofs.Listed.{folders_of_map}
 use Rattle.vdb_text.proofs.Placed.{are_at_paths}

@@ -4,7 +4,7 @@ use Rattle.std.specs.BTreeMap.{get_by_text}
 use Rattle.std.proofs.lemmas.List.{length_push}
 use Rattle.std.proofs.lemmas.Map.Text.{btree_map_updates_text}
 use Rattle.dep_atom.specs.Ids.{id_text}
-use Rattle.merge_journal.specs.Judging.{is_in}
+use Rattle.file_tree.specs.PathSets.{is_in}
 use Rattle.run_files.specs.declared.places.Places.{Places}
 use Rattle.run_files.proofs.PlaceLemmas.{found_again, found_new, is_found}
 use Rattle.run_files.proofs.places.Places.add.Goals as goal
