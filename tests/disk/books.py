@@ -4,7 +4,7 @@ import itertools
 from asked import rows_at_once
 from told import line
 
-PROGRAM = "groups_in_memory"
+PROGRAM = "ask_disk"
 
 # Package 2 goes with both groups. Group 9 claims two paths, and then group 10 what a row says.
 OWNED = {path: 1 for path in ["a-b", "a/c", "a.d", "d/e/f", "x/a/z", "x/b", "q"]} | {"old": 2}

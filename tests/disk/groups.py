@@ -3,7 +3,7 @@ import asked
 from crashes import Group, images, left_of, looks, recover_case
 from told import held, line, same
 
-PROGRAM = "groups_in_memory"
+PROGRAM = "ask_disk"
 LINES = ["line 0 done 0 +c/o-1", "line 1 done 1 +c/p-1"]
 RECORD = "var/db/pkg/c/p-1/SLOT"
 

@@ -21,14 +21,14 @@ def a_text_is_its_bytes():
         ("z", "\u00e4", "less"),
         ("", "", "equal"),
     ]
-    return rows_at_once("disk_vectors", [(line("text", one, other), want) for one, other, want in table])
+    return rows_at_once("ask_disk", [(line("text", one, other), want) for one, other, want in table])
 
 
 def digits_and_letters_of_ascii():
     table = [("/09:`az{A", ".dd..ll..")]
     every = (bytes(range(256)), "".join(kind_of(byte) for byte in range(256)))
     rows = [(line("bytes", hexed(given)), want) for given, want in [*table, every]]
-    return rows_at_once("disk_vectors", rows)
+    return rows_at_once("ask_disk", rows)
 
 
 def path_rows(table):
@@ -83,7 +83,7 @@ def paths_and_their_first_faults():
     parts = [it for size in range(5) for it in itertools.product(alphabet, repeat=size)]
     texts = [b"".join(it) for it in parts]
     table += [(text, verdict(text)) for text in texts]
-    return rows_at_once("disk_vectors", path_rows(table))
+    return rows_at_once("ask_disk", path_rows(table))
 
 
 def a_path_has_at_most_4095_bytes():
@@ -97,7 +97,7 @@ def a_path_has_at_most_4095_bytes():
         (deep[:-1] + "\n", "char 4094"),
         ("/" * 4096, "too long"),
     ]
-    return rows_at_once("disk_vectors", path_rows(table))
+    return rows_at_once("ask_disk", path_rows(table))
 
 
 def copies_and_nesting():
@@ -114,7 +114,7 @@ def copies_and_nesting():
     rows = [(line("above", one, other), want) for one, other, want in table]
     rows.append(("path\t" + hexed("usr/bin/p"), "path usr/bin/p"))
     rows.append((line("tree", "hold x 78 usr/bin/p", "read usr/bin/p"), "x 78 usr/bin/p"))
-    return rows_at_once("disk_vectors", rows)
+    return rows_at_once("ask_disk", rows)
 
 
 TESTS = [

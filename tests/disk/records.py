@@ -64,7 +64,7 @@ def the_example_both_ways():
         rows.append((line("encode", told(*record)), record_bytes(*record).hex()))
         rows.append((line("decode", record_bytes(*record).hex()), told(*record)))
         rows.append((line("recode", told(*record)), told(*record)))
-    return rows_at_once("disk_vectors", rows)
+    return rows_at_once("ask_disk", rows)
 
 
 def with_byte(at, byte):
@@ -88,7 +88,7 @@ def the_first_fault():
     cases += [(EXAMPLE[:size], "short") for size in range(len(EXAMPLE))]
     cases += [(EXAMPLE + bytes([byte]), "trailing") for byte in (0, 1, 255)]
     cases += [(with_byte(at, 0), f"tag {at}") for at in range(5)]
-    return rows_at_once("disk_vectors", [(line("decode", hexed(given)), want) for given, want in cases])
+    return rows_at_once("ask_disk", [(line("decode", hexed(given)), want) for given, want in cases])
 
 
 def the_names():
@@ -100,7 +100,7 @@ def the_names():
         ("folder", 0, 0, JOBS),
         ("gate", 0xFFFFFFFF, 0, f"{JOBS}/ffffffff/gate"),
     ]
-    return rows_at_once("disk_vectors", [(line("name", *given), want) for *given, want in table])
+    return rows_at_once("ask_disk", [(line("name", *given), want) for *given, want in table])
 
 
 def the_digest():
@@ -112,7 +112,7 @@ def the_digest():
         (b"message digest", "f96b697d7cb7938d525a2f31aaf161d0"),
     ]
     table += [(b"\x80" * size, hashlib.md5(b"\x80" * size).hexdigest()) for size in range(130)]
-    return rows_at_once("disk_vectors", [(line("digest", hexed(given)), want) for given, want in table])
+    return rows_at_once("ask_disk", [(line("digest", hexed(given)), want) for given, want in table])
 
 
 TESTS = [the_example_both_ways, the_first_fault, the_names, the_digest]

@@ -15,7 +15,7 @@ from crashes import (
 )
 from told import line, same
 
-PROGRAM = "groups_in_memory"
+PROGRAM = "ask_disk"
 
 OLD, NEW = ("-", b"old"), ("-", b"new")
 TREE = {"b": OLD, "c": OLD, "k": OLD}

@@ -14,12 +14,12 @@ def a_list_is_in_byte_order():
         (steps(["b-c", "b"], "list b"), ""),
         (steps(["b/c/d"], "list b"), "b/c/d"),
     ]
-    return rows_at_once("disk_vectors", rows)
+    return rows_at_once("ask_disk", rows)
 
 
 def the_first_repeated_path_is_named():
     rows = [(steps(["a", "c", "b", "c", "a"], "calls"), "twice c")]
-    return rows_at_once("disk_vectors", rows)
+    return rows_at_once("ask_disk", rows)
 
 
 def what_was_put_is_read_and_placed():
@@ -32,7 +32,7 @@ def what_was_put_is_read_and_placed():
         (steps([], "put l 61 k", "look k", "put x 62 k", "look k", "read k"),
          line("ok", "l", "ok", "x", "x 62 k")),
     ]
-    return rows_at_once("disk_vectors", rows)
+    return rows_at_once("ask_disk", rows)
 
 
 def calls_are_counted():
@@ -43,7 +43,7 @@ def calls_are_counted():
          line("-", held("a", "a"), "", "ok", "ok", "ok", 6, 1, 0)),
         (steps(["a"], "fail 1", "sync", "sync", "syncs", "calls"), line("failed", "ok", 1, 2)),
     ]
-    return rows_at_once("disk_vectors", rows)
+    return rows_at_once("ask_disk", rows)
 
 
 def the_calls_that_were_listed_fail_and_no_other():
@@ -54,7 +54,7 @@ def the_calls_that_were_listed_fail_and_no_other():
         rows.append((steps(["a"], "fail 2", "look a", call, "objects"),
                      line("-", "failed", held("a", "a"))))
         rows.append((steps(["a"], "fail 3", "look a", call), line("-", good)))
-    return rows_at_once("disk_vectors", rows)
+    return rows_at_once("ask_disk", rows)
 
 
 def an_image_follows_its_choice():
@@ -67,7 +67,7 @@ def an_image_follows_its_choice():
         (steps(["a"], "remove a", "put - 03 c", f"image {held('a', 'a')}{THEN}gone c", "objects"),
          line("ok", "ok", "ok", held("a", "a"))),
     ]
-    return rows_at_once("disk_vectors", rows)
+    return rows_at_once("ask_disk", rows)
 
 
 def an_image_touches_no_other_path():
@@ -78,7 +78,7 @@ def an_image_touches_no_other_path():
         (steps(["a"], "remove a", "image gone a", "image gone a"),
          line("ok", "ok", "not touched a")),
     ]
-    return rows_at_once("disk_vectors", rows)
+    return rows_at_once("ask_disk", rows)
 
 
 def a_sink_keeps_what_was_written_but_for_the_listed_write():
@@ -88,7 +88,7 @@ def a_sink_keeps_what_was_written_but_for_the_listed_write():
          line("ok", "failed", "ok", b"one three".hex(), 0)),
         (line("sink", *writes, "written"), line("ok", "ok", "ok", b"one two three".hex())),
     ]
-    return rows_at_once("disk_vectors", rows)
+    return rows_at_once("ask_disk", rows)
 
 
 TESTS = [

@@ -65,6 +65,26 @@ LATER = [
     ("z-1", ["+a-1;RDEPEND || ( )"], "unsatisfied 1 a-1 RDEPEND -"),
     ("z-1", ["+a-1;RDEPEND x? ( c/b )"], "ok"),
 ]
+# Groups without members, by the package's edition.
+EMPTY = [
+    ("z-1", ["+a-1;EAPI 5;RDEPEND || ( )"], "ok"),
+    ("z-1", ["+a-1;EAPI 6;IUSE x;RDEPEND || ( x? ( c/d ) )"], "ok"),
+    (
+        "z-1",
+        ["+a-1;EAPI 6;IUSE x;USE x;RDEPEND || ( x? ( c/d ) )"],
+        "unsatisfied 1 a-1 RDEPEND c/d",
+    ),
+    ("z-1", ["+a-1;EAPI 7;RDEPEND || ( )"], "unsatisfied 1 a-1 RDEPEND -"),
+    ("z-1", ["+a-1;EAPI 6;RDEPEND || ( ) || ( c/d )"], "unsatisfied 1 a-1 RDEPEND c/d"),
+    ("z-1", ["+a-1;EAPI 6;DEPEND || ( )"], "ok"),
+    ("z-1", ["+a-1;DEPEND || ( )"], "build 1 a-1 DEPEND -"),
+    ("z-1", ["+a-1;EAPI 6;PDEPEND || ( )"], "ok"),
+    ("z-1", ["+a-1;PDEPEND || ( )"], "final a-1 -"),
+    ("z-1;EAPI 6;RDEPEND || ( )", ["+a-1;RDEPEND c/z"], "ok"),
+    ("z-1;EAPI 8;RDEPEND || ( )", ["+a-1"], "opening lacks z-1 -"),
+    ("z-1", ["+a-1;EAPI 6;REQUIRED_USE ^^ ( )"], "ok"),
+    ("z-1", ["+a-1;EAPI 7;REQUIRED_USE ^^ ( )"], "flags a-1"),
+]
 PAIRS = [
     ("z-1", ["+a-1;RDEPEND c/b,+b-1;RDEPEND c/a"], "ok"),
     (
@@ -120,6 +140,10 @@ def what_an_addition_wants_later():
     return check_groups(LATER)
 
 
+def groups_without_members():
+    return check_groups(EMPTY)
+
+
 def two_that_need_each_other():
     return check_groups(PAIRS)
 
@@ -146,6 +170,7 @@ TESTS = [
     what_is_broken_to_begin_with,
     what_a_build_wants,
     what_an_addition_wants_later,
+    groups_without_members,
     two_that_need_each_other,
     many_groups_in_a_line,
     groups_wait_for_earlier_ones,

@@ -28,9 +28,9 @@ NO_PACKAGES = [
     ("+c/p-1/x", "name var/db/pkg/+c/p-1"),
     ("c/p-1/x/y", "missing var/db/pkg/c/p-1/CONTENTS"),
     ("c/p-1/CONTENTS=?", "missing var/db/pkg/c/p-1/EAPI"),
-    ("c/p-1/CONTENTS=?\nc/p-1/EAPI=7", "missing var/db/pkg/c/p-1/SLOT"),
+    ("c/p-1/CONTENTS=?\nc/p-1/EAPI=9", "missing var/db/pkg/c/p-1/SLOT"),
     ("c/p-1/CONTENTS=?\nc/p-1/EAPI@8\nc/p-1/SLOT=?", "missing var/db/pkg/c/p-1/EAPI"),
-    ("c/p-1/CONTENTS=?\nc/p-1/EAPI=7\nc/p-1/SLOT=0", "eapi var/db/pkg/c/p-1/EAPI"),
+    ("c/p-1/CONTENTS=?\nc/p-1/EAPI=9\nc/p-1/SLOT=0", "eapi var/db/pkg/c/p-1/EAPI"),
     ("c/p-1/CONTENTS=?\nc/p-1/EAPI=8\nc/p-1/SLOT=0", "text var/db/pkg/c/p-1/CONTENTS 1"),
     (
         "c/p-1/CONTENTS=?\nc/p-1/EAPI=8\nc/p-1/SLOT=0\nc/p-1/BDEPEND= (",
@@ -52,6 +52,18 @@ FAULTS = [
     ("RDEPEND=c/x~ c/y[", "dep var/db/pkg/c/p-1/RDEPEND 5"),
     ("BDEPEND=(c/x )", "dep var/db/pkg/c/p-1/BDEPEND 0"),
     ("REQUIRED_USE=a %", "dep var/db/pkg/c/p-1/REQUIRED_USE 2"),
+]
+
+# an edition, a file of what the package needs, and the first fault: of a class that the edition lacks
+# nothing is read
+EDITIONS = [
+    ("5", "BDEPEND=(", "c/p-1:0|"),
+    ("6", "BDEPEND=(", "c/p-1:0|"),
+    ("6", "IDEPEND=(", "c/p-1:0|"),
+    ("7", "IDEPEND=(", "c/p-1:0|"),
+    ("7", "BDEPEND=(", "dep var/db/pkg/c/p-1/BDEPEND 0"),
+    ("8", "IDEPEND=(", "dep var/db/pkg/c/p-1/IDEPEND 0"),
+    ("5", "DEPEND=(", "dep var/db/pkg/c/p-1/DEPEND 0"),
 ]
 
 # links that packages own, one each, and the answer
@@ -88,6 +100,32 @@ def of_folder(folder, contents=""):
     return f"{folder}/CONTENTS={contents}\n{folder}/EAPI=8\n{folder}/SLOT=0"
 
 
+def records_of_each_edition():
+    """A file of a class that the edition lacks says nothing, whatever it holds."""
+    table = {"BDEPEND": "78", "IDEPEND": "8", "RDEPEND": "5678"}
+    rows = []
+    for it in "5678":
+        record = f"c/p-1/CONTENTS=\nc/p-1/EAPI={it}\nc/p-1/SLOT=0"
+        rows.append((record, "c/p-1:0|"))
+        for name, editions in table.items():
+            told = f"dep var/db/pkg/c/p-1/{name} 0" if it in editions else "c/p-1:0|"
+            rows.append((f"{record}\nc/p-1/{name}=(", told))
+    return check(reads(rows))
+
+
+def texts_of_no_edition():
+    rows = []
+    for text in ("", "~", "4", "9", "08", "8 8", "8~7", "eight", "EAPI=8"):
+        record = f"c/p-1/CONTENTS=\nc/p-1/EAPI={text}\nc/p-1/SLOT=0"
+        rows.append((record, "eapi var/db/pkg/c/p-1/EAPI"))
+    return check(reads(rows))
+
+
+def packages_of_all_editions_side_by_side():
+    lines = [of_folder(f"c/p{it}-1").replace("EAPI=8", f"EAPI={it}") for it in "8675"]
+    return check(reads([("\n".join(lines), "c/p5-1:0|c/p6-1:0|c/p7-1:0|c/p8-1:0|")]))
+
+
 def packages_and_what_is_passed_over():
     return check(reads(PACKAGES))
 
@@ -103,6 +141,12 @@ def folders_that_are_no_packages():
 
 def the_first_fault_of_each_file():
     return check(reads([(f"{BASE}\nc/p-1/{file}", told) for file, told in FAULTS]))
+
+
+def what_an_edition_lacks_is_ignored():
+    base = "c/p-1/CONTENTS=\nc/p-1/SLOT=0"
+    rows = [(f"{base}\nc/p-1/EAPI={eapi}\nc/p-1/{file}", told) for eapi, file, told in EDITIONS]
+    return check(reads(rows))
 
 
 def owning(links):
@@ -126,9 +170,13 @@ def a_whole_record():
 
 TESTS = [
     packages_and_what_is_passed_over,
+    records_of_each_edition,
+    texts_of_no_edition,
+    packages_of_all_editions_side_by_side,
     packages_in_byte_order_of_their_folders,
     folders_that_are_no_packages,
     the_first_fault_of_each_file,
+    what_an_edition_lacks_is_ignored,
     paths_in_the_way_of_each_other,
     a_call_of_the_device_that_fails_is_told,
     a_whole_record,

@@ -2,7 +2,7 @@
 from cases import case, check
 from databases import objects
 
-# what is said of two packages in odd ways, and the files that are written of each
+# what is said of packages in odd ways, and the files that are written of each
 PACKAGES = [
     (
         """c/p-1/CONTENTS=dir /u
@@ -37,6 +37,17 @@ c/q-1.2-r3/REQUIRED_USE=u? ( !v )~
 c/q-1.2-r3/SLOT=2/3~
 c/q-1.2-r3/USE=t u~""",
     ),
+    (
+        """c/r-1/CONTENTS=
+c/r-1/EAPI= 6
+c/r-1/SLOT=0
+c/r-1/BDEPEND=c/x (
+c/r-1/RDEPEND=|| ( )""",
+        """c/r-1/CONTENTS=
+c/r-1/EAPI=6~
+c/r-1/RDEPEND=|| ( )~
+c/r-1/SLOT=0~""",
+    ),
 ]
 
 
@@ -44,12 +55,26 @@ def writes(rows):
     return [(case("written", objects(said)), objects(files)) for said, files in rows]
 
 
-def the_files_of_two_packages():
+def the_files_of_packages():
     return check(writes(PACKAGES))
 
 
 def what_is_written_is_written_alike_again():
     return check(writes([(files, files) for _, files in PACKAGES]))
+
+
+def what_each_edition_has():
+    """The files of a package with something to say in each class; those of a class that its edition
+    lacks aren't written."""
+    classes = {"BDEPEND": "78", "DEPEND": "5678", "IDEPEND": "8"}
+    rows = []
+    for it in "5678":
+        others = [f"c/p-1/EAPI={it}~", "c/p-1/RDEPEND=|| ( )~", "c/p-1/SLOT=0~"]
+        needs = [f"c/p-1/{name}=c/x~" for name in classes]
+        kept = [f"c/p-1/{name}=c/x~" for name, editions in classes.items() if it in editions]
+        said, written = (sorted([*some, *others, "c/p-1/CONTENTS="]) for some in (needs, kept))
+        rows.append(("\n".join(said), "\n".join(written)))
+    return check(writes(rows))
 
 
 def flags_of_its_own_alone():
@@ -58,4 +83,9 @@ def flags_of_its_own_alone():
     return check([(case("flags", objects(lines)), "u w ")])
 
 
-TESTS = [the_files_of_two_packages, what_is_written_is_written_alike_again, flags_of_its_own_alone]
+TESTS = [
+    the_files_of_packages,
+    what_is_written_is_written_alike_again,
+    what_each_edition_has,
+    flags_of_its_own_alone,
+]

@@ -148,6 +148,20 @@ def variants_of_candidates():
     return check([row(tree, *none), row(tree, *none, flips=1), row(tree, *two, flips=2)])
 
 
+def groups_without_members_by_edition():
+    # In REQUIRED_USE, by the EAPI of the candidate, whatever a file `eapi` of the profile says.
+    rows = []
+    for edition in "5678":
+        for text in ("|| ( )", "^^ ( )", "^^ ( a? ( b ) )"):
+            candidate = package("c/p-1", EAPI=edition, IUSE="a b", REQUIRED_USE=text)
+            wanted = ["required_use c/p-1"]
+            if edition in "56":
+                wanted = ["offer c/p-1 amd64", "variant amd64"]
+            for declared in ("5\n", "8\n", "x\n"):
+                rows.append(row({"p/top/eapi": declared, **candidate}, "implicit amd64", *wanted))
+    return check(rows)
+
+
 def configurations_without_offers():
     conf = "etc/portage/make.conf"
     return check([
@@ -167,5 +181,6 @@ TESTS = [
     quotes_of_the_users_file,
     implicit_flags,
     variants_of_candidates,
+    groups_without_members_by_edition,
     configurations_without_offers,
 ]

@@ -24,7 +24,7 @@ def entries_without_an_ebuild():
         {ebuild_path("d/p-1"): EBUILD},
     ]
     rows = [row({ENTRY: entry(EBUILD), **tree}, "no_ebuild c/p-1") for tree in table]
-    faulty = [entry(EBUILD, EAPI="7"), entry("x"), "%", entry(EBUILD, KEYWORDS="x86")]
+    faulty = [entry(EBUILD, EAPI="4"), entry("x"), "%", entry(EBUILD, KEYWORDS="x86")]
     return check(rows + [row({ENTRY: text}, "no_ebuild c/p-1") for text in faulty])
 
 
@@ -36,7 +36,7 @@ def entries_at_fault():
         (whole, "visible"),
         (whole[:-1], "visible"),
         (whole + "X=(\n", "visible"),
-        (entry(EBUILD, EAPI="7"), "eapi"),
+        (entry(EBUILD, EAPI="4"), "eapi"),
         (entry(EBUILD, EAPI="08"), "eapi"),
         (entry(EBUILD, EAPI=""), "eapi"),
         (entry(EBUILD[:-1]), "stale"),
@@ -58,16 +58,28 @@ def entries_at_fault():
     return check([judged(*it) for it in table])
 
 
+def entries_of_each_edition():
+    """A key of a class that the edition lacks may have any value (PMS 8.1)."""
+    table = []
+    for edition in "5678":
+        table.append((entry(EBUILD, EAPI=edition), "visible"))
+        for key, editions in {"BDEPEND": "78", "IDEPEND": "8", "DEPEND": "5678"}.items():
+            told = "bad_entry" if edition in editions else "visible"
+            table.append((entry(EBUILD, EAPI=edition, **{key: "( c/q"}), told))
+    odd = ["4", "9", "8 ", " 8", "eight"]
+    return check([judged(*it) for it in table + [(entry(EBUILD, EAPI=it), "eapi") for it in odd]])
+
+
 def the_first_of_two_reasons():
     # Lines without form, EAPI, fields, the ebuild, keywords, masks.
     masked = {ENTRY: entry("x"), SOURCE: EBUILD, "p/top/package.mask": "c/p"}
     table = [
-        (entry(EBUILD, EAPI="7") + "X\n", "bad_entry"),
-        (entry(EBUILD, EAPI="7", SLOT=None), "eapi"),
-        (entry("x", EAPI="7"), "eapi"),
+        (entry(EBUILD, EAPI="4") + "X\n", "bad_entry"),
+        (entry(EBUILD, EAPI="4", SLOT=None), "eapi"),
+        (entry("x", EAPI="4"), "eapi"),
         (entry("x", SLOT=""), "bad_entry"),
         (entry("x", KEYWORDS="x86"), "stale"),
-        (entry(EBUILD, EAPI="7", KEYWORDS="x86"), "eapi"),
+        (entry(EBUILD, EAPI="4", KEYWORDS="x86"), "eapi"),
         (entry(EBUILD, SLOT="", KEYWORDS="x86"), "bad_entry"),
     ]
     return check([judged(*it) for it in table] + [row(masked, "stale c/p-1")])
@@ -136,7 +148,7 @@ def visible_and_hidden_apart():
     tree = {
         **packages("c/p-2", "c/p-1", "a/z-1"),
         **package("c/p-3", KEYWORDS="x86"),
-        **package("b/q-1", EAPI="7"),
+        **package("b/q-1", EAPI="4"),
         entry_path("c/q-1"): "%",
         "p/top/package.mask": "=c/p-2",
     }
@@ -165,6 +177,7 @@ def calls_that_fail():
 TESTS = [
     entries_without_an_ebuild,
     entries_at_fault,
+    entries_of_each_edition,
     the_first_of_two_reasons,
     links_and_executable_files,
     what_else_stands_in_the_cache,

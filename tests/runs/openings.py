@@ -77,7 +77,7 @@ BROKEN = (
     (("c/w-1/EAPI 8", "c/w-1/SLOT 0"), "CONTENTS"),
     (("c/w-1/CONTENTS", "c/w-1/SLOT 0"), "EAPI"),
     (("c/w-1/CONTENTS", "c/w-1/EAPI 8"), "SLOT"),
-    (("c/w-1/CONTENTS", "c/w-1/EAPI 7", "c/w-1/SLOT 0"), "EAPI"),
+    (("c/w-1/CONTENTS", "c/w-1/EAPI 9", "c/w-1/SLOT 0"), "EAPI"),
     (("c/w-1/CONTENTS", "c/w-1/EAPI 8", "c/w-1/SLOT 0/"), "SLOT"),
     (("c/w-1/CONTENTS obj /x 0 0", "c/w-1/EAPI 8", "c/w-1/SLOT 0"), "CONTENTS"),
     (("c/w-1/CONTENTS sym /x y 0", "c/w-1/EAPI 8", "c/w-1/SLOT 0"), "CONTENTS"),

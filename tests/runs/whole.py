@@ -112,7 +112,7 @@ def candidates_that_may_not_come():
     masked = texts({"etc/portage/package.mask": "c/p\n"})
     rows = [
         (tree_of({path: text_file("\x01")}), told.format("NoEbuild")),
-        judged("Eapi", EAPI="7", KEYWORDS="x86"),
+        judged("Eapi", EAPI="4", KEYWORDS="x86"),
         (tree_of(offered("c/p-1"), texts({ebuild_path("c/p-1"): ""})), told.format("Stale")),
         (tree_of(offered("c/p-1"), texts({path: entry("", SLOT="/")})), told.format("BadEntry")),
         judged("Keyword", KEYWORDS="x86 ~amd64"),

@@ -30,6 +30,25 @@ _md5_={ABC}
 """
 
 
+# The keys of the classes of dependencies, and the editions whose packages have that class (PMS 8.1).
+CLASSES = {
+    "RDEPEND": "5678",
+    "PDEPEND": "5678",
+    "DEPEND": "5678",
+    "BDEPEND": "78",
+    "IDEPEND": "8",
+}
+
+
+def in_form(edition):
+    return f"in form of {edition}"
+
+
+def entry_of(edition, more=""):
+    """The smallest entry of an edition, with these lines behind it."""
+    return f"EAPI={edition}\nSLOT=0\n_md5_={ABC}\n{more}"
+
+
 def entries_of_an_ebuild():
     # With every key, with none but those that must be there, of another ebuild, and faults of
     # lines, of EAPI before other fields, and of a field. What is told of an entry: its slots and
@@ -52,7 +71,7 @@ def entries_of_an_ebuild():
         (f"EAPI=8\nSLOT=0\n_md5_={STALE}\n", f"stale: {STALE}, not {ABC}"),
         ("EAPI", "line 1 has no equals sign"),
         ("SLOT=0\nSLOT=0\n", "SLOT twice"),
-        ("EAPI=7\nIUSE=--a\n", "edition 7"),
+        ("EAPI=4\nIUSE=--a\n", "edition 4"),
         (f"EAPI=8\nSLOT=0\n_md5_={ABC[:-1]}\n", "field _md5_"),
         (b"EAPI=8\n\xff=\n", "an entry that is not UTF-8"),
     ]
@@ -63,9 +82,9 @@ def fields_of_entries():
     # Every field, none but those that must be there, an edition that goes before what is absent,
     # the absent ones in their order, and the first line that isn't in form.
     table = [
-        (f"DEPEND=c/p\nEAPI=8\nIUSE=+a -b\nREQUIRED_USE=a\nSLOT=0/2\n_md5_={ABC}", "in form"),
-        (f"SLOT=0\n_md5_={ABC}\nEAPI=8\nX=(\n", "in form"),
-        ("EAPI=7\n", "edition 7"),
+        (f"DEPEND=c/p\nEAPI=8\nIUSE=+a -b\nREQUIRED_USE=a\nSLOT=0/2\n_md5_={ABC}", in_form(8)),
+        (f"SLOT=0\n_md5_={ABC}\nEAPI=8\nX=(\n", in_form(8)),
+        ("EAPI=4\n", "edition 4"),
         ("EAPI=8 \nSLOT=(\n", "edition 8 "),
         ("SLOT=0\n", "field EAPI"),
         ("EAPI=8\n_md5_=x\n", "field SLOT"),
@@ -74,6 +93,48 @@ def fields_of_entries():
         (f"EAPI=8\nRDEPEND=( c/p\nSLOT=\n_md5_={ABC}\n", "field RDEPEND"),
     ]
     return rows("fields", table)
+
+
+def editions():
+    """The smallest entry of each, and texts of EAPI that are those of none."""
+    read = [(entry_of(it), in_form(it)) for it in "5678"]
+    odd = ["", "4", "9", "10", "08", "8 ", " 8", "8\r", "8\t", "7 8", "eight", "EAPI=8", "+8", "8.0"]
+    return rows("fields", read + [(entry_of(it), f"edition {it}") for it in odd])
+
+
+def classes_by_edition():
+    """A key of a class that the edition lacks may have any value, and gives nothing."""
+    table = []
+    for key, editions in CLASSES.items():
+        for it in "5678":
+            told = f"field {key}" if it in editions else in_form(it)
+            table += [(entry_of(it, f"{key}={text}\n"), told) for text in ("(", "c/x )", "c/x-1")]
+            table.append((entry_of(it, f"{key}=c/x\n"), in_form(it)))
+    return rows("fields", table)
+
+
+def needs_by_edition():
+    lines = "".join(f"{key}=c/{key.lower()}\n" for key in CLASSES)
+    table = []
+    for it in "5678":
+        needs = [f"c/{key.lower()}" if it in CLASSES[key] else "" for key in CLASSES]
+        table.append((entry_of(it, lines), "; ".join(["0/0 ", "", "", *needs, ""])))
+    return rows("entry", table)
+
+
+def required_use_in_each_edition():
+    table = [(entry_of(it, "REQUIRED_USE=^^ ( )\n"), in_form(it)) for it in "5678"]
+    faults = [(entry_of(it, "REQUIRED_USE=^^ (\n"), "field REQUIRED_USE") for it in "5678"]
+    return rows("fields", table + faults)
+
+
+def an_entry_that_is_cut():
+    """Of each edition, at every byte."""
+    equals = ["line {} has no equals sign".format(at) for at in (1, 2, 3)]
+    told = ["field EAPI"] + [equals[0]] * 4 + ["edition "] + ["field SLOT"] * 2
+    told += [equals[1]] * 4 + ["field _md5_"] * 3 + [equals[2]] * 5 + ["field _md5_"] * 32
+    cuts = [(entry_of(it)[:end], what) for it in "5678" for end, what in enumerate(told)]
+    return rows("fields", cuts + [(entry_of(it)[:-1], in_form(it)) for it in "5678"])
 
 
 def pairs_of_entries():
@@ -105,12 +166,17 @@ def texts_of_64_kib():
     needs = " ".join(["c/d"] * 16_384)
     entry = f"EAPI=8\nRDEPEND={needs}\nSLOT=0\n_md5_={ABC}\n"
     said = "; ".join(["0/0 ", "", "", needs] + [""] * 5)
-    return pairs + rows("fields", [(entry, "in form")]) + rows("entry", [(entry, said)])
+    return pairs + rows("fields", [(entry, in_form(8))]) + rows("entry", [(entry, said)])
 
 
 TESTS = [
     entries_of_an_ebuild,
     fields_of_entries,
+    editions,
+    classes_by_edition,
+    needs_by_edition,
+    required_use_in_each_edition,
+    an_entry_that_is_cut,
     pairs_of_entries,
     entries_that_are_not_utf8,
     texts_of_64_kib,

@@ -9,6 +9,7 @@ def lines_that_count():
         ("a\n\nb", "1:a|3:b|"),
         ("# x\n # x\na#\n", "2: # x|3:a#|"),
         ("\r\n=c/p-1 \r\n", "2:=c/p-1 \r|"),
+        ("\t \r\n\n", ""),
         ("\t\f \r\n\n", "1:\t\f \r|"),
         ("", ""),
     ]

@@ -6,8 +6,17 @@ LEAF = "c/d"
 
 
 def empty_any_of():
-    texts = ["|| ( a? ( c/d ) )", "|| ( )"]
-    return rows("truth", [("", there, text, "no") for text in texts for there in ["", "d-1"]])
+    # Whether it holds where one without members does; where such a one doesn't, none of them holds.
+    table = [
+        ("|| ( a? ( c/d ) )", "yes"),
+        ("|| ( )", "yes"),
+        ("|| ( || ( ) )", "yes"),
+        ("|| ( a? ( c/d ) c/e )", "no"),
+        ("|| ( ( c/e ) )", "no"),
+    ]
+    cases = [(there, text, holds) for text, holds in table for there in ["", "d-1"]]
+    fails = rows("truth", [("", there, text, "no") for there, text, _ in cases])
+    return fails + rows("truth_if_empty_holds", [("", *case) for case in cases])
 
 
 def truth_with_one_package():

@@ -45,17 +45,31 @@ def faulty_lines():
 
 
 def odd_but_right_values():
-    eapi = rows("eapi", [("\t8\r\n\n", "yes")])
     slots = rows("slots", [(" 0/2 \n", "0 2"), ("3", "3 3")])
     flags = rows("use", [("\n", ""), (" ssl  x\nssl ", "ssl x ")])
-    return eapi + slots + flags + rows("known", [("+ssl -x x y\n", "ssl x y ")])
+    return slots + flags + rows("known", [("+ssl -x x y\n", "ssl x y ")])
 
 
 def faulty_values():
-    eapi = rows("eapi", [("", "no"), ("8 8", "no")])
     slots = rows("slots", [(text, "none") for text in ["\n", "0 1", "0/1/2"]])
     flags = rows("use", [("x +y z", bad_word(2))]) + rows("known", [(" x +-y", bad_word(3))])
-    return eapi + slots + flags
+    return slots + flags
+
+
+def editions():
+    """Each that is read, with blanks around it."""
+    table = [("{}", "5678"), ("{}\n", "5678"), ("{}\r\n", "5678"), ("\t {} \r\n\n", "5678")]
+    return rows("eapi", [(text.format(it), it) for text, all_of in table for it in all_of])
+
+
+def texts_of_no_edition():
+    """No word, two words, blanks that are none, words of other editions, and others."""
+    texts = [
+        "", "\n", "\r\n", " \t", "8 8", "5 6", "8\n8\n", "8\r\n7\r\n", "\f8", "8\v", "8\0",
+        "0", "1", "2", "3", "4", "9", "10", "55", "08", "007", "+8", "-8", "8.0", "8-r0", "\"8\"",
+        "EAPI=8", "eight", "\u0668", "8\u00a0",
+    ]
+    return rows("eapi", [(text, "none") for text in texts])
 
 
 def bad_word(at):
@@ -67,7 +81,7 @@ def texts_of_64_kib():
     text = "".join(f"obj /{name} {NOTHING} 0\n" for name in names)
     owned = "".join(f"{name}={NOTHING}|" for name in names)
     blanks = " " * 65_536
-    single = rows("eapi", [(f"{blanks}8", "yes")]) + rows("slots", [(f"{blanks}0", "0 0")])
+    single = rows("eapi", [(f"{blanks}8", "8")]) + rows("slots", [(f"{blanks}0", "0 0")])
     flags = [(" ".join(RISING), "".join(f"{flag} " for flag in RISING))]
     return rows("contents", [(text, owned)]) + single + rows("use", flags) + rows("known", flags)
 
@@ -77,5 +91,7 @@ TESTS = [
     faulty_lines,
     odd_but_right_values,
     faulty_values,
+    editions,
+    texts_of_no_edition,
     texts_of_64_kib,
 ]

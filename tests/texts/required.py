@@ -25,6 +25,20 @@ def truth_over_flags():
     return rows("broken", alone + [("a b", text, broken) for text, _, broken in table])
 
 
+def groups_without_members_that_hold():
+    table = [
+        ("|| ( )", "yes"),
+        ("^^ ( )", "yes"),
+        ("?? ( )", "yes"),
+        ("|| ( b? ( a ) )", "yes"),
+        ("^^ ( b? ( a ) )", "yes"),
+        ("|| ( b? ( a ) c )", "no 0"),
+        ("^^ ( a ( a ) )", "no 0"),
+        ("a || ( b )", "no 1"),
+    ]
+    return rows("broken_if_empty_holds", [("a", text, broken) for text, broken in table])
+
+
 def printed_with_single_spaces():
     text = " ^^ (\ta\n!b ) !c? ( ?? ( d ) ( e ) || ( f ) )"
     return rows("required", [(text, "^^ ( a !b ) !c? ( ?? ( d ) ( e ) || ( f ) )")])
@@ -65,6 +79,7 @@ def a_text_of_64_kilobytes():
 
 TESTS = [
     truth_over_flags,
+    groups_without_members_that_hold,
     printed_with_single_spaces,
     first_faults,
     cut_at_every_byte,

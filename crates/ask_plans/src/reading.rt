@@ -2,19 +2,17 @@
 //!
 //! A package is `NAME-VERSION:SLOT/SUBSLOT` of the category `c`, and behind semicolons its flags,
 //! those of them that are on, what it depends on and what it asks of its flags, as `IUSE x y`,
-//! `USE x`, `RDEPEND c/p` and `REQUIRED_USE x`. Slots that aren't written are `0`.
+//! `USE x`, `RDEPEND c/p` and `REQUIRED_USE x`. Slots that aren't written are `0`, and the edition
+//! is 8 where no other is, as `EAPI 6`.
 
 use dep_atom::{Facts, PackageId};
-use dep_tree::{DepTree, TreeTextFault};
+use dep_tree::DepTree;
 use pkg_state::{Eapi, Pkg};
 use pms_names::{Flag, Flags, SlotName};
-use required_use::{RequiredFault, RequiredUse};
+use required_use::RequiredUse;
 use std::alloc::Global;
 
 const CLASSES: [&str; 5] = ["RDEPEND", "PDEPEND", "DEPEND", "BDEPEND", "IDEPEND"];
-
-/// The EAPI that packages are of.
-const EAPI: Eapi = Eapi::Eight;
 
 /// What stands behind the word, in one of the parts that semicolons separate.
 fn part<'a>(text: &'a str, word: &str) -> &'a str {
@@ -64,51 +62,50 @@ fn facts(alloc: Global, text: &str) -> Option<Facts> {
     facts_with(alloc, text, PackageId::parse(alloc, "c", pf).ok()?)
 }
 
-/// What the text says that the package depends on in this class.
-fn read_tree(alloc: Global, text: &str, class: &str) -> Result<DepTree, TreeTextFault> {
-    DepTree::parse(alloc, part(text, class))
-}
-
-/// What the text says that the package asks of its flags.
-fn read_required(alloc: Global, text: &str) -> Result<RequiredUse, RequiredFault> {
-    RequiredUse::parse(alloc, part(text, "REQUIRED_USE"))
+/// The edition, if it is one that is read.
+fn edition(text: &str) -> Option<Eapi> {
+    match part(text, "EAPI") {
+        "" => Some(Eapi::Eight),
+        text => Eapi::from_text(text),
+    }
 }
 
 /// Whether what the package depends on and asks of its flags is in form.
 fn has_trees(alloc: Global, text: &str) -> bool {
     for class in CLASSES {
-        if read_tree(alloc, text, class).is_err() {
+        if DepTree::parse(alloc, part(text, class), false).is_err() {
             return false;
         }
     }
-    read_required(alloc, text).is_ok()
+    RequiredUse::parse(alloc, part(text, "REQUIRED_USE"), false).is_ok()
 }
 
 /// What the package depends on in this class; nothing where that isn't in form.
-fn tree(alloc: Global, text: &str, class: &str) -> DepTree {
-    match read_tree(alloc, text, class) {
+fn tree(alloc: Global, text: &str, class: &str, empty_holds: bool) -> DepTree {
+    match DepTree::parse(alloc, part(text, class), empty_holds) {
         Ok(tree) => tree,
-        Err(_) => DepTree::new(alloc),
+        Err(_) => DepTree::new(alloc, empty_holds),
     }
 }
 
-fn required(alloc: Global, text: &str) -> RequiredUse {
-    match read_required(alloc, text) {
+fn required(alloc: Global, text: &str, empty_holds: bool) -> RequiredUse {
+    match RequiredUse::parse(alloc, part(text, "REQUIRED_USE"), empty_holds) {
         Ok(required) => required,
-        Err(_) => RequiredUse::new(alloc),
+        Err(_) => RequiredUse::new(alloc, empty_holds),
     }
 }
 
-fn package_with(alloc: Global, facts: Facts, text: &str) -> Pkg {
+fn package_with(alloc: Global, facts: Facts, eapi: Eapi, text: &str) -> Pkg {
+    let empty_holds = eapi.empty_holds();
     Pkg {
         facts,
-        eapi: EAPI,
-        rdepend: tree(alloc, text, "RDEPEND"),
-        pdepend: tree(alloc, text, "PDEPEND"),
-        depend: tree(alloc, text, "DEPEND"),
-        bdepend: tree(alloc, text, "BDEPEND"),
-        idepend: tree(alloc, text, "IDEPEND"),
-        required_use: required(alloc, text),
+        eapi,
+        rdepend: tree(alloc, text, "RDEPEND", empty_holds),
+        pdepend: tree(alloc, text, "PDEPEND", empty_holds),
+        depend: tree(alloc, text, "DEPEND", empty_holds),
+        bdepend: tree(alloc, text, "BDEPEND", empty_holds),
+        idepend: tree(alloc, text, "IDEPEND", empty_holds),
+        required_use: required(alloc, text, empty_holds),
     }
 }
 
@@ -117,8 +114,9 @@ pub(crate) fn package(alloc: Global, text: &str) -> Option<Pkg> {
     if !has_trees(alloc, text) {
         return None;
     }
+    let eapi = edition(text)?;
     let facts = facts(alloc, text)?;
-    Some(package_with(alloc, facts, text))
+    Some(package_with(alloc, facts, eapi, text))
 }
 
 /// The packages of a text, a comma between two.

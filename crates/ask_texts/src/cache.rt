@@ -37,7 +37,8 @@ fn pair_fault(alloc: Global, fault: PairFault) -> Result<String, AllocError> {
     }
 }
 
-/// The first field that is not in form, or the text of EAPI where that is another one.
+/// The edition of an entry that is in form; else the first field that isn't, or the text of EAPI where
+/// that is none which is read.
 pub(crate) fn fields(alloc: Global, bytes: &[u8]) -> Result<String, AllocError> {
     match pairs(alloc, bytes) {
         Ok(pairs) => check(alloc, pairs.as_slice()),
@@ -47,7 +48,7 @@ pub(crate) fn fields(alloc: Global, bytes: &[u8]) -> Result<String, AllocError> 
 
 fn check(alloc: Global, pairs: &[Pair]) -> Result<String, AllocError> {
     match check_fields(alloc, pairs) {
-        Ok(()) => String::from_str(alloc, "in form"),
+        Ok(edition) => format!(in alloc; "in form of {}", edition.text()),
         Err(FieldFault::Eapi { text }) => format!(in alloc; "edition {}", text.as_str()),
         Err(FieldFault::Field { key }) => format!(in alloc; "field {}", key.as_str()),
         Err(FieldFault::Memory) => Err(AllocError),

@@ -39,13 +39,17 @@ fn name_of(shape: Shape) -> &'static str {
 }
 
 /// The expressions of a text of REQUIRED_USE.
-pub(crate) fn read(alloc: Global, text: &str) -> Result<RequiredUse, RequiredFault> {
-    RequiredUse::parse(alloc, text)
+pub(crate) fn read(
+    alloc: Global,
+    text: &str,
+    empty_holds: bool,
+) -> Result<RequiredUse, RequiredFault> {
+    RequiredUse::parse(alloc, text, empty_holds)
 }
 
 /// A text of REQUIRED_USE as it is printed.
 pub(crate) fn required(alloc: Global, text: &str) -> Result<String, AllocError> {
-    match read(alloc, text) {
+    match read(alloc, text, false) {
         Ok(required) => required.print(alloc),
         Err(fault) => fault.to_string(alloc),
     }
@@ -53,9 +57,9 @@ pub(crate) fn required(alloc: Global, text: &str) -> Result<String, AllocError> 
 
 /// Whether the text of the last field holds with the flags of the first one, and the first
 /// expression that is broken.
-pub(crate) fn broken(alloc: Global, fields: &str) -> Result<String, AllocError> {
+pub(crate) fn broken(alloc: Global, fields: &str, empty_holds: bool) -> Result<String, AllocError> {
     let (flags, text) = cut(fields);
-    match read(alloc, text) {
+    match read(alloc, text, empty_holds) {
         Ok(required) => broken_with(alloc, &required, flags),
         Err(fault) => fault.to_string(alloc),
     }

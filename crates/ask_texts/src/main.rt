@@ -109,10 +109,12 @@ fn of_groups(alloc: Global, query: &str, text: &str) -> Result<String, AllocErro
         "words" => groups::places(alloc, text),
         "shape" => groups::shape(alloc, text),
         "depend" => trees::depend(alloc, text),
-        "truth" => trees::truth(alloc, text),
+        "truth" => trees::truth(alloc, text, false),
+        "truth_if_empty_holds" => trees::truth(alloc, text, true),
         "leaves" => trees::leaves(alloc, text),
         "required" => groups::required(alloc, text),
-        "broken" => groups::broken(alloc, text),
+        "broken" => groups::broken(alloc, text, false),
+        "broken_if_empty_holds" => groups::broken(alloc, text, true),
         _ => String::from_str(alloc, "no query"),
     }
 }

@@ -4,7 +4,7 @@ use crate::yes_or_no;
 use pms_names::Flags;
 use std::alloc::{AllocError, Global};
 use vdb_contents::{Content, Owned, read_contents};
-use vdb_values::{is_eapi, read_flags, read_known, read_slots};
+use vdb_values::{read_eapi, read_flags, read_known, read_slots};
 
 /// The paths that a text of CONTENTS owns, each with the MD5 of its file or the target of its link.
 pub(crate) fn contents(alloc: Global, text: &[u8]) -> Result<String, AllocError> {
@@ -32,9 +32,12 @@ fn push_content(alloc: Global, told: &mut String, content: &Content) -> Result<(
     }
 }
 
-/// Whether a text of EAPI says 8.
+/// The edition of a text of EAPI.
 pub(crate) fn eapi(alloc: Global, text: &str) -> Result<String, AllocError> {
-    yes_or_no(alloc, is_eapi(alloc, text)?)
+    match read_eapi(alloc, text)? {
+        Some(edition) => String::from_str(alloc, edition.text()),
+        None => String::from_str(alloc, "none"),
+    }
 }
 
 /// The slot and the subslot of a text of SLOT.

@@ -34,7 +34,7 @@ fn settings_of(alloc: Global, fields: &str) -> Option<String> {
     let (required, rest) = cut(rest);
     let flips = flips.parse::<u32>().ok()?;
     let iuse = Iuse::parse(alloc, iuse).ok()?;
-    let required = groups::read(alloc, required).ok()?;
+    let required = groups::read(alloc, required, false).ok()?;
     let rules = rules_of(alloc, rest)?;
     told(alloc, &iuse, &rules, &required, flips).ok()
 }

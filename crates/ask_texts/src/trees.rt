@@ -10,13 +10,13 @@ use std::alloc::{AllocError, Global};
 use use_flags::Iuse;
 
 /// The tree of a text.
-fn read(alloc: Global, text: &str) -> Result<DepTree, TreeTextFault> {
-    DepTree::parse(alloc, text)
+fn read(alloc: Global, text: &str, empty_holds: bool) -> Result<DepTree, TreeTextFault> {
+    DepTree::parse(alloc, text, empty_holds)
 }
 
 /// The copy of a dependency tree as it is printed.
 pub(crate) fn depend(alloc: Global, text: &str) -> Result<String, AllocError> {
-    match read(alloc, text) {
+    match read(alloc, text, false) {
         Ok(tree) => copy_text(alloc, &tree),
         Err(fault) => fault.to_string(alloc),
     }
@@ -29,10 +29,10 @@ fn copy_text(alloc: Global, tree: &DepTree) -> Result<String, AllocError> {
 
 /// Whether the tree of the last field holds, for an asker with the flags of the first one, with the
 /// packages of the second one: `a | d-1 e-2 | a? ( c/d )`.
-pub(crate) fn truth(alloc: Global, fields: &str) -> Result<String, AllocError> {
+pub(crate) fn truth(alloc: Global, fields: &str, empty_holds: bool) -> Result<String, AllocError> {
     let (asker, rest) = cut(fields);
     let (packages, text) = cut(rest);
-    match read(alloc, text) {
+    match read(alloc, text, empty_holds) {
         Ok(tree) => truth_of(alloc, &tree, packages, asker),
         Err(fault) => fault.to_string(alloc),
     }
@@ -73,7 +73,7 @@ fn packages_of(alloc: Global, text: &str) -> Result<Vec<Facts>, AtomFault> {
 /// The leaves of a tree that count for an asker with the flags of the first field.
 pub(crate) fn leaves(alloc: Global, fields: &str) -> Result<String, AllocError> {
     let (asker, text) = cut(fields);
-    match read(alloc, text) {
+    match read(alloc, text, false) {
         Ok(tree) => leaves_for(alloc, &tree, asker),
         Err(fault) => fault.to_string(alloc),
     }

@@ -1,3 +1,4 @@
+pub mod BlankBytes
 pub mod Each
 pub mod Keys
 pub mod Lists

@@ -1,4 +1,4 @@
-ghost use Rattle.std.specs.Prelude.{◌≡◌, IfOk};
+ghost use Rattle.std.specs.Prelude.{◌≡◌, [], ◌∷◌, ◌++◌, IfOk, OnErr, OnOk};
 
 use dep_atom::Bind;
 use std::alloc::{AllocError, Global};
@@ -26,6 +26,15 @@ impl Binds {
         ensures { result ≡ binds.items }
     {
         Binds { items: binds }
+    }
+
+    /// Puts a bind behind these.
+    pub fn push(&mut self, bind: Bind) -> Result<(), AllocError>
+        ensures ok { OnOk result (self.new ≡ self.old ++ bind ∷ []) }
+        ensures err { OnErr result (self.new ≡ self.old) }
+    {
+        self.items.push(bind)?;
+        Ok(())
     }
 
     /// A copy of these binds.

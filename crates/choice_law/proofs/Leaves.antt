@@ -4,13 +4,13 @@ use Rattle.std.proofs.lemmas.Bool.{and_cases, and_parts}
 use Rattle.basics.specs.Members.{Has}
 use Rattle.basics.proofs.Membership.{has-append_left, has-append_right}
 use Rattle.dep_atom.specs.Values.{AtomValue}
-use Rattle.dep_group.specs.Trees.{Tree, Trees, all_hold, all_leaves, group, holds, is_member, is_met, leaf, leaves, no_trees, tree, true_members}
+use Rattle.dep_group.specs.Trees.{Tree, Trees, all_hold, all_leaves, group, has_member, holds, is_member, is_met, leaf, leaves, no_trees, tree, true_members}
 use Rattle.dep_group.specs.declared.token.Opener.{Opener}
 use Rattle.dep_group.specs.declared.token.Opener.TheVariants.{AnyOf, AtMostOne, ExactlyOne, When}
 use Rattle.dep_tree.specs.Truth.{kind}
 use Rattle.choice_law.specs.Laws.{CountNothing, CountsNothing}
 
-module _ (on : List ℕ → Bool) (good bad : AtomValue → Bool) where
+module _ (empty : Bool) (on : List ℕ → Bool) (good bad : AtomValue → Bool) where
   -- a leaf of these holds by the first and not by the second
   abbrev pub Tells : List AtomValue → Type 0
   Tells found = (a : AtomValue) × Has found a × (good a ≡ true) × (bad a ≡ false)
@@ -33,6 +33,13 @@ module _ (on : List ℕ → Bool) (good bad : AtomValue → Bool) where
   not_met true x e = (refl, e)
   not_met false x e = absurd (cc e)
 
+  -- what holds though nothing is empty, holds for its members
+  not_empty : (x y e : Bool) → (x || e) ≡ true → (y || e) ≡ false → (x ≡ true) × (y ≡ false)
+  not_empty x true e g b = absurd (cc b)
+  not_empty true false e g b = (refl, refl)
+  not_empty false false true g b = absurd (cc b)
+  not_empty false false false g b = absurd (cc g)
+
   met_holds : (b x : Bool) → b ≡ true → (not b || x) ≡ true → x ≡ true
   met_holds true x m e = e
   met_holds false x m e = absurd (cc m)
@@ -42,33 +49,35 @@ module _ (on : List ℕ → Bool) (good bad : AtomValue → Bool) where
   counted false found e t = absurd (cc e)
 
   mutual
-    pub one_tells : (t : Tree (Opener (List ℕ)) AtomValue) → CountsNothing t → holds kind good on t ≡ true → holds kind bad on t ≡ false → Tells (leaves kind on t)
+    pub one_tells : (t : Tree (Opener (List ℕ)) AtomValue) → CountsNothing t → holds empty kind good on t ≡ true → holds empty kind bad on t ≡ false → Tells (leaves kind on t)
     one_tells (leaf a) form g b = (a, inl refl, g, b)
     one_tells (group None ts) form g b = all_tell ts form g b
-    one_tells (group (Some AnyOf) ts) form g b = some_tell ts form g b
+    one_tells (group (Some AnyOf) ts) form g b =
+        let some = not_empty (nat_lt 0 (true_members empty kind good on ts)) (nat_lt 0 (true_members empty kind bad on ts)) (empty && not (has_member kind on ts)) g b in
+        some_tell ts form some.0 some.1
     one_tells (group (Some ExactlyOne) ts) form g b = absurd form
     one_tells (group (Some AtMostOne) ts) form g b = absurd form
     one_tells (group (Some (When flag wanted)) ts) form g b =
-        let fails = not_met (is_met on flag wanted) (all_hold kind bad on ts) b in
-        counted (is_met on flag wanted) (all_leaves kind on ts) fails.0 (all_tell ts form (met_holds (is_met on flag wanted) (all_hold kind good on ts) fails.0 g) fails.1)
+        let fails = not_met (is_met on flag wanted) (all_hold empty kind bad on ts) b in
+        counted (is_met on flag wanted) (all_leaves kind on ts) fails.0 (all_tell ts form (met_holds (is_met on flag wanted) (all_hold empty kind good on ts) fails.0 g) fails.1)
 
-    pub all_tell : (ts : Trees (Opener (List ℕ)) AtomValue) → CountNothing ts → all_hold kind good on ts ≡ true → all_hold kind bad on ts ≡ false → Tells (all_leaves kind on ts)
+    pub all_tell : (ts : Trees (Opener (List ℕ)) AtomValue) → CountNothing ts → all_hold empty kind good on ts ≡ true → all_hold empty kind bad on ts ≡ false → Tells (all_leaves kind on ts)
     all_tell no_trees form g b = absurd (cc b)
     all_tell (tree t ts) form g b =
-        let both = and_parts (holds kind good on t) (all_hold kind good on ts) g in
-        elim (and_cases (holds kind bad on t) (all_hold kind bad on ts) b) [
+        let both = and_parts (holds empty kind good on t) (all_hold empty kind good on ts) g in
+        elim (and_cases (holds empty kind bad on t) (all_hold empty kind bad on ts) b) [
           | inl here ↦ first_tells (leaves kind on t) (all_leaves kind on ts) (one_tells t form.0 both.0 here)
           | inr later ↦ later_tells (leaves kind on t) (all_leaves kind on ts) (all_tell ts form.1 both.1 later)
         ]
 
-    pub some_tell : (ts : Trees (Opener (List ℕ)) AtomValue) → CountNothing ts → nat_lt 0 (true_members kind good on ts) ≡ true → nat_lt 0 (true_members kind bad on ts) ≡ false → Tells (all_leaves kind on ts)
+    pub some_tell : (ts : Trees (Opener (List ℕ)) AtomValue) → CountNothing ts → nat_lt 0 (true_members empty kind good on ts) ≡ true → nat_lt 0 (true_members empty kind bad on ts) ≡ false → Tells (all_leaves kind on ts)
     some_tell no_trees form g b = absurd (cc g)
     some_tell (tree t ts) form g b =
-        let none = none_more (is_member kind on t && holds kind bad on t) (true_members kind bad on ts) b in
-        elim (one_or_more (is_member kind on t && holds kind good on t) (true_members kind good on ts) g) [
+        let none = none_more (is_member kind on t && holds empty kind bad on t) (true_members empty kind bad on ts) b in
+        elim (one_or_more (is_member kind on t && holds empty kind good on t) (true_members empty kind good on ts) g) [
           | inl here ↦ (
-              let both = and_parts (is_member kind on t) (holds kind good on t) here in
-              first_tells (leaves kind on t) (all_leaves kind on ts) (elim (and_cases (is_member kind on t) (holds kind bad on t) none.0) [
+              let both = and_parts (is_member kind on t) (holds empty kind good on t) here in
+              first_tells (leaves kind on t) (all_leaves kind on ts) (elim (and_cases (is_member kind on t) (holds empty kind bad on t) none.0) [
                 | inl out ↦ absurd (let inside = both.0 in cc (out, inside))
                 | inr fails ↦ one_tells t form.0 both.1 fails
               ]))

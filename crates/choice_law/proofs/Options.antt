@@ -8,10 +8,9 @@ use Rattle.pms_names.specs.Flags.{has}
 use Rattle.dep_atom.specs.Match.{value_matches}
 use Rattle.dep_atom.specs.Values.{AtomValue}
 use Rattle.dep_atom.specs.declared.package.Facts.{Facts}
-use Rattle.dep_group.specs.Trees.{all_leaves}
 use Rattle.dep_tree.specs.Grammar.{is_block}
-use Rattle.dep_tree.specs.Truth.{is_fact, kind, some_match}
-use Rattle.pkg_state.specs.Consistent.{facts_of}
+use Rattle.dep_tree.specs.Truth.{is_fact, some_match}
+use Rattle.pkg_state.specs.Consistent.{facts_of, leaves_in}
 use Rattle.pkg_state.specs.Package.{Package, tree_of}
 use Rattle.pkg_state.specs.declared.class.Class.{Class}
 use Rattle.basics.proofs.Members.{passes_some, some_passes}
@@ -144,7 +143,7 @@ module _ (u : Universe) (f : Filling) (form : IsUniverse u) (s : IsSolution u f)
       or_right (nat_eq l m) (needs (package_of (offer_at u l) (filling u c l))) (ap needs is ∙ named)
 
   -- the solution's value of the line serves the leaf
-  serving : (l m : ℕ) (class : Class) (a : AtomValue) (p : Package) → Stands u (filling u c) l p → Has (all_leaves kind (has p.facts.enabled) (tree_of class p)) a → is_block a ≡ false → MayBe u c m (f m) → Serves u m (f m) a p.facts.enabled → SomeOption (tree l class)
+  serving : (l m : ℕ) (class : Class) (a : AtomValue) (p : Package) → Stands u (filling u c) l p → Has (leaves_in class p) a → is_block a ≡ false → MayBe u c m (f m) → Serves u m (f m) a p.facts.enabled → SomeOption (tree l class)
   serving l m class a p st h asks may serves = ((m, f m) ∷ c, inl (a, p, m, f m, st, h, asks, may, serves, refl), adds m)
 
   tree_option : (l : ℕ) (class : Class) → IsOpen u c (tree l class) → Agrees (tree l class) → SomeOption (tree l class)
@@ -159,7 +158,7 @@ module _ (u : Universe) (f : Filling) (form : IsUniverse u) (s : IsSolution u f)
         let there = facts_of (packages u f) in
         let here = facts_of (packages u (filling u c)) in
         let met = s.met l p class (stands_alike l p e open_now.1) (ap (counts class) e ∙ open_now.2) in
-        let told = all_tell (has asker) (is_fact there asker) (is_fact here asker) (tree_of class p) (form l (filling u c l) p class open_now.1.is) met open_now.3 in
+        let told = all_tell (tree_of class p).empty_holds (has asker) (is_fact there asker) (is_fact here asker) (tree_of class p).groups (form l (filling u c l) p class open_now.1.is) met open_now.3 in
         let fails = or_parts (is_block told.0) (some_match here asker told.0) told.3 in
         let matched : some_match there asker told.0 ≡ true = elim (or_cases (is_block told.0) (some_match there asker told.0) told.2) [ inl b ↦ absurd (let none = fails.0 in cc (b, none)) | inr m ↦ m ] in
         let x = some_passes (λ (q : Facts). value_matches told.0 q asker) there matched in

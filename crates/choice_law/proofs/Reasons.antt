@@ -9,10 +9,9 @@ use Rattle.pms_names.specs.Flags.{has}
 use Rattle.dep_atom.specs.Match.{accepts_slot, accepts_use, accepts_version, same_name, value_matches}
 use Rattle.dep_atom.specs.Values.{AtomValue}
 use Rattle.dep_atom.specs.declared.package.Facts.{Facts}
-use Rattle.dep_group.specs.Trees.{all_leaves}
 use Rattle.dep_tree.specs.Grammar.{is_block}
-use Rattle.dep_tree.specs.Truth.{kind}
-use Rattle.pkg_state.specs.Package.{Package, tree_of}
+use Rattle.pkg_state.specs.Consistent.{leaves_in}
+use Rattle.pkg_state.specs.Package.{Package}
 use Rattle.pkg_state.specs.declared.class.Class.{Class}
 use Rattle.basics.proofs.Members.{passes_some}
 use Rattle.choice_law.specs.Universe.{Offer, Universe, Value, absent, is_new, keep, lines, package_of, variant}
@@ -52,7 +51,7 @@ pub matched_named : (a : AtomValue) (asker : List (List ℕ)) (o : Offer) (v : V
 matched_named a asker o v p is e = offered_passes (λ new q. same_name a.name q.facts.id.name) o v p is (same_as_matched a p.facts asker e)
 
 -- what a leaf that asks for something matches is offered under a name that is needed
-pub needed_named : (class : Class) (p : Package) (o : Offer) (a : AtomValue) → Has (all_leaves kind (has p.facts.enabled) (tree_of class p)) a → is_block a ≡ false → offers_named a o ≡ true → offers_needed class p o ≡ true
+pub needed_named : (class : Class) (p : Package) (o : Offer) (a : AtomValue) → Has (leaves_in class p) a → is_block a ≡ false → offers_named a o ≡ true → offers_needed class p o ≡ true
 needed_named class p o a h asks named =
-    passes_some (λ b. not (is_block b) && offers_named b o) (all_leaves kind (has p.facts.enabled) (tree_of class p)) a h
+    passes_some (λ b. not (is_block b) && offers_named b o) (leaves_in class p) a h
     (and_from (not (is_block a)) (offers_named a o) (not_from_false (is_block a) asks) named)

@@ -10,7 +10,7 @@ use Rattle.choice_law.specs.Universe.{Filling, IsValue, Universe, Value, lines, 
 use Rattle.choice_law.specs.Solutions.{IsSolution}
 use Rattle.choice_law.specs.Tree.{Choice, IsGoodLeaf, IsPick, Obligation, decided, filling}
 
--- no group of the dependencies counts its members, as EAPI 8 has it (PMS 8.2.3)
+-- no group of the dependencies counts its members, as each EAPI has it (PMS 8.2.3)
 abbrev mutual
   pub CountsNothing : Tree (Opener (List ℕ)) AtomValue → Type 0
   CountsNothing (leaf a) = ⊤
@@ -28,7 +28,7 @@ abbrev mutual
 abbrev pub IsUniverse : Universe → Type 0
 IsUniverse u =
     (l : ℕ) (v : Value) (p : Package) (class : Class) → package_of (offer_at u l) v ≡ Some p →
-    CountNothing (tree_of class p)
+    CountNothing (tree_of class p).groups
 
 -- the filling has what the choice decides
 abbrev pub Allows : Choice → Filling → Type 0

@@ -6,10 +6,9 @@ use Rattle.basics.specs.Members.{Has}
 use Rattle.pms_names.specs.Flags.{has}
 use Rattle.dep_atom.specs.Match.{same_name}
 use Rattle.dep_atom.specs.Values.{AtomValue}
-use Rattle.dep_group.specs.Trees.{all_leaves}
 use Rattle.dep_tree.specs.Grammar.{is_block}
-use Rattle.dep_tree.specs.Truth.{kind}
-use Rattle.pkg_state.specs.Package.{Package, tree_of}
+use Rattle.pkg_state.specs.Consistent.{leaves_in}
+use Rattle.pkg_state.specs.Package.{Package}
 use Rattle.pkg_state.specs.declared.class.Class.{Class}
 use Rattle.choice_law.specs.Universe.{Filling, Offer, Universe, Value, conflicts, lines, offer_at, package_of}
 use Rattle.choice_law.specs.Solutions.{IsSolution}
@@ -28,7 +27,7 @@ offers_named a o = offers (λ new p. same_name a.name p.facts.id.name) o
 abbrev pub offers_needed : Class → Package → Offer → Bool
 offers_needed class p o =
     list_any (λ a. not (is_block a) && offers_named a o)
-    (all_leaves kind (has p.facts.enabled) (tree_of class p))
+    (leaves_in class p)
 
 -- .. can't stand beside the package
 abbrev pub offers_against : Package → Offer → Bool

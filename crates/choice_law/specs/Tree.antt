@@ -4,11 +4,9 @@ use Rattle.basics.specs.Members.{Has}
 use Rattle.pms_names.specs.Flags.{has}
 use Rattle.dep_atom.specs.Match.{value_matches}
 use Rattle.dep_atom.specs.Values.{AtomValue}
-use Rattle.dep_group.specs.Trees.{all_leaves}
 use Rattle.dep_tree.specs.Grammar.{is_block}
-use Rattle.dep_tree.specs.Truth.{kind}
-use Rattle.pkg_state.specs.Consistent.{facts_of, fits_required, is_met}
-use Rattle.pkg_state.specs.Package.{Package, tree_of}
+use Rattle.pkg_state.specs.Consistent.{facts_of, fits_required, is_met, leaves_in}
+use Rattle.pkg_state.specs.Package.{Package}
 use Rattle.pkg_state.specs.declared.class.Class.{Class}
 use Rattle.choice_law.specs.Universe.{Filling, IsValue, Stands, Universe, Value, absent, as_is, conflicts, counts, is_new, lines, offer_at, package_of, packages}
 
@@ -90,7 +88,7 @@ IsOption u c (conflict l m) e =
     × (e ≡ (m, v) ∷ held u c l))
 IsOption u c (tree l class) e =
     ((a : AtomValue) × (p : Package) × (m : ℕ) × (v : Value) × Stands u (filling u c) l p
-    × Has (all_leaves kind (has p.facts.enabled) (tree_of class p)) a × (is_block a ≡ false)
+    × Has (leaves_in class p) a × (is_block a ≡ false)
     × MayBe u c m v × Serves u m v a p.facts.enabled × (e ≡ (m, v) ∷ c))
     ⊎ ((v : Value) × MayChange u c l v × (e ≡ (l, v) ∷ c))
 IsOption u c (absence l) e =

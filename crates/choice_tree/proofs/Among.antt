@@ -8,10 +8,9 @@ use Rattle.basics.proofs.Membership.{has-append_cases, has-append_left, has-appe
 use Rattle.pms_names.specs.Flags.{has}
 use Rattle.dep_atom.specs.Match.{value_matches}
 use Rattle.dep_atom.specs.Values.{AtomValue}
-use Rattle.dep_group.specs.Trees.{all_leaves}
 use Rattle.dep_tree.specs.Grammar.{is_block}
-use Rattle.dep_tree.specs.Truth.{kind}
-use Rattle.pkg_state.specs.Package.{Package, tree_of}
+use Rattle.pkg_state.specs.Consistent.{leaves_in}
+use Rattle.pkg_state.specs.Package.{Package}
 use Rattle.pkg_state.specs.declared.class.Class.{Class}
 use Rattle.choice_law.specs.Universe.{IsValue, Offer, Stands, Universe, Value, absent, as_is, conflicts, is_new, keep, lines, no_offer, offer_at, package_of, standing, variant}
 use Rattle.choice_law.specs.Tree.{Choice, IsOption, MayBe, MayChange, Obligation, Serves, absence, conflict, decided, filling, held, required, tree, wanted}
@@ -427,21 +426,21 @@ module _ (update : Bool) (u : Universe) (c : Choice) where
   is_decision : (o : Obligation) (d : ℕ × Value) (e : Choice) → Has (decisions update ss o) d → e ≡ d ∷ c → Has (options update u c o) e
   is_decision o d e h is = has-append_left (map (λ d. d ∷ c) (decisions update ss o)) (second_part update u c o) e (has_more c (decisions update ss o) d e h is)
 
-  serving_is : (l : ℕ) (class : Class) (d : ℕ × Value) → Has (serving update ss class (package_in (place l))) d → (a : AtomValue) × (p : Package) × Stands u (filling u c) l p × Has (all_leaves kind (has p.facts.enabled) (tree_of class p)) a × (is_block a ≡ false) × MayBe u c d.0 d.1 × Serves u d.0 d.1 a p.facts.enabled
+  serving_is : (l : ℕ) (class : Class) (d : ℕ × Value) → Has (serving update ss class (package_in (place l))) d → (a : AtomValue) × (p : Package) × Stands u (filling u c) l p × Has (leaves_in class p) a × (is_block a ≡ false) × MayBe u c d.0 d.1 × Serves u d.0 d.1 a p.facts.enabled
   serving_is l class d h = by_case (package_in (place l)) refl h where
-    by_case : (x : Option Package) → package_in (place l) ≡ x → Has (serving update ss class x) d → (a : AtomValue) × (p : Package) × Stands u (filling u c) l p × Has (all_leaves kind (has p.facts.enabled) (tree_of class p)) a × (is_block a ≡ false) × MayBe u c d.0 d.1 × Serves u d.0 d.1 a p.facts.enabled
+    by_case : (x : Option Package) → package_in (place l) ≡ x → Has (serving update ss class x) d → (a : AtomValue) × (p : Package) × Stands u (filling u c) l p × Has (leaves_in class p) a × (is_block a ≡ false) × MayBe u c d.0 d.1 × Serves u d.0 d.1 a p.facts.enabled
     by_case None e k = absurd k
     by_case (Some p) e k =
         let r = has-flat_map_back (λ a. served update ss p.facts.enabled a) (needs class p) d k in
-        let leaf = has-filter_back (λ a. not (is_block a)) (all_leaves kind (has p.facts.enabled) (tree_of class p)) r.0 r.1 in
+        let leaf = has-filter_back (λ a. not (is_block a)) (leaves_in class p) r.0 r.1 in
         let s = served_is p.facts.enabled r.0 d r.2 in
         (r.0, p, there u c l p e, leaf.0, not-true (is_block r.0) leaf.1, s.0, s.1)
 
-  serving_has : (l : ℕ) (class : Class) (a : AtomValue) (p : Package) (m : ℕ) (v : Value) → Stands u (filling u c) l p → Has (all_leaves kind (has p.facts.enabled) (tree_of class p)) a → is_block a ≡ false → MayBe u c m v → Serves u m v a p.facts.enabled → Has (serving update ss class (package_in (place l))) (m, v)
+  serving_has : (l : ℕ) (class : Class) (a : AtomValue) (p : Package) (m : ℕ) (v : Value) → Stands u (filling u c) l p → Has (leaves_in class p) a → is_block a ≡ false → MayBe u c m v → Serves u m v a p.facts.enabled → Has (serving update ss class (package_in (place l))) (m, v)
   serving_has l class a p m v st leaf open_leaf may s =
       subst (λ (x : Option Package). Has (serving update ss class x) (m, v)) (sym (stands u c l p st))
       (has-flat_map (λ a. served update ss p.facts.enabled a) (needs class p) a (m, v)
-      (has-filter (λ a. not (is_block a)) (all_leaves kind (has p.facts.enabled) (tree_of class p)) a leaf (ap not open_leaf))
+      (has-filter (λ a. not (is_block a)) (leaves_in class p) a leaf (ap not open_leaf))
       (served_has p.facts.enabled a m v may s))
 
   abbrev ousts : Package → Candidate → Bool

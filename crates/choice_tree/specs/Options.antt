@@ -5,10 +5,9 @@ use Rattle.basics.specs.Members.{Has}
 use Rattle.pms_names.specs.Flags.{has}
 use Rattle.dep_atom.specs.Match.{value_matches}
 use Rattle.dep_atom.specs.Values.{AtomValue}
-use Rattle.dep_group.specs.Trees.{all_leaves}
 use Rattle.dep_tree.specs.Grammar.{is_block}
-use Rattle.dep_tree.specs.Truth.{kind}
-use Rattle.pkg_state.specs.Package.{Package, tree_of}
+use Rattle.pkg_state.specs.Consistent.{leaves_in}
+use Rattle.pkg_state.specs.Package.{Package}
 use Rattle.pkg_state.specs.declared.class.Class.{Class}
 use Rattle.choice_law.specs.Universe.{Universe, Value, absent, conflicts, keep, variant}
 use Rattle.choice_law.specs.Tree.{Choice, IsOption, Obligation, absence, conflict, held, required, tree, wanted}
@@ -43,7 +42,7 @@ others update ss l =
 -- the leaves of a package that ask for something
 abbrev pub needs : Class → Package → List AtomValue
 needs class p =
-    filter (λ a. not (is_block a)) (all_leaves kind (has p.facts.enabled) (tree_of class p))
+    filter (λ a. not (is_block a)) (leaves_in class p)
 
 -- what serves one of them, leaf by leaf
 abbrev pub serving : Bool → List Place → Class → Option Package → List (ℕ × Value)

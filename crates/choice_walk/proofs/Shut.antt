@@ -42,7 +42,7 @@ same_found f g n l first second third =
 
 same_met : (p : Package) (class : Class) (one two : List Facts) → ((a : AtomValue) → Has (leaves_in class p) a → some_match one p.facts.enabled a ≡ some_match two p.facts.enabled a) → is_met one class p ≡ is_met two class p
 same_met p class one two each =
-    same_all (has p.facts.enabled) (is_fact one p.facts.enabled) (is_fact two p.facts.enabled) (tree_of class p) (λ a h. ap (λ (b : Bool). is_block a || b) (each a h))
+    same_all (tree_of class p).empty_holds (has p.facts.enabled) (is_fact one p.facts.enabled) (is_fact two p.facts.enabled) (tree_of class p).groups (λ a h. ap (λ (b : Bool). is_block a || b) (each a h))
 
 -- another line than l has changed, and its package sees neither what stood nor what stands there
 module _ (ss ts : List Place) (m l : ℕ) (long : length ts ≡ length ss) (others : (k : ℕ) → k ≢ m → get_or ts k no_place ≡ get_or ss k no_place) (apart : l ≢ m) (before : (p : Package) → package_in (get_or ss l no_place) ≡ Some p → IsUnseen p (get_or ss m no_place)) (after : (p : Package) → package_in (get_or ss l no_place) ≡ Some p → IsUnseen p (get_or ts m no_place)) where

@@ -9,6 +9,7 @@ use Rattle.config_text.specs.AssignFaults.{BeginsNoItem, FirstFault, IsOpen}
 use Rattle.config_text.specs.Assignments.{AreItems, IsItem, Item, Blank, Comment, Assign, Says, is_in_line, is_solid, last_value, next_said, said, said_by, spell_item, spell_items, value}
 use Rattle.config_text.specs.Follow.{Stops}
 use Rattle.config_text.specs.Known.{Knows, value_of}
+use Rattle.basics.proofs.BlankBytes.{is_blank-small}
 use Rattle.basics.specs.Blanks.{is_blank}
 use Rattle.config_text.specs.Lines.{line_behind}
 use Rattle.config_text.specs.Reading.{Assigns, BeginsWord, GivesRuns, ItemFault, LacksKey, OpensQuote, ReadsItem, ReadsValue, Skips, SoFar, listed}
@@ -25,9 +26,6 @@ use Rattle.config_text.proofs.OneText.{with_key}
 use Rattle.config_text.proofs.Runs.{flat_push, follow_push}
 use Rattle.config_text.proofs.Wholes.{ascii_first, cut_at_ascii, whole_end, whole_start}
 
-white_byte : (b : ℕ) → is_blank b ≡ true → b < 128
-white_byte b h = grind (arith, nat_tests)
-
 pub blank_skips : (text rest : List ℕ) (b : ℕ) → IsUtf8 text → text ≡ b ∷ rest → is_blank b ≡ true → Skips text rest
 blank_skips text rest b good is white =
     record {
@@ -35,7 +33,7 @@ blank_skips text rest b good is white =
       form = white;
       spelled = is;
       says = λ named line. refl;
-      utf8 = (cut_at_ascii [] rest b (white_byte b white) (subst IsUtf8 is good)).1;
+      utf8 = (cut_at_ascii [] rest b (is_blank-small b white) (subst IsUtf8 is good)).1;
     }
 
 line_byte : (b : ℕ) → is_in_line b ≡ false → b < 128

@@ -13,6 +13,7 @@ use Rattle.dep_group.specs.Words.{Spot, begins_word, with_letter, words, is_word
 use Rattle.dep_group.specs.Views.{spot}
 use Rattle.dep_group.specs.declared.word.Word.{Word}
 use Rattle.std.proofs.lemmas.Bool.{and_parts, not-true}
+use Rattle.basics.proofs.BlankBytes.{is_blank-small}
 use Rattle.basics.specs.Blanks.{is_blank}
 
 is_word-first : (b : ℕ) (w : List ℕ) → is_word (b ∷ w) ≡ true → not (is_blank b) ≡ true
@@ -109,9 +110,6 @@ words-to_end text start order letters = go (nat_lt start (length text)) refl
         words-last text start (grind (arith, nat_tests, e)) letters
         ∙ ap (λ r. record { at = start; bytes = r } ∷ []) (grind (arith, common_steps))
     go false e = let none : drop start text ≡ [] = grind (arith, common_steps, nat_tests, e) in ap (words start) none
-
-pub is_blank-small : (b : ℕ) → is_blank b ≡ true → b < 128
-is_blank-small b h = grind (arith, nat_tests)
 
 pub place-at : (ws : List Word) (i : ℕ) (w : Word) → i < length ws → (get_or ws i w).at ≡ place (map spot ws) i
 place-at [] i w within = absurd (omega arith)

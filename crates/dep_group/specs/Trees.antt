@@ -30,13 +30,14 @@ counts_as_member has ExactlyOne = true
 counts_as_member has AtMostOne = true
 counts_as_member has (When flag on) = is_met has flag on
 
--- the truth of a group, where `all` says whether each of its trees holds, and `count` is how many
--- members hold
-abbrev pub group_holds : {F : Type 0} → (F → Bool) → Opener F → Bool → ℕ → Bool
-group_holds has AnyOf all count = nat_lt 0 count
-group_holds has ExactlyOne all count = count == 1
-group_holds has AtMostOne all count = nat_le count 1
-group_holds has (When flag on) all count = not (is_met has flag on) || all
+-- the truth of a group, where `all` says whether each of its trees holds, `some` whether it has a
+-- member, and `count` is how many members hold; `empty` says whether a group that wants one of its
+-- members holds where it has none
+abbrev pub group_holds : {F : Type 0} → Bool → (F → Bool) → Opener F → Bool → Bool → ℕ → Bool
+group_holds empty has AnyOf all some count = nat_lt 0 count || (empty && not some)
+group_holds empty has ExactlyOne all some count = (count == 1) || (empty && not some)
+group_holds empty has AtMostOne all some count = nat_le count 1
+group_holds empty has (When flag on) all some count = not (is_met has flag on) || all
 
 -- the tree is a member of the group around it; `kind` says what an opener opens, and `has` which
 -- flags are on
@@ -45,25 +46,35 @@ is_member kind has (leaf a) = true
 is_member kind has (group None ts) = true
 is_member kind has (group (Some opener) ts) = counts_as_member has (kind opener)
 
--- the truth of a tree, where `fact` says which leaves hold
+-- one of the trees is a member
+abbrev pub has_member : {F K L : Type 0} → (K → Opener F) → (F → Bool) → Trees K L → Bool
+has_member kind has no_trees = false
+has_member kind has (tree t ts) = is_member kind has t || has_member kind has ts
+
+-- the truth of a tree, where `fact` says which leaves hold, and `empty` whether a group that wants
+-- one of its members holds where it has none
 abbrev mutual
-  pub holds : {F K L : Type 0} → (K → Opener F) → (L → Bool) → (F → Bool) → Tree K L → Bool
-  holds kind fact has (leaf a) = fact a
-  holds kind fact has (group None ts) = all_hold kind fact has ts
-  holds kind fact has (group (Some opener) ts) =
-      group_holds has (kind opener) (all_hold kind fact has ts) (true_members kind fact has ts)
+  pub holds : {F K L : Type 0} → Bool → (K → Opener F) → (L → Bool) → (F → Bool) → Tree K L → Bool
+  holds empty kind fact has (leaf a) = fact a
+  holds empty kind fact has (group None ts) = all_hold empty kind fact has ts
+  holds empty kind fact has (group (Some opener) ts) =
+      group_holds empty has (kind opener) (all_hold empty kind fact has ts)
+      (has_member kind has ts) (true_members empty kind fact has ts)
 
   -- each of the trees holds
-  pub all_hold : {F K L : Type 0} → (K → Opener F) → (L → Bool) → (F → Bool) → Trees K L → Bool
-  all_hold kind fact has no_trees = true
-  all_hold kind fact has (tree t ts) = holds kind fact has t && all_hold kind fact has ts
+  pub all_hold :
+      {F K L : Type 0} → Bool → (K → Opener F) → (L → Bool) → (F → Bool) → Trees K L → Bool
+  all_hold empty kind fact has no_trees = true
+  all_hold empty kind fact has (tree t ts) =
+      holds empty kind fact has t && all_hold empty kind fact has ts
 
   -- how many members hold
-  pub true_members : {F K L : Type 0} → (K → Opener F) → (L → Bool) → (F → Bool) → Trees K L → ℕ
-  true_members kind fact has no_trees = 0
-  true_members kind fact has (tree t ts) =
+  pub true_members :
+      {F K L : Type 0} → Bool → (K → Opener F) → (L → Bool) → (F → Bool) → Trees K L → ℕ
+  true_members empty kind fact has no_trees = 0
+  true_members empty kind fact has (tree t ts) =
       (if is_member kind has t &&
-      holds kind fact has t then 1 else 0) + true_members kind fact has ts
+      holds empty kind fact has t then 1 else 0) + true_members empty kind fact has ts
 
 -- the leaves that no unmet condition excludes, in the order in which they are written
 abbrev mutual

@@ -3,7 +3,8 @@ use Rattle.std.specs.Prelude.{ℕ, List, map, Some, None}
 use Rattle.dep_atom.specs.Values.{AtomValue, atom_value}
 use Rattle.dep_group.specs.declared.token.Opener.{Opener}
 use Rattle.dep_group.specs.declared.token.Opener.TheVariants as openers
-use Rattle.dep_group.specs.Trees.{Tree, Trees, leaf, group, trees_of}
+use Rattle.dep_group.specs.Trees.{Tree, leaf, group, trees_of}
+use Rattle.dep_tree.specs.Texts.{AtomTrees, Dependencies}
 use Rattle.dep_tree.specs.declared.parse.DepOpener.{DepOpener}
 use Rattle.dep_tree.specs.declared.parse.DepOpener.TheVariants as begins
 use Rattle.dep_tree.specs.declared.tree.DepTree.{DepTree}
@@ -27,8 +28,9 @@ view_step (Node-F.When flag on nodes) =
 abbrev pub view : Node → Tree (Opener (List ℕ)) AtomValue
 view = fold-Node (Tree (Opener (List ℕ)) AtomValue) view_step
 
-abbrev pub trees_view : List Node → Trees (Opener (List ℕ)) AtomValue
+abbrev pub trees_view : List Node → AtomTrees
 trees_view nodes = trees_of (map view nodes)
 
-abbrev pub trees : DepTree → Trees (Opener (List ℕ)) AtomValue
-trees t = trees_view t.nodes.items
+-- the dependencies that the nodes are
+abbrev pub trees : DepTree → Dependencies
+trees t = record { groups = trees_view t.nodes.items; empty_holds = t.empty_holds }

@@ -1,7 +1,8 @@
 //! Dependencies of packages: atoms in groups (PMS 8.2).
 //!
-//! **A contract sees** a tree as the view of its atoms in groups, and the packages that are there
-//! as a list of facts.
+//! **A contract sees** a tree as the view of its atoms in groups, with whether an any-of group
+//! without members holds (which an edition of the rules fixes, and no text says), and the packages
+//! that are there as a list of facts.
 //!
 //! **Proved**: a text is read exactly where it is a dependency tree; any other text is refused
 //! with its first fault, which is its only one; a printed tree is read back; the truth of a tree
@@ -11,7 +12,7 @@
 //! is read.
 //!
 //! ```
-//! let tree = DepTree::parse(alloc, "|| ( c/d x? ( c/e ) )")?;
+//! let tree = DepTree::parse(alloc, "|| ( c/d x? ( c/e ) )", false)?;
 //! let holds = tree.holds(&packages, &flags);
 //! ```
 #![tactic(auto)]
@@ -26,6 +27,6 @@ mod tree;
 pub use fault::TreeTextFault;
 pub use present::Present;
 pub use tree::{
-    DepTree, Node, is_block, is_member, one_fault, printed_text_has_the_words,
+    DepTree, Node, has_member, is_block, is_member, one_fault, printed_text_has_the_words,
     trees_in_form_are_atoms_in_groups,
 };

@@ -2,7 +2,7 @@ ghost use Rattle.std.specs.Prelude.{◌≡◌, IfErr, IfOk, MatchResult};
 ghost use Rattle.dep_group.specs.Maps.{opener_map};
 ghost use Rattle.dep_group.specs.Trees.{group};
 ghost use Rattle.dep_tree.specs.Faults.{FirstFault, IsMemory, named};
-ghost use Rattle.dep_tree.specs.Texts.{Dependencies, Writes};
+ghost use Rattle.dep_tree.specs.Texts.{AtomTrees, WritesAtoms};
 ghost use Rattle.dep_tree.specs.View.{kind_of, trees_view, view};
 
 use crate::fault::TreeTextFault;
@@ -21,9 +21,9 @@ pub(crate) enum DepOpener {
 
 /// The dependencies that the text is.
 pub fn read(alloc: Global, text: &str) -> Result<Vec<Node>, TreeTextFault>
-    ensures found { IfOk result (λ nodes. Writes text.now (trees_view nodes.items)) }
-    ensures only { (x : Dependencies) → Writes text.now x →
-        MatchResult result (λ nodes. trees_view nodes.items ≡ x) IsMemory }
+    ensures found { IfOk result (λ nodes. WritesAtoms text.now (trees_view nodes.items)) }
+    ensures only { (ts : AtomTrees) → WritesAtoms text.now ts →
+        MatchResult result (λ nodes. trees_view nodes.items ≡ ts) IsMemory }
     ensures fault { IfErr result (FirstFault text.now) }
 {
     match read_text::<DepOpener, Atom, Node>(alloc, text) {

@@ -3,9 +3,9 @@ ghost use Rattle.dep_atom.specs.Text.{value_text};
 ghost use Rattle.dep_atom.specs.Values.{atom_value};
 ghost use Rattle.dep_group.specs.Printing.{Adds, group_tokens};
 ghost use Rattle.dep_group.specs.Reading.{all_tokens, tokens};
+ghost use Rattle.dep_group.specs.Texts.{text_of};
 ghost use Rattle.dep_group.specs.Words.{and_space};
 ghost use Rattle.dep_tree.specs.Grammar.{grammar};
-ghost use Rattle.dep_tree.specs.Texts.{text_of};
 ghost use Rattle.dep_tree.specs.View.{trees_view, view};
 
 use crate::tree::Node;
@@ -15,7 +15,7 @@ use std::alloc::{AllocError, Global};
 
 /// The text of the dependencies, with one space between each two words.
 pub fn print(alloc: Global, nodes: &[Node]) -> Result<String, AllocError>
-    ensures { IfOk result (λ text. string_bytes text ≡ text_of (trees_view nodes.now)) }
+    ensures { IfOk result (λ text. string_bytes text ≡ text_of grammar (trees_view nodes.now)) }
 {
     let mut out = String::new(alloc);
     push_all(alloc, nodes, &mut out)?;

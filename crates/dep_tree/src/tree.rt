@@ -1,14 +1,15 @@
-ghost use Rattle.std.specs.Prelude.{◌≡◌, ◌++◌, ◌↔◌, IfErr, IfOk, List, MatchResult, OnOk, map};
-ghost use Rattle.std.specs.Prelude.{nat_lt, string_bytes, ℕ};
+ghost use Rattle.std.specs.Prelude.{◌≡◌, ◌++◌, ◌↔◌, ◌&&◌, ◌||◌, Bool, IfErr, IfOk, List};
+ghost use Rattle.std.specs.Prelude.{MatchResult, OnOk, map, nat_lt, not, string_bytes, ℕ};
 ghost use Rattle.dep_atom.specs.Values.{atom_value};
-ghost use Rattle.dep_group.specs.Trees.{all_hold, all_leaves, holds, is_member, is_met};
-ghost use Rattle.dep_group.specs.Trees.{leaves, no_trees, true_members};
+ghost use Rattle.dep_group.specs.Trees.{all_hold, all_leaves, has_member, holds, is_member};
+ghost use Rattle.dep_group.specs.Trees.{is_met, leaves, true_members};
 ghost use Rattle.dep_group.specs.Tokens.{IsInForm};
 ghost use Rattle.pms_names.specs.Flags.{has};
 ghost use Rattle.dep_tree.specs.Faults.{FirstFault, HasFault, IsMemory};
-ghost use Rattle.dep_tree.specs.Texts.{AreDependencies, Dependencies, Writes, text_of};
+ghost use Rattle.dep_tree.specs.Texts.{AreDependencies, AtomTrees, Dependencies, Writes};
+ghost use Rattle.dep_tree.specs.Texts.{no_dependencies, text_of};
 ghost use Rattle.dep_tree.specs.Grammar.{AreAtomsInGroups, grammar, is_block};
-ghost use Rattle.dep_tree.specs.Truth.{is_fact, kind};
+ghost use Rattle.dep_tree.specs.Truth.{all_met, counted_leaves, is_fact, kind};
 ghost use Rattle.dep_tree.specs.View.{trees, trees_view, view};
 ghost use Rattle.dep_tree.specs.declared.fault.TreeTextFault.{TreeTextFault};
 
@@ -37,28 +38,31 @@ pub enum Node {
 #[derive(Debug, Drop)]
 pub struct DepTree {
     pub nodes: Vec<Node>,
+    /// Whether an any-of group holds where it has no member.
+    pub empty_holds: bool,
 }
 
 impl DepTree {
     /// That of a package which depends on nothing.
-    pub fn new(alloc: Global) -> DepTree
-        ensures { trees result ≡ no_trees }
+    pub fn new(alloc: Global, empty_holds: bool) -> DepTree
+        ensures { trees result ≡ no_dependencies empty_holds }
     {
         DepTree {
             nodes: Vec::new(alloc),
+            empty_holds,
         }
     }
 
     /// Reads the whole text. Its first fault from the left is given; a group that is never closed is
-    /// a fault at the end.
-    pub fn parse(alloc: Global, text: &str) -> Result<DepTree, TreeTextFault>
-        ensures found { IfOk result (λ t. Writes text.now (trees t)) }
-        ensures only { (x : Dependencies) → Writes text.now x →
+    /// a fault at the end. Whether an empty any-of group holds is not in the text.
+    pub fn parse(alloc: Global, text: &str, empty_holds: bool) -> Result<DepTree, TreeTextFault>
+        ensures found { IfOk result (λ t. Writes empty_holds text.now (trees t)) }
+        ensures only { (x : Dependencies) → Writes empty_holds text.now x →
             MatchResult result (λ t. trees t ≡ x) IsMemory }
         ensures fault { IfErr result (FirstFault text.now) }
     {
         match parse::read(alloc, text) {
-            Ok(nodes) => Ok(DepTree { nodes }),
+            Ok(nodes) => Ok(DepTree { nodes, empty_holds }),
             Err(fault) => Err(fault),
         }
     }
@@ -72,16 +76,15 @@ impl DepTree {
 
     /// Whether all hold with these packages, of an asker with these flags. A block holds here.
     pub fn holds<P: Present>(&self, present: &P, asker: &Flags) -> bool
-        ensures { result ≡ all_hold kind (is_fact (P.facts present.now) asker.now) (has asker.now)
-            (trees self.now) }
+        ensures { result ≡ all_met (P.facts present.now) asker.now (trees self.now) }
     {
-        all_hold(&self.nodes, present, asker)
+        all_hold(&self.nodes, present, asker, self.empty_holds)
     }
 
     /// The atoms that no unmet condition excludes, in the order in which they are written.
     pub fn leaves(&self, alloc: Global, asker: &Flags) -> Result<Vec<&Atom>, AllocError>
         ensures { IfOk result (λ v. map (λ atom. atom_value atom.now) v.items ≡
-            all_leaves kind (has asker.now) (trees self.now)) }
+            counted_leaves asker.now (trees self.now)) }
     {
         let mut out = Vec::new(alloc);
         push_all_leaves(&self.nodes, asker, &mut out)?;
@@ -92,20 +95,22 @@ impl DepTree {
         ensures { IfOk result (λ t. trees t ≡ trees self.now) }
     {
         let nodes = copy::copy_all(*self.nodes.allocator(), &self.nodes)?;
-        Ok(DepTree { nodes })
+        let empty_holds = self.empty_holds;
+        Ok(DepTree { nodes, empty_holds })
     }
 }
 
 /// The text of a tree in form writes it: with the clauses of `parse` and `print`, what is printed is
 /// read back.
 pub fn printed_text_has_the_words()
-    ensures { (x : Dependencies) → IsInForm grammar is_block x → Writes (text_of x) x }
+    ensures { (x : Dependencies) → IsInForm grammar is_block x.groups →
+        Writes x.empty_holds (text_of x) x }
 {}
 
 /// Trees in form are atoms in groups, at most 64 in one another, with no block in an any-of group: each
 /// such tree has a text, which is read as it.
 pub fn trees_in_form_are_atoms_in_groups()
-    ensures { (x : Dependencies) → IsInForm grammar is_block x ↔ AreAtomsInGroups x }
+    ensures { (ts : AtomTrees) → IsInForm grammar is_block ts ↔ AreAtomsInGroups ts }
 {}
 
 /// A law: but for want of memory a text has one fault at most, and dependencies have none.
@@ -116,30 +121,34 @@ pub fn one_fault()
 {}
 
 impl Node {
-    /// Whether it holds with these packages, of an asker with these flags. A block holds here.
+    /// Whether it holds with these packages, of an asker with these flags, where it is said whether
+    /// an any-of group without members holds. A block holds here.
     #[cycle(holds)]
-    pub fn holds<P: Present>(&self, present: &P, asker: &Flags) -> bool
-        ensures { result ≡ holds kind (is_fact (P.facts present.now) asker.now) (has asker.now)
-            (view self.now) }
+    pub fn holds<P: Present>(&self, present: &P, asker: &Flags, empty_holds: bool) -> bool
+        ensures { result ≡ holds empty_holds kind (is_fact (P.facts present.now) asker.now)
+            (has asker.now) (view self.now) }
     {
         match self {
             Node::Leaf(atom) => is_fact(atom, present, asker),
-            Node::All(nodes) => all_hold(nodes, present, asker),
-            Node::AnyOf(nodes) => some_member_holds(nodes, present, asker),
+            Node::All(nodes) => all_hold(nodes, present, asker, empty_holds),
+            Node::AnyOf(nodes) => {
+                some_member_holds(nodes, present, asker, empty_holds)
+                    || holds_empty(nodes, asker, empty_holds)
+            }
             Node::When { flag, on, nodes } => {
-                !is_met(asker, flag, *on) || all_hold(nodes, present, asker)
+                !is_met(asker, flag, *on) || all_hold(nodes, present, asker, empty_holds)
             }
         }
     }
 }
 
 #[cycle(holds)]
-fn all_hold<P: Present>(nodes: &[Node], present: &P, asker: &Flags) -> bool
-    ensures { result ≡ all_hold kind (is_fact (P.facts present.now) asker.now) (has asker.now)
-        (trees_view nodes.now) }
+fn all_hold<P: Present>(nodes: &[Node], present: &P, asker: &Flags, empty_holds: bool) -> bool
+    ensures { result ≡ all_hold empty_holds kind (is_fact (P.facts present.now) asker.now)
+        (has asker.now) (trees_view nodes.now) }
 {
     for node in nodes {
-        if !node.holds(present, asker) {
+        if !node.holds(present, asker, empty_holds) {
             return false;
         }
     }
@@ -147,13 +156,38 @@ fn all_hold<P: Present>(nodes: &[Node], present: &P, asker: &Flags) -> bool
 }
 
 #[cycle(holds)]
-fn some_member_holds<P: Present>(nodes: &[Node], present: &P, asker: &Flags) -> bool
+fn some_member_holds<P: Present>(
+    nodes: &[Node],
+    present: &P,
+    asker: &Flags,
+    empty_holds: bool,
+) -> bool
     ensures { result ≡ nat_lt 0
-        (true_members kind (is_fact (P.facts present.now) asker.now) (has asker.now)
+        (true_members empty_holds kind (is_fact (P.facts present.now) asker.now) (has asker.now)
         (trees_view nodes.now)) }
 {
     for node in nodes {
-        if is_member(node, asker) && node.holds(present, asker) {
+        if is_member(node, asker) && node.holds(present, asker, empty_holds) {
+            return true;
+        }
+    }
+    false
+}
+
+/// Whether an any-of group holds for want of members.
+fn holds_empty(nodes: &[Node], asker: &Flags, empty_holds: bool) -> bool
+    ensures { result ≡
+        (empty_holds && not (has_member kind (has asker.now) (trees_view nodes.now))) }
+{
+    empty_holds && !has_member(nodes, asker)
+}
+
+/// Whether one of them is a member of the group that they stand in.
+pub fn has_member(nodes: &[Node], asker: &Flags) -> bool
+    ensures { result ≡ has_member kind (has asker.now) (trees_view nodes.now) }
+{
+    for node in nodes {
+        if is_member(node, asker) {
             return true;
         }
     }

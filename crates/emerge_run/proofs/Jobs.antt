@@ -8,7 +8,6 @@ use Rattle.emerge_choose.specs.declared.chosen.Chosen.{Chosen}
 use Rattle.emerge_find.specs.Shapes.{HaveAsMany, IsInShape}
 use Rattle.run_turns.specs.Plans.{bytes_of_job, line_for, line_of_job, orders_at}
 use Rattle.run_turns.specs.declared.job.Job.{Job}
-use Rattle.run_orders.specs.Orders.{order_of}
 use Rattle.plan_text.specs.Plans.{GroupValue, group_value, plan_value}
 use Rattle.plan_text.specs.declared.plan.Group.{Group as TextGroup}
 use Rattle.emerge_run.specs.Builds.{AreJobsOf, line_of, line_or_none, lines_from, ordered_of_job, orders_in, orders_or_none}
@@ -46,7 +45,7 @@ orders_long : (ts : List GroupValue) (plan : List Group) (place : ℕ) → AllZi
 orders_long [] [] place zip lt = absurd (omega (arith, lt))
 orders_long [] (g ∷ gs) place zip lt = absurd zip
 orders_long (t ∷ ts) [] place zip lt = absurd zip
-orders_long (t ∷ ts) (g ∷ gs) zero zip lt = length-map t.additions order_of ∙ zip.0
+orders_long (t ∷ ts) (g ∷ gs) zero zip lt = zip.0
 orders_long (t ∷ ts) (g ∷ gs) (suc place) zip lt = orders_long ts gs place zip.1 (omega (arith, lt))
 
 lines_length : (k : ℕ) (plan : List Group) → length (lines_from k plan) ≡ length plan

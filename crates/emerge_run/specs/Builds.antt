@@ -1,5 +1,5 @@
 -- What is ordered for the plan that a run has found, and the lines of its groups.
-use Rattle.std.specs.Prelude.{◌≡◌, ◌<◌, ℕ, zero, suc, List, [], ◌∷◌, Option, None, Some, length, map, slice_get}
+use Rattle.std.specs.Prelude.{◌≡◌, ◌<◌, ℕ, zero, suc, List, [], ◌∷◌, Option, None, Some, length, slice_get}
 use Rattle.basics.specs.Members.{Has}
 use Rattle.build_pool.specs.declared.orders.Order.{Order}
 use Rattle.dep_atom.specs.declared.package.PackageId.{PackageId}
@@ -9,14 +9,13 @@ use Rattle.plan_law.specs.Plans.{Group}
 use Rattle.emerge_choose.specs.declared.chosen.Chosen.{Chosen}
 use Rattle.run_turns.specs.Plans.{AreJobs, line_for, orders_at}
 use Rattle.run_turns.specs.declared.job.Job.{Job}
-use Rattle.run_orders.specs.Orders.{order_of}
 use Rattle.run_sound.specs.Ends.{Images}
 use Rattle.plan_text.specs.Plans.{GroupValue, plan_value}
 use Rattle.merge_report.specs.Texts.{done_line}
 
--- what is ordered for the additions of a group
+-- what is ordered for a group: the additions of its text
 abbrev pub orders_in : GroupValue → List Order
-orders_in g = map order_of g.additions
+orders_in g = g.additions
 
 abbrev pub orders_or_none : Option GroupValue → List Order
 orders_or_none None = []

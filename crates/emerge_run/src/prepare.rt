@@ -1,15 +1,14 @@
-ghost use Rattle.std.specs.Prelude.{◌≡◌, ◌<◌, ◌^◌, All, IfOk, length, map};
+ghost use Rattle.std.specs.Prelude.{◌≡◌, ◌<◌, ◌^◌, IfOk, length, map};
 ghost use Rattle.std.specs.List.{AllZip};
 ghost use Rattle.emerge_find.specs.Shapes.{HaveAsMany};
 ghost use Rattle.run_turns.specs.Plans.{bytes_of_job};
-ghost use Rattle.run_orders.specs.Orders.{HasRisingFlags};
-ghost use Rattle.plan_text.specs.Plans.{addition_value, group_value};
+ghost use Rattle.plan_text.specs.Plans.{group_value};
 ghost use Rattle.merge_report.specs.Texts.{done_line};
 ghost use Rattle.emerge_run.specs.Builds.{lines_from, ordered_of_job, orders_in};
 
+use build_pool::Order;
 use merge_report::line_of_group;
 use plan_lives::Group;
-use run_orders::orders_of;
 use run_turns::Job;
 use std::alloc::{AllocError, Global};
 
@@ -20,8 +19,6 @@ pub fn jobs_of(
     texts: &[plan_text::Group],
     plan: &[Group],
 ) -> Result<Vec<Job>, AllocError>
-    requires rising { All (λ t. All HasRisingFlags (map addition_value t.additions.items))
-        texts.now }
     requires alike { AllZip HaveAsMany (map group_value texts.now) plan.now }
     requires few { length plan.now < 2 ^ 32 }
     ensures lines { IfOk result (λ v. map bytes_of_job v.items ≡ lines_from 1 plan.now) }
@@ -43,12 +40,22 @@ fn job_of(
     group: &Group,
     number: u32,
 ) -> Result<Job, AllocError>
-    requires { All HasRisingFlags (map addition_value text.now.additions.items) }
     ensures line { IfOk result (λ j. j.line.items ≡ done_line group.now number) }
     ensures orders { IfOk result (λ j. j.orders.items ≡ orders_in (group_value text.now)) }
 {
     let told = line_of_group(alloc, group, number)?;
     let line = told.as_bytes().to_vec(alloc)?;
-    let orders = orders_of(alloc, &text.additions)?;
+    let orders = copies_of(alloc, &text.additions)?;
     Ok(Job { line, orders })
+}
+
+/// Copies of the orders, in turn.
+fn copies_of(alloc: Global, orders: &[Order]) -> Result<Vec<Order>, AllocError>
+    ensures { IfOk result (λ copies. copies.items ≡ orders.now) }
+{
+    let mut copies = Vec::with_capacity(alloc, orders.len())?;
+    for order in orders {
+        copies.push(order.try_clone()?)?;
+    }
+    Ok(copies)
 }

@@ -43,7 +43,7 @@ met_alike : (ps qs : List Package) → AreSame ps qs → (class : Class) (p : Pa
 met_alike ps qs same class p =
     let facts : (λ (a : AtomValue). is_fact (facts_of ps) p.facts.enabled a) ≡ (λ (a : AtomValue). is_fact (facts_of qs) p.facts.enabled a) =
     λ i a. is_block a || same_tests (some_match (facts_of ps) p.facts.enabled a) (some_match (facts_of qs) p.facts.enabled a) (some_matches ps qs same p.facts.enabled a) (some_matches qs ps (same_back ps qs same) p.facts.enabled a) i in
-    ap (λ (fact : AtomValue → Bool). all_hold kind fact (has p.facts.enabled) (tree_of class p)) facts
+    ap (λ (fact : AtomValue → Bool). all_hold (tree_of class p).empty_holds kind fact (has p.facts.enabled) (tree_of class p).groups) facts
 
 -- folders in byte order differ
 distinct_folders : (qs : List Installed) → IsRising (map folder_name qs) → AreDistinct (map folder_name qs)

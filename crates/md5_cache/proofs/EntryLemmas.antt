@@ -13,6 +13,7 @@ use Rattle.pms_slot.specs.Slots.{IsSlotValue}
 use Rattle.md5_cache.specs.Entries.{value_of}
 use Rattle.md5_cache.specs.EntryFaults.{FirstEntryFault, IsEntry, IsOutdated, Records, of_fields}
 use Rattle.md5_cache.specs.FieldFaults.{FirstFieldFault}
+use Rattle.pkg_state.specs.declared.eapi.Eapi.{Eapi}
 use Rattle.md5_cache.specs.Fields.{AreFields, IsGood, IsFieldInForm, field_of, value_under}
 use Rattle.md5_cache.specs.Pairs.{IsPairsText, pairs_of}
 use Rattle.md5_cache.specs.declared.fault.CacheFault.{CacheFault}
@@ -21,24 +22,24 @@ use Rattle.md5_cache.specs.declared.fault.FieldFault.TheVariants as faults
 use Rattle.md5_cache.specs.declared.field.Field.TheVariants.{Digest, Slot}
 use Rattle.md5_cache.specs.declared.pair.Pair.{Pair}
 
-either : (b : Bool) (p : Pair) (rest : Option (List ℕ)) (key : List ℕ) → (b ≡ true → p.key ≡ key) → IsGood p → (IsSome rest → IsFieldInForm (field_of key) (unwrap_or rest []))
-    → IsSome (cond b (Some p.value) rest) → IsFieldInForm (field_of key) (unwrap_or (cond b (Some p.value) rest) [])
-either true p rest key same good later there = subst (λ (k : List ℕ). IsFieldInForm (field_of k) p.value) (same refl) good
-either false p rest key same good later there = later there
+either : (e : Eapi) (b : Bool) (p : Pair) (rest : Option (List ℕ)) (key : List ℕ) → (b ≡ true → p.key ≡ key) → IsGood e p → (IsSome rest → IsFieldInForm (field_of e key) (unwrap_or rest []))
+    → IsSome (cond b (Some p.value) rest) → IsFieldInForm (field_of e key) (unwrap_or (cond b (Some p.value) rest) [])
+either e true p rest key same good later there = subst (λ (k : List ℕ). IsFieldInForm (field_of e k) p.value) (same refl) good
+either e false p rest key same good later there = later there
 
-in_form : (pairs : List Pair) (key : List ℕ) → AllByRecursion IsGood pairs → IsSome (value_under pairs key) → IsFieldInForm (field_of key) (value_of pairs key)
-in_form [] key each there = absurd (cc there)
-in_form (p ∷ pairs) key each there =
-    either (bytes_eq p.key key) p (value_under pairs key) key (λ e. (bytes_eq-Decides p.key key).0 e) each.0 (in_form pairs key each.1) there
+in_form : (e : Eapi) (pairs : List Pair) (key : List ℕ) → AllByRecursion (IsGood e) pairs → IsSome (value_under pairs key) → IsFieldInForm (field_of e key) (value_of pairs key)
+in_form e [] key each there = absurd (cc there)
+in_form e (p ∷ pairs) key each there =
+    either e (bytes_eq p.key key) p (value_under pairs key) key (λ same. (bytes_eq-Decides p.key key).0 same) each.0 (in_form e pairs key each.1) there
 
 pub slots_are_said : (pairs : List Pair) (text : List ℕ) → AreFields pairs → text ≡ value_of pairs (codes "SLOT") → SaysNone text → ⊥
-slots_are_said pairs text f is none =
-    let form : IsFieldInForm Slot (value_of pairs (codes "SLOT")) = in_form pairs (codes "SLOT") f.each f.slot in
+slots_are_said pairs text (e, f) is none =
+    let form : IsFieldInForm Slot (value_of pairs (codes "SLOT")) = in_form e pairs (codes "SLOT") f.each f.slot in
     none form.0 form.1 (subst (λ (t : List ℕ). IsSlotValue t form.0 form.1) (sym is) form.2)
 
 pub digest_is_said : (pairs : List Pair) (text : List ℕ) → AreFields pairs → text ≡ value_of pairs (codes "_md5_") → IsNoDigestText text → ⊥
-digest_is_said pairs text f is none =
-    let form : IsFieldInForm Digest (value_of pairs (codes "_md5_")) = in_form pairs (codes "_md5_") f.each f.digest in
+digest_is_said pairs text (e, f) is none =
+    let form : IsFieldInForm Digest (value_of pairs (codes "_md5_")) = in_form e pairs (codes "_md5_") f.each f.digest in
     none form.0 (subst (λ (t : List ℕ). WritesDigest t form.0) (sym is) form.1)
 
 -- a text writes one digest

@@ -11,7 +11,10 @@ use Rattle.std.proofs.lemmas.Slice.Eq.{bytes_eq-Decides}
 use Rattle.std.proofs.lemmas.List.{drop_all, take_all, take_more, take-append-drop}
 use Rattle.std.proofs.Math.Seq.{drop-cons}
 use Rattle.md5_cache.specs.FieldFaults.{HasNoOther, IsFirstBad, IsOther}
-use Rattle.md5_cache.specs.Fields.{AreFields, IsGood, IsFieldInForm, field_of, first_absent, value_under}
+use Rattle.pkg_state.proofs.Editions.{one_eapi}
+use Rattle.pkg_state.specs.Eapis.{IsNoEapi, eapi_text}
+use Rattle.pkg_state.specs.declared.eapi.Eapi.{Eapi}
+use Rattle.md5_cache.specs.Fields.{AreFields, AreFieldsOf, IsGood, IsFieldInForm, IsOfEdition, field_of, first_absent, value_under}
 use Rattle.md5_cache.specs.declared.field.Field.{Field as Kind}
 use Rattle.md5_cache.specs.declared.pair.Pair.{Pair}
 
@@ -37,12 +40,12 @@ value_next pairs place d item key within is before other =
 pub value_none : (pairs : List Pair) (place : ℕ) (key : List ℕ) → length pairs ≤ place → value_under (drop place pairs) key ≡ value_under pairs key → value_under pairs key ≡ None
 value_none pairs place key past before = sym before ∙ ap (λ (l : List Pair). value_under l key) (drop_all place pairs past)
 
-pub good_next : (pairs : List Pair) (place : ℕ) (d item : Pair) → place < length pairs → item ≡ get_or pairs place d → AllByRecursion IsGood (take place pairs) → IsGood item → AllByRecursion IsGood (take (place + 1) pairs)
-good_next pairs place d item within is before good =
-    subst (AllByRecursion IsGood) (sym (take_more pairs place d within)) (all-push IsGood (take place pairs) (get_or pairs place d) before (subst IsGood is good))
+pub good_next : (e : Eapi) (pairs : List Pair) (place : ℕ) (d item : Pair) → place < length pairs → item ≡ get_or pairs place d → AllByRecursion (IsGood e) (take place pairs) → IsGood e item → AllByRecursion (IsGood e) (take (place + 1) pairs)
+good_next e pairs place d item within is before good =
+    subst (AllByRecursion (IsGood e)) (sym (take_more pairs place d within)) (all-push (IsGood e) (take place pairs) (get_or pairs place d) before (subst (IsGood e) is good))
 
-pub bad_here : (pairs : List Pair) (place : ℕ) (d item : Pair) → place < length pairs → item ≡ get_or pairs place d → AllByRecursion IsGood (take place pairs) → (IsGood item → ⊥) → IsFirstBad pairs item.key
-bad_here pairs place d item within is before bad =
+pub bad_here : (e : Eapi) (pairs : List Pair) (place : ℕ) (d item : Pair) → place < length pairs → item ≡ get_or pairs place d → AllByRecursion (IsGood e) (take place pairs) → (IsGood e item → ⊥) → IsFirstBad e pairs item.key
+bad_here e pairs place d item within is before bad =
     record {
       front = take place pairs;
       bad = item;
@@ -53,18 +56,18 @@ bad_here pairs place d item within is before bad =
       named = refl;
     }
 
-pub all_good : (pairs : List Pair) (place : ℕ) → length pairs ≤ place → AllByRecursion IsGood (take place pairs) → AllByRecursion IsGood pairs
-all_good pairs place past before = subst (AllByRecursion IsGood) (take_all place pairs past) before
+pub all_good : (e : Eapi) (pairs : List Pair) (place : ℕ) → length pairs ≤ place → AllByRecursion (IsGood e) (take place pairs) → AllByRecursion (IsGood e) pairs
+all_good e pairs place past before = subst (AllByRecursion (IsGood e)) (take_all place pairs past) before
 
-good_at : (front : List Pair) (bad : Pair) (rest : List Pair) → AllByRecursion IsGood (front ++ (bad ∷ rest)) → IsGood bad
-good_at [] bad rest each = each.0
-good_at (x ∷ front) bad rest each = good_at front bad rest each.1
+good_at : (e : Eapi) (front : List Pair) (bad : Pair) (rest : List Pair) → AllByRecursion (IsGood e) (front ++ (bad ∷ rest)) → IsGood e bad
+good_at e [] bad rest each = each.0
+good_at e (x ∷ front) bad rest each = good_at e front bad rest each.1
 
 same_some : (x y : List ℕ) → Some x ≡ Some y → x ≡ y
 same_some x y e = cc
 
 pub no_other : (pairs : List Pair) (text : List ℕ) → AreFields pairs → IsOther pairs text → ⊥
-no_other pairs text f o = o.other (same_some text (codes "8") (sym o.there ∙ f.edition))
+no_other pairs text f o = o.other f.0 (same_some (eapi_text f.0) text (sym f.1.edition ∙ o.there))
 
 three : {A : Type 0} (a b c : Bool) (x y z : A) → a ≡ true → b ≡ true → c ≡ true → cond a (cond b (cond c None (Some x)) (Some y)) (Some z) ≡ None
 three true true true x y z e f g = refl
@@ -75,18 +78,18 @@ three true true false x y z e f g = absurd (cc g)
 pub all_there : (pairs : List Pair) → AreFields pairs → first_absent pairs ≡ None
 all_there pairs f =
     three (is_some (value_under pairs (codes "EAPI"))) (is_some (value_under pairs (codes "SLOT"))) (is_some (value_under pairs (codes "_md5_"))) (codes "_md5_") (codes "SLOT") (codes "EAPI")
-    (ap is_some f.edition) f.slot f.digest
+    (ap is_some f.1.edition) f.1.slot f.1.digest
 
-pub good_from : (item : Pair) (field : Kind) (key value : List ℕ) → field ≡ field_of key → key ≡ item.key → value ≡ item.value → IsFieldInForm field value → IsGood item
-good_from item field key value kind keys values form =
-    subst (λ (v : List ℕ). IsFieldInForm (field_of item.key) v) values (subst (λ (f : Kind). IsFieldInForm f value) (kind ∙ ap field_of keys) form)
+pub good_from : (e : Eapi) (item : Pair) (field : Kind) (key value : List ℕ) → field ≡ field_of e key → key ≡ item.key → value ≡ item.value → IsFieldInForm field value → IsGood e item
+good_from e item field key value kind keys values form =
+    subst (λ (v : List ℕ). IsFieldInForm (field_of e item.key) v) values (subst (λ (f : Kind). IsFieldInForm f value) (kind ∙ ap (field_of e) keys) form)
 
-pub good_to : (item : Pair) (field : Kind) (key value : List ℕ) → field ≡ field_of key → key ≡ item.key → value ≡ item.value → IsGood item → IsFieldInForm field value
-good_to item field key value kind keys values good =
-    subst (λ (f : Kind). IsFieldInForm f value) (sym (kind ∙ ap field_of keys)) (subst (λ (v : List ℕ). IsFieldInForm (field_of item.key) v) (sym values) good)
+pub good_to : (e : Eapi) (item : Pair) (field : Kind) (key value : List ℕ) → field ≡ field_of e key → key ≡ item.key → value ≡ item.value → IsGood e item → IsFieldInForm field value
+good_to e item field key value kind keys values good =
+    subst (λ (f : Kind). IsFieldInForm f value) (sym (kind ∙ ap (field_of e) keys)) (subst (λ (v : List ℕ). IsFieldInForm (field_of e item.key) v) (sym values) good)
 
-pub no_bad : (pairs : List Pair) (key : List ℕ) → AllByRecursion IsGood pairs → IsFirstBad pairs key → ⊥
-no_bad pairs key each bad = bad.wrong (good_at bad.front bad.bad bad.rest (subst (AllByRecursion IsGood) bad.place each))
+pub no_bad : (e : Eapi) (pairs : List Pair) (key : List ℕ) → AllByRecursion (IsGood e) pairs → IsFirstBad e pairs key → ⊥
+no_bad e pairs key each bad = bad.wrong (good_at e bad.front bad.bad bad.rest (subst (AllByRecursion (IsGood e)) bad.place each))
 
 three_back : {A : Type 0} (a b c : Bool) (x y z : A) → cond a (cond b (cond c None (Some x)) (Some y)) (Some z) ≡ None → (a ≡ true) × (b ≡ true) × (c ≡ true)
 three_back true true true x y z e = (refl, refl, refl)
@@ -94,22 +97,27 @@ three_back false b c x y z e = absurd (cc e)
 three_back true false c x y z e = absurd (cc e)
 three_back true true false x y z e = absurd (cc e)
 
-edition_of : (o : Option (List ℕ)) → is_some o ≡ true → ((t : List ℕ) → o ≡ Some t → (t ≢ codes "8") → ⊥) → o ≡ Some (codes "8")
-edition_of None e h = absurd (cc e)
-edition_of (Some t) e h = elim (cases_Bool (bytes_eq t (codes "8"))) [
-  | inl same ↦ ap (λ (x : List ℕ). Some x) ((bytes_eq-Decides t (codes "8")).0 same)
-  | inr other ↦ absurd (h t refl (λ is. false≢true (sym other ∙ (bytes_eq-Decides t (codes "8")).1 is)))
-]
-
-pub are_fields : (pairs : List Pair) → HasNoOther pairs → first_absent pairs ≡ None → AllByRecursion IsGood pairs → AreFields pairs
-are_fields pairs none there each =
+-- the pairs with all fields there and an edition that is read, where no value is bad in it
+pub are_fields : (pairs : List Pair) (e : Eapi) → IsOfEdition pairs e → first_absent pairs ≡ None → AllByRecursion (IsGood e) pairs → AreFieldsOf e pairs
+are_fields pairs e is there each =
     let all = three_back (is_some (value_under pairs (codes "EAPI"))) (is_some (value_under pairs (codes "SLOT"))) (is_some (value_under pairs (codes "_md5_"))) (codes "_md5_") (codes "SLOT") (codes "EAPI") there in
-    record {
-      edition = edition_of (value_under pairs (codes "EAPI")) all.0 (λ t is other. none t (record { there = is; other = other }));
-      slot = all.1;
-      digest = all.2;
-      each = each;
-    }
+    record { edition = is; slot = all.1; digest = all.2; each = each }
+
+no_text : (o : Option (List ℕ)) → is_some o ≡ true → ((e : Eapi) → o ≡ Some (eapi_text e) → ⊥) → ((t : List ℕ) → o ≡ Some t → IsNoEapi t → ⊥) → ⊥
+no_text None e none h = absurd (cc e)
+no_text (Some t) e none h = h t refl (λ e is. none e (ap (λ (x : List ℕ). Some x) (sym is)))
+
+-- where EAPI is there and no text of another edition, it is that of one which is read
+pub edition_there : (pairs : List Pair) → HasNoOther pairs → first_absent pairs ≡ None → ((e : Eapi) → IsOfEdition pairs e → ⊥) → ⊥
+edition_there pairs none there no_edition =
+    let all = three_back (is_some (value_under pairs (codes "EAPI"))) (is_some (value_under pairs (codes "SLOT"))) (is_some (value_under pairs (codes "_md5_"))) (codes "_md5_") (codes "SLOT") (codes "EAPI") there in
+    no_text (value_under pairs (codes "EAPI")) all.0 no_edition (λ t is other. none t (record { there = is; other = other }))
+
+-- an entry has no first bad pair in the edition that it says
+pub none_bad : (e : Eapi) (pairs : List Pair) (key : List ℕ) → AreFields pairs → IsOfEdition pairs e → IsFirstBad e pairs key → ⊥
+none_bad e pairs key f is bad =
+    let same : e ≡ f.0 = one_eapi e f.0 (same_some (eapi_text e) (eapi_text f.0) (sym is ∙ f.1.edition)) in
+    no_bad f.0 pairs key f.1.each (subst (λ (x : Eapi). IsFirstBad x pairs key) same bad)
 
 pub slot_told : (o : Option SlotValue) (text value : List ℕ) (b : Bool) → MatchOption o (SaysNone text) (λ v. IsSlotValue text v.slot v.subslot) → text ≡ value → b ≡ is_some o
     → (IsTrue b → (slot : List ℕ) × (subslot : List ℕ) × IsSlotValue value slot subslot) × (((slot : List ℕ) × (subslot : List ℕ) × IsSlotValue value slot subslot) → IsTrue b)

@@ -1,5 +1,5 @@
 -- The fields of an entry, and which values they may have (PMS 14.3, 7.2, 7.3).
-use Rattle.std.specs.Prelude.{◌≡◌, ◌||◌, ℕ, Bool, List, [], ◌∷◌, Option, None, Some, IsSome, bytes_eq, codes, if◌then◌else◌, is_some, ⊤}
+use Rattle.std.specs.Prelude.{◌≡◌, ◌&&◌, ◌||◌, ℕ, Bool, List, [], ◌∷◌, Option, None, Some, IsSome, bytes_eq, codes, if◌then◌else◌, is_some, ⊤}
 use Rattle.std.specs.List.{AllByRecursion}
 use Rattle.dep_tree.specs.Texts.{AreDependencies}
 use Rattle.file_digest.specs.Digests.{WritesDigest}
@@ -7,6 +7,11 @@ use Rattle.required_use.specs.Texts.{IsExpression}
 use Rattle.pms_slot.specs.Slots.{IsSlotValue}
 use Rattle.use_flags.specs.Items.{IsItem}
 use Rattle.use_flags.specs.Words.{EachWord}
+use Rattle.pkg_state.specs.Eapis.{eapi_text, has_class}
+use Rattle.pkg_state.specs.Package.{class_word}
+use Rattle.pkg_state.specs.declared.class.Class.{Class}
+use Rattle.pkg_state.specs.declared.class.Class.TheVariants.{Rdepend, Pdepend, Depend, Bdepend, Idepend}
+use Rattle.pkg_state.specs.declared.eapi.Eapi.{Eapi}
 use Rattle.md5_cache.specs.declared.field.Field.{Field}
 use Rattle.md5_cache.specs.declared.field.Field.TheVariants.{Digest, Iuse, Needs, Other, Required, Slot}
 use Rattle.md5_cache.specs.declared.pair.Pair.{Pair}
@@ -17,21 +22,28 @@ value_under [] key = None
 value_under (p ∷ pairs) key =
     if bytes_eq p.key key then Some p.value else value_under pairs key
 
--- the key is that of a class of dependencies
-abbrev pub is_class : List ℕ → Bool
-is_class key =
-    bytes_eq key (codes "RDEPEND") || (bytes_eq key (codes "PDEPEND") ||
-    (bytes_eq key (codes "DEPEND") || (bytes_eq key (codes "BDEPEND") ||
-    bytes_eq key (codes "IDEPEND"))))
+-- the pairs are said to be of this edition
+abbrev pub IsOfEdition : List Pair → Eapi → Type 0
+IsOfEdition pairs e = value_under pairs (codes "EAPI") ≡ Some (eapi_text e)
 
--- which field the key names
-abbrev pub field_of : List ℕ → Field
-field_of key =
+-- the key is that of this class of dependencies, which the edition has
+abbrev pub names_class : Eapi → List ℕ → Class → Bool
+names_class e key class = has_class e class && bytes_eq key (class_word class)
+
+-- the key is that of a class of dependencies of the edition
+abbrev pub is_class : Eapi → List ℕ → Bool
+is_class e key =
+    names_class e key Rdepend || (names_class e key Pdepend || (names_class e key Depend ||
+    (names_class e key Bdepend || names_class e key Idepend)))
+
+-- which field the key names in an entry of the edition
+abbrev pub field_of : Eapi → List ℕ → Field
+field_of e key =
     if bytes_eq key (codes "SLOT") then Slot
     else if bytes_eq key (codes "_md5_") then Digest
     else if bytes_eq key (codes "IUSE") then Iuse
     else if bytes_eq key (codes "REQUIRED_USE") then Required
-    else if is_class key then Needs
+    else if is_class e key then Needs
     else Other
 
 -- the field may have the value
@@ -43,9 +55,9 @@ IsFieldInForm Required value = IsExpression value
 IsFieldInForm Needs value = AreDependencies value
 IsFieldInForm Other value = ⊤
 
--- the key of the pair may have its value
-abbrev pub IsGood : Pair → Type 0
-IsGood p = IsFieldInForm (field_of p.key) p.value
+-- in an entry of the edition the key of the pair may have its value
+abbrev pub IsGood : Eapi → Pair → Type 0
+IsGood e p = IsFieldInForm (field_of e p.key) p.value
 
 -- the first of the keys that must be there and isn't
 abbrev pub first_absent : List Pair → Option (List ℕ)
@@ -57,9 +69,13 @@ first_absent pairs =
     else Some (codes "SLOT")
     else Some (codes "EAPI")
 
--- the pairs are those of an entry of the one edition that is read
-pub record AreFields (pairs : List Pair) : Type 0 where
-  pub edition : value_under pairs (codes "EAPI") ≡ Some (codes "8")
+-- the pairs are those of an entry of this edition
+pub record AreFieldsOf (e : Eapi) (pairs : List Pair) : Type 0 where
+  pub edition : IsOfEdition pairs e
   pub slot : IsSome (value_under pairs (codes "SLOT"))
   pub digest : IsSome (value_under pairs (codes "_md5_"))
-  pub each : AllByRecursion IsGood pairs
+  pub each : AllByRecursion (IsGood e) pairs
+
+-- the pairs are those of an entry of an edition that is read
+abbrev pub AreFields : List Pair → Type 0
+AreFields pairs = (e : Eapi) × AreFieldsOf e pairs

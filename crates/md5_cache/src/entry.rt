@@ -1,6 +1,7 @@
 ghost use Rattle.std.specs.Prelude.{◌≡◌, IfErr, IfOk, OnOk};
 ghost use Rattle.md5_cache.specs.Entries.{Tells};
 ghost use Rattle.md5_cache.specs.EntryFaults.{FirstEntryFault, IsEntry};
+ghost use Rattle.md5_cache.specs.Fields.{AreFieldsOf};
 ghost use Rattle.md5_cache.specs.Pairs.{pairs_of};
 ghost use Rattle.md5_cache.specs.declared.fault.CacheFault.TheVariants as faults;
 
@@ -11,7 +12,7 @@ use crate::pair::{Pair, pairs};
 use crate::parts::entry_of;
 use basics::Text;
 use dep_atom::PackageId;
-use pkg_state::Pkg;
+use pkg_state::{Eapi, Pkg};
 use pms_names::Flags;
 use std::alloc::Global;
 use std::marker::Model;
@@ -42,6 +43,13 @@ impl Model for CacheEntry {
     } };
 }
 
+/// The pairs of an entry, with its edition.
+#[derive(Debug, Drop)]
+struct EntryPairs {
+    edition: Eapi,
+    pairs: Vec<Pair>,
+}
+
 /// Reads the entry of the package with this id, whose ebuild has these bytes.
 pub fn read_entry(
     alloc: Global,
@@ -54,19 +62,20 @@ pub fn read_entry(
     ensures only { IsEntry bytes.now ebuild.now → IfErr result (λ e. e ≡ faults.Memory) }
     ensures fault { IfErr result (FirstEntryFault bytes.now ebuild.now) }
 {
-    let pairs = entry_pairs(alloc, bytes, ebuild)?;
-    Ok(entry_of(alloc, id, &pairs)?)
+    let entry = entry_pairs(alloc, bytes, ebuild)?;
+    Ok(entry_of(alloc, id, entry.edition, &entry.pairs)?)
 }
 
 /// The pairs of an entry that was made of this ebuild.
-fn entry_pairs(alloc: Global, bytes: &[u8], ebuild: &[u8]) -> Result<Vec<Pair>, CacheFault>
-    ensures found { IfOk result (λ v. v.items ≡ pairs_of bytes.now) }
+fn entry_pairs(alloc: Global, bytes: &[u8], ebuild: &[u8]) -> Result<EntryPairs, CacheFault>
+    ensures found { IfOk result (λ e. e.pairs.items ≡ pairs_of bytes.now) }
+    ensures fields { IfOk result (λ e. AreFieldsOf e.edition e.pairs.items) }
     ensures form { OnOk result (IsEntry bytes.now ebuild.now) }
     ensures only { IsEntry bytes.now ebuild.now → IfErr result (λ e. e ≡ faults.Memory) }
     ensures fault { IfErr result (FirstEntryFault bytes.now ebuild.now) }
 {
     let pairs = pairs(alloc, bytes)?;
-    check_fields(alloc, &pairs)?;
+    let edition = check_fields(alloc, &pairs)?;
     check_digest(&pairs, ebuild)?;
-    Ok(pairs)
+    Ok(EntryPairs { edition, pairs })
 }

@@ -24,7 +24,7 @@ pub enum PairFault {
 /// Why pairs are none of an entry. Where several hold, the first of these is given.
 #[derive(Debug, Drop, Error)]
 pub enum FieldFault {
-    /// The text of EAPI, where it isn't 8.
+    /// The text of EAPI, where no edition that is read has it.
     #[error("another edition")]
     Eapi { text: Text },
     /// The first of EAPI, SLOT and `_md5_` that is absent, else that of the first line whose value
@@ -47,7 +47,7 @@ pub enum CacheFault {
     /// The first key that comes a second time.
     #[error("a key that stands twice")]
     Repeated { key: Text },
-    /// The text of EAPI, where it isn't 8.
+    /// The text of EAPI, where no edition that is read has it.
     #[error("another edition")]
     Eapi { text: Text },
     /// The first of EAPI, SLOT and `_md5_` that is absent, else that of the first line whose value

@@ -1,14 +1,15 @@
-ghost use Rattle.std.specs.Prelude.{◌≡◌, IfErr, IfOk, MatchOption, None, OnOk, Some};
+ghost use Rattle.std.specs.Prelude.{◌≡◌, IfErr, IfOk, MatchOption, None, Some};
 ghost use Rattle.std.specs.List.{AllByRecursion};
 ghost use Rattle.md5_cache.specs.FieldFaults.{FirstFieldFault, HasNoOther, IsFirstBad, IsOther};
-ghost use Rattle.md5_cache.specs.Fields.{AreFields, IsGood, field_of, first_absent, is_class};
-ghost use Rattle.md5_cache.specs.Fields.{value_under};
+ghost use Rattle.md5_cache.specs.Fields.{AreFields, AreFieldsOf, IsGood, IsOfEdition, field_of};
+ghost use Rattle.md5_cache.specs.Fields.{first_absent, is_class, names_class, value_under};
 ghost use Rattle.md5_cache.specs.declared.fault.FieldFault.TheVariants.{Memory};
 
 use crate::fault::FieldFault;
 use crate::form::is_in_form;
 use crate::pair::Pair;
 use basics::Text;
+use pkg_state::{Class, Eapi};
 use std::alloc::{AllocError, Global};
 
 /// What a key of an entry names.
@@ -24,10 +25,11 @@ pub(crate) enum Field {
     Other,
 }
 
-/// Whether the pairs are those of an entry: EAPI is 8, SLOT and `_md5_` are there, and each value is
-/// in form. A key that is absent stands for an empty value.
-pub fn check_fields(alloc: Global, pairs: &[Pair]) -> Result<(), FieldFault>
-    ensures fields { OnOk result (AreFields pairs.now) }
+/// The edition of the entry, where the pairs are those of one: EAPI, SLOT and `_md5_` are there, and
+/// each value is in form. A key that is absent stands for an empty value; that of a class which the
+/// edition lacks may have any.
+pub fn check_fields(alloc: Global, pairs: &[Pair]) -> Result<Eapi, FieldFault>
+    ensures fields { IfOk result (λ e. AreFieldsOf e pairs.now) }
     ensures only { AreFields pairs.now → IfErr result (λ e. e ≡ Memory) }
     ensures fault { IfErr result (FirstFieldFault pairs.now) }
 {
@@ -41,11 +43,14 @@ pub fn check_fields(alloc: Global, pairs: &[Pair]) -> Result<(), FieldFault>
             key: Text::new(alloc, key)?,
         });
     }
-    match first_bad(alloc, pairs)? {
+    let Some(edition) = edition_of(pairs) else {
+        unreachable!()
+    };
+    match first_bad(alloc, edition, pairs)? {
         Some(key) => Err(FieldFault::Field {
             key: key.try_clone()?,
         }),
-        None => Ok(()),
+        None => Ok(edition),
     }
 }
 
@@ -62,12 +67,19 @@ pub fn value_under<'a>(pairs: &'a [Pair], key: &str) -> Option<&'a str>
     None
 }
 
-/// The text of EAPI, where it is there and isn't 8.
+/// The edition that EAPI says, where it is one that is read.
+fn edition_of(pairs: &[Pair]) -> Option<Eapi>
+    ensures { MatchOption result ((e : Eapi) → ¬ IsOfEdition pairs.now e) (IsOfEdition pairs.now) }
+{
+    Eapi::from_text(value_under(pairs, "EAPI")?)
+}
+
+/// The text of EAPI, where it is there and that of no edition which is read.
 fn other_edition(pairs: &[Pair]) -> Option<&str>
     ensures { MatchOption result (HasNoOther pairs.now) (λ text. IsOther pairs.now text.now) }
 {
     match value_under(pairs, "EAPI") {
-        Some(text) if text != "8" => Some(text),
+        Some(text) if Eapi::from_text(text).is_none() => Some(text),
         _ => None,
     }
 }
@@ -89,21 +101,22 @@ fn first_absent(pairs: &[Pair]) -> Option<&'static str>
     None
 }
 
-/// The key of the first pair whose value isn't in form.
-fn first_bad(alloc: Global, pairs: &[Pair]) -> Result<Option<&Text>, AllocError>
-    ensures { IfOk result (λ r. MatchOption r (AllByRecursion IsGood pairs.now)
-        (λ key. IsFirstBad pairs.now key.now)) }
+/// The key of the first pair whose value isn't in form, in an entry of the edition.
+fn first_bad(alloc: Global, edition: Eapi, pairs: &[Pair]) -> Result<Option<&Text>, AllocError>
+    ensures { IfOk result (λ r. MatchOption r (AllByRecursion (IsGood edition) pairs.now)
+        (λ key. IsFirstBad edition pairs.now key.now)) }
 {
     for pair in pairs {
-        if !is_in_form(alloc, field_of(pair.key.as_str()), pair.value.as_str())? {
+        let field = field_of(edition, pair.key.as_str());
+        if !is_in_form(alloc, field, pair.value.as_str())? {
             return Ok(Some(&pair.key));
         }
     }
     Ok(None)
 }
 
-fn field_of(key: &str) -> Field
-    ensures { result ≡ field_of key.now }
+fn field_of(edition: Eapi, key: &str) -> Field
+    ensures { result ≡ field_of edition key.now }
 {
     if key == "SLOT" {
         Field::Slot
@@ -113,15 +126,26 @@ fn field_of(key: &str) -> Field
         Field::Iuse
     } else if key == "REQUIRED_USE" {
         Field::Required
-    } else if is_class(key) {
+    } else if is_class(edition, key) {
         Field::Needs
     } else {
         Field::Other
     }
 }
 
-fn is_class(key: &str) -> bool
-    ensures { result ≡ is_class key.now }
+fn is_class(edition: Eapi, key: &str) -> bool
+    ensures { result ≡ is_class edition key.now }
 {
-    key == "RDEPEND" || key == "PDEPEND" || key == "DEPEND" || key == "BDEPEND" || key == "IDEPEND"
+    names_class(edition, key, Class::Rdepend)
+        || names_class(edition, key, Class::Pdepend)
+        || names_class(edition, key, Class::Depend)
+        || names_class(edition, key, Class::Bdepend)
+        || names_class(edition, key, Class::Idepend)
+}
+
+/// Whether the key is that of a class of dependencies which the edition has.
+fn names_class(edition: Eapi, key: &str, class: Class) -> bool
+    ensures { result ≡ names_class edition key.now class }
+{
+    edition.has_class(class) && key == class.word()
 }

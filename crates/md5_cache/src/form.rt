@@ -1,4 +1,6 @@
-ghost use Rattle.std.specs.Prelude.{◌↔◌, IfOk, IsTrue};
+ghost use Rattle.std.specs.Prelude.{◌≡◌, ◌↔◌, IfErr, IfOk, IsTrue, OnOk};
+ghost use Rattle.dep_tree.specs.declared.fault.TreeTextFault.TheVariants as tree_faults;
+ghost use Rattle.required_use.specs.declared.fault.RequiredFault.TheVariants as required_faults;
 ghost use Rattle.dep_tree.specs.Texts.{AreDependencies};
 ghost use Rattle.required_use.specs.Texts.{IsExpression};
 ghost use Rattle.use_flags.specs.Items.{IsItem};
@@ -56,7 +58,7 @@ fn is_iuse(alloc: Global, value: &str) -> Result<bool, AllocError>
 fn is_required(alloc: Global, value: &str) -> Result<bool, AllocError>
     ensures { IfOk result (λ b. IsTrue b ↔ IsExpression value.now) }
 {
-    match RequiredUse::parse(alloc, value) {
+    match read_required(alloc, value) {
         Ok(_) => Ok(true),
         Err(RequiredFault::Memory) => Err(AllocError),
         Err(_) => Ok(false),
@@ -66,9 +68,25 @@ fn is_required(alloc: Global, value: &str) -> Result<bool, AllocError>
 fn are_needs(alloc: Global, value: &str) -> Result<bool, AllocError>
     ensures { IfOk result (λ b. IsTrue b ↔ AreDependencies value.now) }
 {
-    match DepTree::parse(alloc, value) {
+    match read_needs(alloc, value) {
         Ok(_) => Ok(true),
         Err(TreeTextFault::Memory) => Err(AllocError),
         Err(_) => Ok(false),
     }
+}
+
+/// Whether a group without members holds is of no account to the form.
+fn read_required(alloc: Global, value: &str) -> Result<RequiredUse, RequiredFault>
+    ensures found { OnOk result (IsExpression value.now) }
+    ensures only { IsExpression value.now → IfErr result (λ e. e ≡ required_faults.Memory) }
+{
+    RequiredUse::parse(alloc, value, false)
+}
+
+/// Whether a group without members holds is of no account to the form.
+fn read_needs(alloc: Global, value: &str) -> Result<DepTree, TreeTextFault>
+    ensures found { OnOk result (AreDependencies value.now) }
+    ensures only { AreDependencies value.now → IfErr result (λ e. e ≡ tree_faults.Memory) }
+{
+    DepTree::parse(alloc, value, false)
 }

@@ -5,9 +5,10 @@ ghost use Rattle.required_use.specs.Texts as expressions;
 ghost use Rattle.required_use.specs.View.{trees as required_trees};
 ghost use Rattle.pms_slot.specs.Slots.{IsSlotValue};
 ghost use Rattle.use_flags.specs.Items.{last_is_on, names_flag};
+ghost use Rattle.pkg_state.specs.Eapis.{empty_holds};
 ghost use Rattle.md5_cache.specs.Entries.{HasJust, Needs, Tells, TellsNeeds, items_of};
-ghost use Rattle.md5_cache.specs.Entries.{value_of};
-ghost use Rattle.md5_cache.specs.Fields.{AreFields};
+ghost use Rattle.md5_cache.specs.Entries.{needs_text, value_of};
+ghost use Rattle.md5_cache.specs.Fields.{AreFields, AreFieldsOf, IsOfEdition};
 
 use crate::entry::CacheEntry;
 use crate::field::value_under;
@@ -16,7 +17,7 @@ use basics::Text;
 use dep_atom::{Facts, PackageId};
 use dep_group::words;
 use dep_tree::DepTree;
-use pkg_state::{Eapi, Pkg};
+use pkg_state::{Class, Eapi, Pkg};
 use pms_names::Flags;
 use pms_slot::SlotValue;
 use required_use::RequiredUse;
@@ -27,9 +28,10 @@ use use_flags::Iuse;
 pub(crate) fn entry_of(
     alloc: Global,
     id: PackageId,
+    edition: Eapi,
     pairs: &[Pair],
 ) -> Result<CacheEntry, AllocError>
-    requires { AreFields pairs.now }
+    requires { AreFieldsOf edition pairs.now }
     ensures { IfOk result (λ e. Tells pairs.now id e) }
 {
     let keywords = keywords_of(alloc, pairs)?;
@@ -42,7 +44,7 @@ pub(crate) fn entry_of(
         iuse: iuse.flags,
         enabled: Flags::new(alloc),
     };
-    let pkg = package_of(alloc, facts, pairs)?;
+    let pkg = package_of(alloc, facts, edition, pairs)?;
     Ok(CacheEntry {
         pkg,
         iuse_on: iuse.on,
@@ -51,19 +53,20 @@ pub(crate) fn entry_of(
 }
 
 /// The package of these facts, with what it needs.
-fn package_of(alloc: Global, facts: Facts, pairs: &[Pair]) -> Result<Pkg, AllocError>
+fn package_of(alloc: Global, facts: Facts, edition: Eapi, pairs: &[Pair]) -> Result<Pkg, AllocError>
+    requires { IsOfEdition pairs.now edition }
     ensures facts { IfOk result (λ p. p.facts ≡ facts) }
     ensures needs { IfOk result (λ p. TellsNeeds pairs.now p) }
 {
-    let rdepend = needs_of(alloc, pairs, "RDEPEND")?;
-    let pdepend = needs_of(alloc, pairs, "PDEPEND")?;
-    let depend = needs_of(alloc, pairs, "DEPEND")?;
-    let bdepend = needs_of(alloc, pairs, "BDEPEND")?;
-    let idepend = needs_of(alloc, pairs, "IDEPEND")?;
-    let required_use = required_of(alloc, pairs)?;
+    let rdepend = needs_of(alloc, pairs, edition, Class::Rdepend)?;
+    let pdepend = needs_of(alloc, pairs, edition, Class::Pdepend)?;
+    let depend = needs_of(alloc, pairs, edition, Class::Depend)?;
+    let bdepend = needs_of(alloc, pairs, edition, Class::Bdepend)?;
+    let idepend = needs_of(alloc, pairs, edition, Class::Idepend)?;
+    let required_use = required_of(alloc, pairs, edition)?;
     Ok(Pkg {
         facts,
-        eapi: Eapi::Eight,
+        eapi: edition,
         rdepend,
         pdepend,
         depend,
@@ -73,20 +76,38 @@ fn package_of(alloc: Global, facts: Facts, pairs: &[Pair]) -> Result<Pkg, AllocE
     })
 }
 
-fn needs_of(alloc: Global, pairs: &[Pair], key: &str) -> Result<DepTree, AllocError>
-    ensures { IfOk result (λ t. Needs pairs.now key.now (trees t)) }
+fn needs_of(
+    alloc: Global,
+    pairs: &[Pair],
+    edition: Eapi,
+    class: Class,
+) -> Result<DepTree, AllocError>
+    ensures { IfOk result (λ t. Needs pairs.now edition class (trees t)) }
 {
-    match DepTree::parse(alloc, value_of(pairs, key)) {
+    let text = needs_text(pairs, edition, class);
+    match DepTree::parse(alloc, text, edition.empty_holds()) {
         Ok(tree) => Ok(tree),
         Err(_) => Err(AllocError),
     }
 }
 
-fn required_of(alloc: Global, pairs: &[Pair]) -> Result<RequiredUse, AllocError>
-    ensures { IfOk result (λ r.
-        expressions.Writes (value_of pairs.now (codes "REQUIRED_USE")) (required_trees r)) }
+/// The text of a class of dependencies, which is empty where the edition lacks the class.
+fn needs_text<'a>(pairs: &'a [Pair], edition: Eapi, class: Class) -> &'a str
+    ensures { result.now ≡ needs_text pairs.now edition class }
 {
-    match RequiredUse::parse(alloc, value_of(pairs, "REQUIRED_USE")) {
+    if edition.has_class(class) {
+        value_of(pairs, class.word())
+    } else {
+        ""
+    }
+}
+
+fn required_of(alloc: Global, pairs: &[Pair], edition: Eapi) -> Result<RequiredUse, AllocError>
+    ensures { IfOk result (λ r. expressions.Writes (empty_holds edition)
+        (value_of pairs.now (codes "REQUIRED_USE")) (required_trees r)) }
+{
+    let text = value_of(pairs, "REQUIRED_USE");
+    match RequiredUse::parse(alloc, text, edition.empty_holds()) {
         Ok(required) => Ok(required),
         Err(_) => Err(AllocError),
     }

@@ -7,7 +7,6 @@ use Rattle.std.proofs.lemmas.List.{get_or-set_same, length-append, length-map, l
 use Rattle.basics.proofs.Each.{all-append}
 use Rattle.file_tree.specs.Disk.{Map}
 use Rattle.file_tree.specs.Faults.{IsOfMachine}
-use Rattle.file_tree.specs.declared.fault.TreeFault.{TreeFault}
 use Rattle.file_tree.specs.declared.objects.Entry.{Entry}
 use Rattle.merge_fit.specs.Images.{IsFirst, is_good}
 use Rattle.merge_fit.specs.Misfits.{AreGood, IsBad}
@@ -20,7 +19,7 @@ use Rattle.merge_record.specs.declared.record.Placement.{Placement}
 use Rattle.merge_core.specs.Event.{put_content}
 use Rattle.merge_core.specs.CoreValue.{machine_of}
 use Rattle.merge_site.specs.Booking.{wish_for, wishes_at, with_wish}
-use Rattle.merge_site.specs.Site.{SiteValue, IsOpened}
+use Rattle.merge_site.specs.Site.{SiteValue}
 use Rattle.merge_site.specs.Staging.{IsStageFault, placement_of}
 use Rattle.merge_site.specs.declared.fault.SiteFault.{SiteFault}
 use Rattle.merge_site.specs.declared.fault.SiteFault.TheVariants as sites
@@ -156,17 +155,6 @@ wished_on ws next g k folder before done e lt is here =
     ∙ (append_assoc before (wishes_for k folder done) (wish_for k folder e ∷ []) ∙ ap (λ (l : List Wish). before ++ l) (sym (map-append (wish_for k folder) done (e ∷ []))))))
 
 -- ---- the whole run
-
--- a site that was just opened has the tree, the book and the groups that it was given
-pub opened_as : {T S : Type 0} (a : SiteValue T S) (t : T) (k : Book) (groups : List SiteGroup) (P : T → Book → List SiteGroup → Type 0) → IsOpened a k groups → a.tree ≡ t → P a.tree a.opened_book a.groups → P t k groups
-opened_as a t k groups P opened is h =
-    subst (λ x. P x k groups) is (subst (λ (x : Book). P a.tree x groups) opened.opened_book (subst (λ (l : List SiteGroup). P a.tree a.opened_book l) opened.brings h))
-
--- the journal is cleared behind it
-pub cleared_cause : {A : Type 0} (P : Stop → Type 0) (end end' : Result A Stop) → ((of : TreeFault) → P (stops.Tree of)) → IfErr end P → IfErr end' (λ e. IsOfMachine stops.Tree e ⊎ (end ≡ Err e)) → IfErr end' P
-cleared_cause P end (Ok a) carried h told = tt
-cleared_cause P end (Err e) carried h (inl (of, is)) = subst P (sym is) (carried of)
-cleared_cause P end (Err e) carried h (inr is) = subst (λ r. IfErr r P) is h
 
 pub end_told : {A : Type 0} (r : Result A Stop) → IfErr r (λ e. IsOfMachine stops.Tree e ⊎ (r ≡ Err e))
 end_told (Ok a) = tt

@@ -15,7 +15,6 @@ use Rattle.merge_site.specs.Site.{SiteValue, IsHeld, IsOpened, StoodDuring}
 use Rattle.merge_site.specs.declared.group.SiteGroup.{SiteGroup}
 use Rattle.merge_group.specs.Applied.{RecoversWith, number}
 use Rattle.merge_group.specs.Through.{HasEnded, IsThrough}
-use Rattle.merge_site.specs.Site.{IsSameSite}
 use Rattle.merge_group.specs.Turns.{AreFirst}
 use Rattle.merge_group.specs.Went.{DroveWith}
 use Rattle.merge_group.specs.Working.{AreInTurn}
@@ -58,11 +57,6 @@ drove tells turns b start new history end tl ended is held stands moments =
       crash = λ c image. subst (λ (l : List ℕ). RecoversWith Run opening l c) (sym is) (ended.crash tl c (stands c image));
       shut = λ healthy. (b.keeping.order, ended.order tl, (sym is, shut_if_over opening (machine_of b.keeping) new.now held.order (ended.shut healthy)));
     }
-
--- what is said over the opening of a site that a run leaves is said over that with which it began
-pub said_before : {T S : Type 0} (a b : SiteValue T S) (P : T → Book → List SiteGroup → Type 0) → IsSameSite a b → a.opened ≡ a.tree → P b.opened b.opened_book b.groups → P a.tree a.opened_book a.groups
-said_before a b P same opened h =
-    subst (λ t. P t a.opened_book a.groups) (same.opened ∙ opened) (subst (λ (k : Book). P b.opened k a.groups) same.opened_book (subst (λ (l : List SiteGroup). P b.opened b.opened_book l) same.groups h))
 
 pub opened_count : {T S : Type 0} (a : SiteValue T S) (b : Book) (groups : List SiteGroup) → IsOpened a b groups → length a.keeping.standings ≡ length a.groups
 opened_count a b groups opened = ap (λ (k : CoreValue). length k.standings) opened.keeping ∙ (length-replicate (length groups) resting ∙ sym (ap length opened.brings))

@@ -7,8 +7,7 @@ use Rattle.std.proofs.lemmas.Bool.{cases_Bool, cases_eq, cond-false}
 use Rattle.std.proofs.lemmas.List.{length-append, map-append, take-append-drop}
 use Rattle.std.proofs.lemmas.Map.Entries.{lookup-filter-keys}
 use Rattle.std.proofs.lemmas.Slice.Eq.{bytes_eq-Decides}
-use Rattle.basics.specs.Members.{AreDistinct, Has}
-use Rattle.basics.proofs.Membership.{distinct-apart, has-append_right}
+use Rattle.basics.specs.Members.{Has}
 use Rattle.file_tree.specs.Disk.{Map}
 use Rattle.file_tree.specs.Paths.{is_below}
 use Rattle.file_tree.specs.PathSets.{is_in}
@@ -83,31 +82,6 @@ begins_longer ts us xs begins =
     (numbers_then ts us
     ∙ (ap (λ (l : List ℕ). l ++ numbers us) (sym (take-append-drop n (numbers ts)))
     ∙ (append_assoc (take n (numbers ts)) rest (numbers us) ∙ ap (λ (l : List ℕ). l ++ (rest ++ numbers us)) (sym begins.1))))
-
--- a turn of a run in which each number stands once is new
-pub new_turn : (ts us : List Turn) (t : Turn) → AreDistinct (numbers (ts ++ t ∷ us)) → Has (numbers ts) t.group → ⊥
-new_turn ts us t once has =
-    distinct-apart (numbers ts) (numbers (t ∷ us)) t.group (subst (λ (l : List ℕ). AreDistinct l) (numbers_then ts (t ∷ us)) once) has (inl refl)
-
--- a loop over turns, each with a number of its own, has come to this one behind those
-pub record Comes (all ts : List Turn) (t : Turn) : Type 0 where
-  pub behind : List Turn
-  pub split : all ≡ ts ++ t ∷ behind
-  pub new : Has (numbers ts) t.group → ⊥
-  pub has : Has all t
-  pub count : length ts + suc (length behind) ≡ length all
-
-pub comes : (all ts : List Turn) (t : Turn) → ts ≡ take (length ts) all → length ts < length all → t ≡ get_or all (length ts) t → AreDistinct (numbers all) → Comes all ts t
-comes all ts t front lt at once =
-    let us = drop (suc (length ts)) all in
-    let split = split_at all ts t front lt at in
-    record {
-      behind = us;
-      split = split;
-      new = new_turn ts us t (subst (λ (l : List Turn). AreDistinct (numbers l)) split once);
-      has = subst (λ (l : List Turn). Has l t) (sym split) (has-append_right ts (t ∷ us) t (inl refl));
-      count = sym (ap length split ∙ length-append ts (t ∷ us));
-    }
 
 -- what a turn adds to the history and to the acknowledged groups
 pub one_longer : (old new : List ℕ) (g : ℕ) → (new ≡ old) ⊎ (new ≡ old ++ g ∷ []) → length old ≤ length new

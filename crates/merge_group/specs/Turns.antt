@@ -1,12 +1,11 @@
 -- Groups that are merged one after another.
 use Rattle.std.specs.Prelude.{◌≡◌, ◌++◌, ℕ, zero, suc, Bool, List, [], ◌∷◌, filter, map, not}
-use Rattle.std.specs.Prelude.{Option, Some, None, ⊤}
+use Rattle.std.specs.Prelude.{⊤}
 use Rattle.file_tree.specs.Disk.{Map}
 use Rattle.file_tree.specs.declared.fault.TreeFault.TheVariants as trees
 use Rattle.merge_journal.specs.Group.{Group, applied}
 use Rattle.file_tree.specs.PathSets.{is_in}
 use Rattle.owner_book.specs.Book.{Book}
-use Rattle.merge_core.specs.CoreValue.{CoreValue}
 use Rattle.merge_site.specs.declared.group.SiteGroup.{SiteGroup}
 use Rattle.merge_group.specs.Causes.{IsOfGroup, StopsChanges}
 use Rattle.merge_group.specs.Granted.{MayChange, changes_in}
@@ -59,9 +58,3 @@ StopsBehind tells m b groups (t ∷ ts) zero e =
     StopsChanges tells m b groups (changes_of t) t.group e
 StopsBehind tells m b groups (t ∷ ts) (suc n) e =
     StopsBehind tells (applied m (group_for t ∷ [])) (settled (changes_of t) b) groups ts n e
-
--- where no site was opened, it is for want of memory
-abbrev pub HaveCause : Bool → Map → Book → List SiteGroup → List Turn → ℕ → Option CoreValue →
-    Stop → Type 0
-HaveCause tells m b groups turns n (Some k) e = StopsBehind tells m b groups turns n e
-HaveCause tells m b groups turns n None e = e ≡ stops.Tree trees.Memory

@@ -1,7 +1,6 @@
-//! Groups merged one after another into a tree at rest through one site, from the beginning of the
-//! first to the cleared journal: all of them from a list, or turn by turn, where each is made when
-//! those before it are merged. A group brings any number of packages, and removes the paths that go
-//! with it.
+//! Groups merged one after another into a tree at rest through one site, from its opening to the
+//! cleared journal, turn by turn: each turn may be made when those before it are merged. A group
+//! brings any number of packages, and removes the paths that go with it.
 //!
 //! **A contract sees** the tree as its story, the groups that a crash leaves and the tree holds
 //! (`WentWith`, and `Went` of groups of one kind), the sink as the bytes that it took, and the
@@ -24,10 +23,6 @@
 //! package goes whose path the next group takes, and two packages come in one group.
 //!
 //! ```
-//! let merged = merge_groups(alloc, tree, sink, batch);
-//! ```
-//!
-//! ```
 //! let mut site = open_run(alloc, tree, sink, book, groups)?;
 //! let end = merge_next(&mut site, turn, &mut history, &mut acknowledged);
 //! let closed = close_run(alloc, site, end);
@@ -36,13 +31,11 @@
 
 mod claiming;
 mod clearing;
-mod driving;
 mod ends;
 mod files;
 mod merging;
 mod next;
 mod opening;
-mod run;
 mod running;
 mod sealing;
 mod staging;
@@ -53,6 +46,5 @@ mod turn;
 pub use ends::{Closed, close_run, open_run};
 pub use files::Files;
 pub use next::merge_next;
-pub use run::{Batch, Merged, merge_groups};
 pub use stop::Stop;
 pub use turn::Turn;

@@ -5,12 +5,13 @@ use Rattle.std.specs.List.{AllByRecursion}
 use Rattle.basics.specs.Members.{AreDistinct, Has}
 use Rattle.basics.proofs.Each.{all_has}
 use Rattle.basics.proofs.Membership.{has-map_back}
+use Rattle.build_pool.specs.declared.orders.Order.{Order}
 use Rattle.pkg_state.specs.Package.{Package, line_of, line_text, lines_of}
 use Rattle.choice_law.specs.Tree.{Choice}
 use Rattle.choice_law.specs.Universe.{Offer, Universe, Value, absent, as_list, keep, lines, offer_at, package_of, variant}
 use Rattle.choice_tree.specs.Places.{numbers, place_at, value_in}
 use Rattle.choice_tree.proofs.Numbers.{numbers_have}
-use Rattle.plan_text.specs.Plans.{AdditionValue, GroupValue}
+use Rattle.plan_text.specs.Plans.{GroupValue}
 use Rattle.plan_text.specs.Texts.{IsPlan, plan_text}
 use Rattle.plan_text.specs.declared.plan.Removal.{Removal}
 use Rattle.merge_groups.specs.Changes.{part_in, part_of, those}
@@ -72,7 +73,7 @@ abbrev removed_line : List Removal → List ℕ
 removed_line [] = []
 removed_line (r ∷ rs) = line_text r.id.name r.slot
 
-abbrev added_line : List AdditionValue → List ℕ
+abbrev added_line : List Order → List ℕ
 added_line [] = []
 added_line (a ∷ rest) = line_text a.id.name a.slot
 

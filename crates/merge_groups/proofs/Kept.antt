@@ -24,7 +24,7 @@ unfolding IsStrictlySortedBy
 rising_if true x xs above up = (above, up)
 rising_if false x xs above up = up
 
-rising_kept : (t : List ℕ → Bool) (xs : List (List ℕ)) → IsRising xs → IsRising (filter t xs)
+pub rising_kept : (t : List ℕ → Bool) (xs : List (List ℕ)) → IsRising xs → IsRising (filter t xs)
 unfolding IsStrictlySortedBy
 rising_kept t [] up = tt
 rising_kept t (x ∷ xs) up = rising_if (t x) x (filter t xs) (all_kept (λ k. byte_order x k ≡ Less) t xs up.0) (rising_kept t xs up.1)

@@ -45,4 +45,4 @@ bind_of ps asker a = bind_to (greatest None (matching a asker ps)) a
 -- one for each leaf that asks, in written order
 abbrev pub binds_of : List Package → Package → List Bind
 binds_of ps p =
-    map (bind_of ps p.facts.enabled) (all_asking_leaves (has p.facts.enabled) p.rdepend)
+    map (bind_of ps p.facts.enabled) (all_asking_leaves (has p.facts.enabled) p.rdepend.groups)

@@ -2,9 +2,9 @@
 use Rattle.std.specs.Prelude.{◌≡◌, ℕ, true, List, [], filter, map}
 use Rattle.std.specs.List.Sorted.{IsPermutation}
 use Rattle.pms_names.specs.Flags.{has}
+use Rattle.build_pool.specs.declared.orders.Order.{Order}
 use Rattle.pkg_state.specs.Package.{Package}
 use Rattle.plan_text.specs.Lines.{line_text}
-use Rattle.plan_text.specs.Plans.{AdditionValue}
 use Rattle.plan_text.specs.Texts.{add_line, remove_line}
 use Rattle.plan_text.specs.Words.{rise}
 use Rattle.plan_text.specs.declared.plan.Removal.{Removal}
@@ -20,7 +20,7 @@ abbrev pub enabled_of : Package → List (List ℕ)
 enabled_of p = filter (has p.facts.iuse) p.facts.enabled
 
 -- the package comes; of its binds nothing is said yet
-abbrev pub entry_of : Package → AdditionValue
+abbrev pub entry_of : Package → Order
 entry_of p = record {
   id = p.facts.id;
   slot = p.facts.slot;

@@ -1,9 +1,10 @@
 -- All changes of a choice, as a plan of one group.
 use Rattle.std.specs.Prelude.{◌≡◌, ℕ, List, [], ◌∷◌, Some, map}
+use Rattle.build_pool.specs.declared.orders.Order.{Order}
 use Rattle.pkg_state.specs.Package.{Package, line_of}
 use Rattle.choice_law.specs.Universe.{Universe, Value, offer_at, package_of}
 use Rattle.choice_law.specs.Tree.{Choice}
-use Rattle.plan_text.specs.Plans.{AdditionValue, GroupValue}
+use Rattle.plan_text.specs.Plans.{GroupValue}
 use Rattle.plan_text.specs.declared.plan.Removal.{Removal}
 use Rattle.merge_groups.specs.Binds.{binds_of}
 use Rattle.merge_groups.specs.Changes.{those}
@@ -12,7 +13,7 @@ use Rattle.merge_groups.specs.declared.change.Change.TheVariants as changes
 use Rattle.merge_groups.specs.declared.part.Part.TheVariants.{Coming, Going, Standing}
 
 -- the package comes, where these stand beside it afterwards
-abbrev pub addition_of : List Package → Package → AdditionValue
+abbrev pub addition_of : List Package → Package → Order
 addition_of ps p = record {
   id = p.facts.id;
   slot = p.facts.slot;
@@ -22,7 +23,7 @@ addition_of ps p = record {
 }
 
 -- the one group of all changes, which waits for none; where nothing changes, there is none
-abbrev pub groups_of : List Removal → List AdditionValue → List GroupValue
+abbrev pub groups_of : List Removal → List Order → List GroupValue
 groups_of [] [] = []
 groups_of [] (a ∷ more) = record { after = []; removals = []; additions = a ∷ more } ∷ []
 groups_of (r ∷ rs) additions = record { after = []; removals = r ∷ rs; additions = additions } ∷ []

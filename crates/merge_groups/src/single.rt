@@ -1,7 +1,7 @@
 ghost use Rattle.std.specs.Prelude.{◌≡◌, IfOk, map};
 ghost use Rattle.std.specs.List.{AllByRecursion};
 ghost use Rattle.choice_tree.specs.Views.{universe_of};
-ghost use Rattle.plan_text.specs.Plans.{addition_value, group_value, plan_value};
+ghost use Rattle.plan_text.specs.Plans.{group_value, plan_value};
 ghost use Rattle.plan_text.specs.Texts.{IsAddition, IsPlan};
 ghost use Rattle.plan_text.specs.Words.{IsRemoval};
 ghost use Rattle.merge_groups.specs.Changes.{those};
@@ -15,9 +15,10 @@ use crate::lines::those;
 use crate::named::{package_is_named, packages_are_named};
 use crate::order::{Lined, in_text_order};
 use crate::part::Part;
+use build_pool::{Binds, Order};
 use choice_tree::{Choice, Universe};
 use pkg_state::Pkg;
-use plan_text::{Addition, Group, Plan, Removal, one_plan};
+use plan_text::{Group, Plan, Removal, one_plan};
 use std::alloc::{AllocError, Global};
 
 fn removal_of(pkg: &Pkg) -> Result<Removal, AllocError>
@@ -42,10 +43,10 @@ fn removals_of(alloc: Global, lined: &[Lined<'_>]) -> Result<Vec<Removal>, Alloc
     Ok(removals)
 }
 
-fn addition_of(alloc: Global, beside: &Beside<'_>, pkg: &Pkg) -> Result<Addition, AllocError>
-    ensures is { IfOk result (λ addition. addition_value addition ≡
+fn addition_of(alloc: Global, beside: &Beside<'_>, pkg: &Pkg) -> Result<Order, AllocError>
+    ensures is { IfOk result (λ addition. addition ≡
         addition_of (map (λ p. p.now) beside.now.packages.now) pkg.now) }
-    ensures form { IfOk result (λ addition. IsAddition (addition_value addition)) }
+    ensures form { IfOk result (λ addition. IsAddition addition) }
 {
     package_is_named(pkg);
     let id = pkg.facts.id.try_clone()?;
@@ -54,12 +55,12 @@ fn addition_of(alloc: Global, beside: &Beside<'_>, pkg: &Pkg) -> Result<Addition
     let enabled = enabled_of(alloc, pkg)?;
     let binds = binds_of(alloc, beside, pkg)?;
     binds_are(&binds);
-    Ok(Addition {
+    Ok(Order {
         id,
         slot,
         subslot,
         enabled,
-        binds,
+        binds: Binds::new(binds),
     })
 }
 
@@ -67,11 +68,11 @@ fn additions_of(
     alloc: Global,
     beside: &Beside<'_>,
     lined: &[Lined<'_>],
-) -> Result<Vec<Addition>, AllocError>
-    ensures are { IfOk result (λ v. map addition_value v.items ≡
+) -> Result<Vec<Order>, AllocError>
+    ensures are { IfOk result (λ v. v.items ≡
         map (addition_of (map (λ p. p.now) beside.now.packages.now))
         (map (λ l. l.pkg.now) lined.now)) }
-    ensures form { IfOk result (λ v. AllByRecursion IsAddition (map addition_value v.items)) }
+    ensures form { IfOk result (λ v. AllByRecursion IsAddition v.items) }
 {
     let mut additions = Vec::with_capacity(alloc, lined.len())?;
     for one in lined {
@@ -84,10 +85,10 @@ fn additions_of(
 fn groups_of(
     alloc: Global,
     removals: Vec<Removal>,
-    additions: Vec<Addition>,
+    additions: Vec<Order>,
 ) -> Result<Vec<Group>, AllocError>
     ensures { IfOk result (λ v. map group_value v.items ≡
-        groups_of removals.items (map addition_value additions.items)) }
+        groups_of removals.items additions.items) }
 {
     let mut groups = Vec::new(alloc);
     if removals.is_empty() && additions.is_empty() {

@@ -1,3 +1,4 @@
+pub mod Editions
 pub mod Lists
 pub mod Lines
 pub mod Faults

@@ -15,11 +15,10 @@ use Rattle.pms_names.specs.Flags.{has}
 use Rattle.dep_atom.specs.declared.package.Facts.{Facts}
 use Rattle.dep_atom.specs.Match.{accepts_slot, accepts_use, accepts_version, same_name, value_matches}
 use Rattle.dep_atom.specs.Values.{AtomValue}
-use Rattle.dep_group.specs.Trees.{all_leaves}
 use Rattle.dep_tree.specs.Grammar.{is_block}
-use Rattle.dep_tree.specs.Truth.{kind, some_match}
+use Rattle.dep_tree.specs.Truth.{some_match}
 use Rattle.pkg_state.specs.Package.{Package, tree_of}
-use Rattle.pkg_state.specs.Consistent.{blocks, class_blocks, facts_of, shares_line}
+use Rattle.pkg_state.specs.Consistent.{blocks, class_blocks, facts_of, leaves_in, shares_line}
 use Rattle.pkg_state.specs.Blocks.{AreBlocks, block_value}
 use Rattle.pkg_state.specs.Index.{AreNamed, all_blocks, blocks_of, blocks_of_class, keeps_out, listed, those_named, those_on}
 use Rattle.pkg_state.specs.declared.block.Block.{Block}
@@ -60,7 +59,7 @@ any_kept k m n (x ∷ xs) = elim (cases_Bool (k x)) [
 ]
 
 abbrev own_leaves : Class → Package → List AtomValue
-own_leaves class q = all_leaves kind (has q.facts.enabled) (tree_of class q)
+own_leaves class q = leaves_in class q
 
 class_keeps_out : (class : Class) (p q : Package) → list_any (keeps_out p) (blocks_of_class class q) ≡ (class_blocks class q p && not (shares_line q p))
 class_keeps_out class p q =

@@ -6,10 +6,9 @@ use Rattle.pms_names.specs.Flags.{has}
 use Rattle.dep_atom.specs.declared.package.Facts.{Facts}
 use Rattle.dep_atom.specs.Match.{value_matches}
 use Rattle.dep_atom.specs.Values.{AtomValue}
-use Rattle.dep_group.specs.Trees.{all_hold, all_leaves}
 use Rattle.dep_tree.specs.Grammar.{is_block}
-use Rattle.dep_tree.specs.Truth.{is_fact, kind}
-use Rattle.required_use.specs.Grammar as required_use
+use Rattle.dep_tree.specs.Truth.{all_met, counted_leaves}
+use Rattle.required_use.specs.Truth.{all_fit}
 use Rattle.pkg_state.specs.Package.{Package, line_of, lines_of, tree_of}
 use Rattle.pkg_state.specs.declared.class.Class.{Class}
 use Rattle.pkg_state.specs.declared.class.Class.TheVariants.{Pdepend, Rdepend}
@@ -20,20 +19,18 @@ facts_of ps = map (λ p. p.facts) ps
 
 -- what the package needs in this class is there, among packages with these facts
 abbrev pub is_met : List Facts → Class → Package → Bool
-is_met facts class p =
-    all_hold kind (is_fact facts p.facts.enabled) (has p.facts.enabled) (tree_of class p)
+is_met facts class p = all_met facts p.facts.enabled (tree_of class p)
 
 -- its flags go together
 abbrev pub fits_required : Package → Bool
-fits_required p =
-    all_hold required_use.kind (required_use.is_on p.facts.enabled) (has p.facts.enabled) p.required
+fits_required p = all_fit (has p.facts.enabled) p.required
 
 abbrev pub shares_line : Package → Package → Bool
 shares_line p q = bytes_eq (line_of p.facts) (line_of q.facts)
 
 -- the leaves of a class that count
 abbrev pub leaves_in : Class → Package → List AtomValue
-leaves_in class p = all_leaves kind (has p.facts.enabled) (tree_of class p)
+leaves_in class p = counted_leaves p.facts.enabled (tree_of class p)
 
 -- the blocks among them
 abbrev pub blocks_in : Class → Package → List AtomValue
@@ -43,7 +40,7 @@ blocks_in class p = filter is_block (leaves_in class p)
 abbrev pub class_blocks : Class → Package → Package → Bool
 class_blocks class p q =
     list_any (λ a. is_block a && value_matches a q.facts p.facts.enabled)
-    (all_leaves kind (has p.facts.enabled) (tree_of class p))
+    (leaves_in class p)
 
 -- p keeps q out; what stands on its own line it doesn't
 abbrev pub blocks : Package → Package → Bool

@@ -7,8 +7,9 @@ use Rattle.pms_names.specs.Flags.{has}
 use Rattle.dep_atom.specs.declared.package.Facts.{Facts}
 use Rattle.dep_atom.specs.declared.package.PackageId.{PackageId}
 use Rattle.dep_atom.specs.Values.{AtomValue, atom_value}
-use Rattle.dep_group.specs.Trees.{Tree, Trees, group, holds, is_any_of, is_member, leaf, no_trees, tree}
+use Rattle.dep_group.specs.Trees.{Tree, group, holds, is_any_of, is_member, leaf, no_trees, tree}
 use Rattle.dep_group.specs.declared.token.Opener.{Opener}
+use Rattle.dep_tree.specs.Texts.{AtomTrees}
 use Rattle.dep_tree.specs.Truth.{is_fact, kind}
 use Rattle.pkg_state.specs.Package.{Package, line_of, tree_of}
 use Rattle.pkg_state.specs.Consistent.{AreApart, blocks, facts_of, fits_required, is_blocked, is_met}
@@ -18,31 +19,36 @@ use Rattle.pkg_state.specs.declared.broken.Broken.{Broken}
 use Rattle.pkg_state.specs.declared.broken.Broken.TheVariants as broken
 
 -- The leaf to name of trees that don't hold: in trees that must all hold, of the first that fails;
--- of an any-of group, of its first member.
+-- of an any-of group, of its first member. `empty` says whether a group that wants one of its
+-- members holds where it has none.
 abbrev mutual
   pub lacking :
-      (AtomValue → Bool) → (List ℕ → Bool) → Tree (Opener (List ℕ)) AtomValue → Option AtomValue
-  lacking fact on (leaf a) = Some a
-  lacking fact on (group None ts) = lacking_of_all fact on ts
-  lacking fact on (group (Some opener) ts) =
-      if is_any_of opener then lacking_of_first fact on ts else lacking_of_all fact on ts
+      Bool → (AtomValue → Bool) → (List ℕ → Bool) → Tree (Opener (List ℕ)) AtomValue →
+      Option AtomValue
+  lacking empty fact on (leaf a) = Some a
+  lacking empty fact on (group None ts) = lacking_of_all empty fact on ts
+  lacking empty fact on (group (Some opener) ts) =
+      if is_any_of opener then lacking_of_first empty fact on ts
+      else lacking_of_all empty fact on ts
 
   pub lacking_of_all :
-      (AtomValue → Bool) → (List ℕ → Bool) → Trees (Opener (List ℕ)) AtomValue → Option AtomValue
-  lacking_of_all fact on no_trees = None
-  lacking_of_all fact on (tree t ts) =
-      if holds kind fact on t then lacking_of_all fact on ts else lacking fact on t
+      Bool → (AtomValue → Bool) → (List ℕ → Bool) → AtomTrees → Option AtomValue
+  lacking_of_all empty fact on no_trees = None
+  lacking_of_all empty fact on (tree t ts) =
+      if holds empty kind fact on t then lacking_of_all empty fact on ts
+      else lacking empty fact on t
 
   pub lacking_of_first :
-      (AtomValue → Bool) → (List ℕ → Bool) → Trees (Opener (List ℕ)) AtomValue → Option AtomValue
-  lacking_of_first fact on no_trees = None
-  lacking_of_first fact on (tree t ts) =
-      if is_member kind on t then lacking fact on t else lacking_of_first fact on ts
+      Bool → (AtomValue → Bool) → (List ℕ → Bool) → AtomTrees → Option AtomValue
+  lacking_of_first empty fact on no_trees = None
+  lacking_of_first empty fact on (tree t ts) =
+      if is_member kind on t then lacking empty fact on t else lacking_of_first empty fact on ts
 
 -- the leaf to name of what the package needs in this class, among packages with these facts
 abbrev pub lacking_leaf : List Facts → Class → Package → Option AtomValue
 lacking_leaf facts class p =
-    lacking_of_all (is_fact facts p.facts.enabled) (has p.facts.enabled) (tree_of class p)
+    lacking_of_all (tree_of class p).empty_holds (is_fact facts p.facts.enabled)
+    (has p.facts.enabled) (tree_of class p).groups
 
 -- what can be wrong, by the packages' ids
 pub data Fault : Type 0 where

@@ -7,14 +7,10 @@ use Rattle.std.specs.Cmp.Lexicographic.{slice_cmp}
 use Rattle.std.specs.List.{flat_map}
 use Rattle.std.specs.Option.{option_map_or}
 use Rattle.std.specs.Ordering.{nat_cmp}
-use Rattle.pms_names.specs.Flags.{has}
 use Rattle.dep_atom.specs.Match.{value_matches}
 use Rattle.dep_atom.specs.Values.{AtomValue}
-use Rattle.dep_group.specs.Trees.{all_leaves}
-use Rattle.dep_tree.specs.Grammar.{is_block}
-use Rattle.dep_tree.specs.Truth.{kind}
-use Rattle.pkg_state.specs.Package.{Package, tree_of}
-use Rattle.pkg_state.specs.Consistent.{shares_line}
+use Rattle.pkg_state.specs.Package.{Package}
+use Rattle.pkg_state.specs.Consistent.{blocks_in, shares_line}
 use Rattle.pkg_state.specs.declared.class.Class.{Class}
 use Rattle.pkg_state.specs.declared.class.Class.TheVariants.{Pdepend, Rdepend}
 
@@ -37,8 +33,7 @@ AreNamed ps lists = (name : List ℕ) → map (λ p. p.now) (listed lists name) 
 
 -- the blocks of a class that count, each with the package that has it
 abbrev pub blocks_of_class : Class → Package → List (Package × AtomValue)
-blocks_of_class class p =
-    map (λ a. (p, a)) (filter is_block (all_leaves kind (has p.facts.enabled) (tree_of class p)))
+blocks_of_class class p = map (λ a. (p, a)) (blocks_in class p)
 
 -- those that keep other packages out
 abbrev pub blocks_of : Package → List (Package × AtomValue)

@@ -1,5 +1,7 @@
+pub mod Eapis
 pub mod Codes
 pub mod Package
+pub mod Editions
 pub mod Consistent
 pub mod Fault
 pub mod State

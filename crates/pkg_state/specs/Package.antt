@@ -7,7 +7,7 @@ use Rattle.dep_tree.specs.Texts.{Dependencies}
 use Rattle.required_use.specs.Texts.{Expressions}
 use Rattle.pkg_state.specs.declared.class.Class.{Class}
 use Rattle.pkg_state.specs.declared.class.Class.TheVariants.{Rdepend, Pdepend, Depend, Bdepend, Idepend}
-use Rattle.pkg_state.specs.declared.class.Eapi.{Eapi}
+use Rattle.pkg_state.specs.declared.eapi.Eapi.{Eapi}
 
 pub record Package : Type 0 where
   pub facts : Facts

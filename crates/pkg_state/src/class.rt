@@ -30,9 +30,3 @@ impl Class {
         }
     }
 }
-
-/// The edition of the package manager standard that a package is written for.
-#[derive(Clone, Copy, Debug)]
-pub enum Eapi {
-    Eight,
-}

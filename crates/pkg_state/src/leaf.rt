@@ -23,15 +23,20 @@ pub fn copy_leaf(leaf: Option<&Atom>) -> Result<Option<Atom>, AllocError>
 }
 
 #[cycle(lacking)]
-fn lacking<'a, P: Present>(node: &'a Node, present: &P, asker: &Flags) -> Option<&'a Atom>
+fn lacking<'a, P: Present>(
+    node: &'a Node,
+    present: &P,
+    asker: &Flags,
+    empty_holds: bool,
+) -> Option<&'a Atom>
     ensures { option_map (λ atom. atom_value atom.now) result ≡
-        lacking (is_fact (P.facts present.now) asker.now) (has asker.now) (view node.now) }
+        lacking empty_holds (is_fact (P.facts present.now) asker.now) (has asker.now) (view node.now) }
 {
     match node {
         Node::Leaf(atom) => Some(atom),
-        Node::All(nodes) => lacking_of_all(nodes, present, asker),
-        Node::AnyOf(nodes) => lacking_of_first(nodes, present, asker),
-        Node::When { nodes, .. } => lacking_of_all(nodes, present, asker),
+        Node::All(nodes) => lacking_of_all(nodes, present, asker, empty_holds),
+        Node::AnyOf(nodes) => lacking_of_first(nodes, present, asker, empty_holds),
+        Node::When { nodes, .. } => lacking_of_all(nodes, present, asker, empty_holds),
     }
 }
 
@@ -41,14 +46,15 @@ pub(crate) fn lacking_of_all<'a, P: Present>(
     nodes: &'a [Node],
     present: &P,
     asker: &Flags,
+    empty_holds: bool,
 ) -> Option<&'a Atom>
     ensures { option_map (λ atom. atom_value atom.now) result ≡
-        lacking_of_all (is_fact (P.facts present.now) asker.now) (has asker.now)
+        lacking_of_all empty_holds (is_fact (P.facts present.now) asker.now) (has asker.now)
         (trees_view nodes.now) }
 {
     for node in nodes {
-        if !node.holds(present, asker) {
-            return lacking(node, present, asker);
+        if !node.holds(present, asker, empty_holds) {
+            return lacking(node, present, asker, empty_holds);
         }
     }
     None
@@ -59,14 +65,15 @@ fn lacking_of_first<'a, P: Present>(
     nodes: &'a [Node],
     present: &P,
     asker: &Flags,
+    empty_holds: bool,
 ) -> Option<&'a Atom>
     ensures { option_map (λ atom. atom_value atom.now) result ≡
-        lacking_of_first (is_fact (P.facts present.now) asker.now) (has asker.now)
+        lacking_of_first empty_holds (is_fact (P.facts present.now) asker.now) (has asker.now)
         (trees_view nodes.now) }
 {
     for node in nodes {
         if is_member(node, asker) {
-            return lacking(node, present, asker);
+            return lacking(node, present, asker, empty_holds);
         }
     }
     None

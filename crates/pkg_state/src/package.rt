@@ -6,7 +6,8 @@ ghost use Rattle.pkg_state.specs.Consistent.{blocks_in, fits_required, is_met};
 ghost use Rattle.pkg_state.specs.Fault.{lacking_leaf};
 ghost use Rattle.pkg_state.specs.Package.{line_of, tree_of};
 
-use crate::class::{Class, Eapi};
+use crate::class::Class;
+use crate::eapi::Eapi;
 use crate::leaf::lacking_of_all;
 use crate::line::LineName;
 use dep_atom::{Atom, Facts};
@@ -110,6 +111,7 @@ impl Pkg {
         ensures { option_map (λ atom. atom_value atom.now) result ≡
             lacking_leaf (P.facts present.now) class self.now }
     {
-        lacking_of_all(&self.tree(class).nodes, present, &self.facts.enabled)
+        let tree = self.tree(class);
+        lacking_of_all(&tree.nodes, present, &self.facts.enabled, tree.empty_holds)
     }
 }

@@ -63,7 +63,7 @@ module _ (ps qs : List Package) (same : (p : Package) → Has ps p ↔ Has qs p)
   ]
 
   pub same_met : (class : Class) (p : Package) → is_met (facts_of ps) class p ≡ is_met (facts_of qs) class p
-  same_met class p = ap (λ (fact : AtomValue → Bool). all_hold kind fact (has p.facts.enabled) (tree_of class p)) (λ i a. is_block a || same_match p.facts.enabled a i)
+  same_met class p = ap (λ (fact : AtomValue → Bool). all_hold (tree_of class p).empty_holds kind fact (has p.facts.enabled) (tree_of class p).groups) (λ i a. is_block a || same_match p.facts.enabled a i)
 
 module _ (plan : List Group) (start : List Package) where
   abbrev xs : List Life

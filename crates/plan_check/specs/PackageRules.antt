@@ -51,8 +51,9 @@ coming_rule plan start x asked = both (required_rule x) (binding_rule plan start
 abbrev pub IsMissing :
     List Group → List Package → Stretch → Class → Package → Option AtomValue → Type 0
 IsMissing plan start s class p =
-    IsLeafOfAll (λ t. ¬ IsFirm (IsChained plan start p.facts.enabled s) (has p.facts.enabled) t)
-    (has p.facts.enabled) (tree_of class p)
+    IsLeafOfAll (λ t. ¬ IsFirm (tree_of class p).empty_holds
+    (IsChained plan start p.facts.enabled s) (has p.facts.enabled) t)
+    (has p.facts.enabled) (tree_of class p).groups
 
 -- a rule for what stays
 abbrev pub if_left : Moment → (Option Refusal → Type 0) → Option Refusal → Type 0

@@ -31,13 +31,7 @@ fn is_firm_through(
         IsFirmThrough (plan_of index.now) (start_of index.now) (stretch_value stretch) class
         pkg.now) }
 {
-    are_firm(
-        alloc,
-        &pkg.tree(class).nodes,
-        index,
-        &stretch,
-        &pkg.facts.enabled,
-    )
+    are_firm(alloc, pkg.tree(class), index, &stretch, &pkg.facts.enabled)
 }
 
 /// The leaf to name of what it may miss.
@@ -54,13 +48,7 @@ fn missing(
         IsMissing (plan_of index.now) (start_of index.now) (stretch_value stretch) class pkg.now
         (option_map atom_value leaf)) }
 {
-    let found = leaf_of_all(
-        alloc,
-        &pkg.tree(class).nodes,
-        index,
-        &stretch,
-        &pkg.facts.enabled,
-    )?;
+    let found = leaf_of_all(alloc, pkg.tree(class), index, &stretch, &pkg.facts.enabled)?;
     copy_leaf(found)
 }
 

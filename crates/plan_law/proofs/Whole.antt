@@ -60,9 +60,9 @@ module _ (plan : List Group) (start : List Package) (f : WaitsForEarlier plan) (
     -- what is firm through a stretch holds at each moment of it
     holds_within : (s : Stretch) → IsWithin plan done s → (class : Class) (p : Package) → IsFirmThrough plan start s class p → is_met (facts_of ps) class p ≡ true
     holds_within s w class p firm =
-        firm_all (IsChained plan start p.facts.enabled s) (has p.facts.enabled) (is_fact (facts_of ps) p.facts.enabled)
+        firm_all (tree_of class p).empty_holds (IsChained plan start p.facts.enabled s) (has p.facts.enabled) (is_fact (facts_of ps) p.facts.enabled)
         (λ a b. or_left (is_block a) (some_match (facts_of ps) p.facts.enabled a) b)
-        served (tree_of class p) firm where
+        served (tree_of class p).groups firm where
           served : (atoms : List AtomValue) → IsChained plan start p.facts.enabled s atoms → (a : AtomValue) × Has atoms a × (is_fact (facts_of ps) p.facts.enabled a ≡ true)
           served atoms c =
               let k = chained_alive plan start atoms p.facts.enabled s done w c in

@@ -20,7 +20,8 @@ Changes plan g line =
 -- what the package wants in this class is there all through the stretch
 abbrev pub IsFirmThrough : List Group → List Package → Stretch → Class → Package → Type 0
 IsFirmThrough plan start s class p =
-    AreFirm (IsChained plan start p.facts.enabled s) (has p.facts.enabled) (tree_of class p)
+    AreFirm (tree_of class p).empty_holds (IsChained plan start p.facts.enabled s)
+    (has p.facts.enabled) (tree_of class p).groups
 
 -- the packages that no group takes away
 abbrev pub AreLeft : List Group → List Package → List Package → Type 0

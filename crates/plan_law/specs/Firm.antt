@@ -3,10 +3,11 @@ use Rattle.std.specs.Prelude.{◌≡◌, ◌⊎◌, ℕ, Bool, true, false, List
 use Rattle.std.specs.List.{list_any}
 use Rattle.dep_atom.specs.Match.{value_matches}
 use Rattle.dep_atom.specs.Values.{AtomValue}
-use Rattle.dep_group.specs.Trees.{Tree, Trees, group, is_member, is_met, leaf, no_trees, tree}
+use Rattle.dep_group.specs.Trees.{Tree, group, has_member, is_member, is_met, leaf, no_trees, tree}
 use Rattle.dep_group.specs.declared.token.Opener.{Opener}
 use Rattle.dep_group.specs.declared.token.Opener.TheVariants.{AnyOf, AtMostOne, ExactlyOne, When}
 use Rattle.dep_tree.specs.Grammar.{is_block}
+use Rattle.dep_tree.specs.Texts.{AtomTrees}
 use Rattle.dep_tree.specs.Truth.{kind}
 use Rattle.pkg_state.specs.Package.{Package}
 use Rattle.plan_law.specs.Plans.{Group}
@@ -38,36 +39,39 @@ pub record IsChained (plan : List Group) (start : List Package) (asker : List (L
   pub arrives : Arrives plan start atoms asker s last
   pub outlasts : IsAhead plan s last.death
 
-abbrev pub Needs : Type 0
-Needs = Trees (Opener (List ℕ)) AtomValue
-
 -- the atoms that stand directly in a group
-abbrev pub direct : Needs → List AtomValue
+abbrev pub direct : AtomTrees → List AtomValue
 direct no_trees = []
 direct (tree (leaf a) ts) = a ∷ direct ts
 direct (tree (group opener us) ts) = direct ts
 
+-- a group without members, where such groups hold
+abbrev pub HoldsEmpty : Bool → (List ℕ → Bool) → AtomTrees → Type 0
+HoldsEmpty empty on ts = (empty ≡ true) × (has_member kind on ts ≡ false)
+
 -- A tree is firm where each member that counts is: an atom that is chained, or a block, since
 -- blocks are judged apart; an any-of group with a firm member, or whose own atoms are chained
--- together.
+-- together, or without members where such groups hold, which `empty` says.
 abbrev mutual
-  pub IsFirm : (List AtomValue → Type 0) → (List ℕ → Bool) →
+  pub IsFirm : Bool → (List AtomValue → Type 0) → (List ℕ → Bool) →
       Tree (Opener (List ℕ)) AtomValue → Type 0
-  IsFirm Chained on (leaf a) = is_block a ≡ false → Chained (a ∷ [])
-  IsFirm Chained on (group None ts) = AreFirm Chained on ts
-  IsFirm Chained on (group (Some AnyOf) ts) = HasFirm Chained on ts ⊎ Chained (direct ts)
-  IsFirm Chained on (group (Some ExactlyOne) ts) = ⊥
-  IsFirm Chained on (group (Some AtMostOne) ts) = ⊥
-  IsFirm Chained on (group (Some (When flag wanted)) ts) =
-      is_met on flag wanted ≡ true → AreFirm Chained on ts
+  IsFirm empty Chained on (leaf a) = is_block a ≡ false → Chained (a ∷ [])
+  IsFirm empty Chained on (group None ts) = AreFirm empty Chained on ts
+  IsFirm empty Chained on (group (Some AnyOf) ts) =
+      HasFirm empty Chained on ts ⊎ (Chained (direct ts) ⊎ HoldsEmpty empty on ts)
+  IsFirm empty Chained on (group (Some ExactlyOne) ts) = ⊥
+  IsFirm empty Chained on (group (Some AtMostOne) ts) = ⊥
+  IsFirm empty Chained on (group (Some (When flag wanted)) ts) =
+      is_met on flag wanted ≡ true → AreFirm empty Chained on ts
 
   -- each of them is firm
-  pub AreFirm : (List AtomValue → Type 0) → (List ℕ → Bool) → Needs → Type 0
-  AreFirm Chained on no_trees = ⊤
-  AreFirm Chained on (tree t ts) = IsFirm Chained on t × AreFirm Chained on ts
+  pub AreFirm : Bool → (List AtomValue → Type 0) → (List ℕ → Bool) → AtomTrees → Type 0
+  AreFirm empty Chained on no_trees = ⊤
+  AreFirm empty Chained on (tree t ts) =
+      IsFirm empty Chained on t × AreFirm empty Chained on ts
 
   -- one of them that is a member is firm
-  pub HasFirm : (List AtomValue → Type 0) → (List ℕ → Bool) → Needs → Type 0
-  HasFirm Chained on no_trees = ⊥
-  HasFirm Chained on (tree t ts) =
-      ((is_member kind on t ≡ true) × IsFirm Chained on t) ⊎ HasFirm Chained on ts
+  pub HasFirm : Bool → (List AtomValue → Type 0) → (List ℕ → Bool) → AtomTrees → Type 0
+  HasFirm empty Chained on no_trees = ⊥
+  HasFirm empty Chained on (tree t ts) =
+      ((is_member kind on t ≡ true) × IsFirm empty Chained on t) ⊎ HasFirm empty Chained on ts

@@ -2,14 +2,11 @@
 use Rattle.std.specs.Prelude.{◌≡◌, ◌<◌, ◌&&◌, ◌||◌, ℕ, Bool, true, false, List, length, map}
 use Rattle.std.specs.List.{list_any}
 use Rattle.basics.specs.Members.{AreDistinct, Has}
-use Rattle.pms_names.specs.Flags.{has}
 use Rattle.dep_atom.specs.Match.{value_matches}
 use Rattle.dep_atom.specs.declared.atom.Block.{Block}
 use Rattle.dep_atom.specs.declared.atom.Block.TheVariants.{No, Strong, Weak}
-use Rattle.dep_group.specs.Trees.{all_leaves}
-use Rattle.dep_tree.specs.Truth.{kind}
-use Rattle.pkg_state.specs.Consistent.{AreConsistent, class_blocks, facts_of, is_met}
-use Rattle.pkg_state.specs.Package.{Package, tree_of}
+use Rattle.pkg_state.specs.Consistent.{AreConsistent, class_blocks, facts_of, is_met, leaves_in}
+use Rattle.pkg_state.specs.Package.{Package}
 use Rattle.pkg_state.specs.declared.class.Class.{Class}
 use Rattle.pkg_state.specs.declared.class.Class.TheVariants.{Bdepend, Depend, Idepend, Pdepend, Rdepend}
 use Rattle.plan_law.specs.Plans.{Group, IsRun, after, group_at}
@@ -31,7 +28,7 @@ is_strong_block Strong = true
 abbrev pub class_blocks_strongly : Class → Package → Package → Bool
 class_blocks_strongly class p q =
     list_any (λ a. is_strong_block a.block && value_matches a q.facts p.facts.enabled)
-    (all_leaves kind (has p.facts.enabled) (tree_of class p))
+    (leaves_in class p)
 
 -- p can't be brought while q is there: a strong block, or any block of a class of its build
 abbrev pub bars : Package → Package → Bool

@@ -38,12 +38,13 @@ drop_end (x ∷ xs) (suc i) le = drop_end xs i (omega (arith, le))
 pub eq_iff : {A : Type 0} (P : A → Type 0) (a b : A) → a ≡ b → P a ↔ P b
 eq_iff P a b e = ((λ h. subst P e h), (λ h. subst P (sym e) h))
 
--- an any-of group without a firm member is firm where its own atoms are chained
-pub any_of_firm : (F D C : Type 0) → ¬ F → D ↔ C → D ↔ (F ⊎ C)
-any_of_firm F D C none same = ((λ d. inr (same.0 d)), back) where
-  back : F ⊎ C → D
-  back (inl f) = absurd (none f)
-  back (inr h) = same.1 h
+-- an any-of group that has members, and none of them firm, is firm where its own atoms are chained
+pub any_of_firm : (F D C E : Type 0) → ¬ F → ¬ E → D ↔ C → D ↔ (F ⊎ (C ⊎ E))
+any_of_firm F D C E firm members same = ((λ d. inr (inl (same.0 d))), back) where
+  back : F ⊎ (C ⊎ E) → D
+  back (inl f) = absurd (firm f)
+  back (inr (inl h)) = same.1 h
+  back (inr (inr e)) = absurd (members e)
 
 -- what the variants of a node are seen as
 pub leaf_view : (a : Atom) → view (nodes.Leaf a) ≡ leaf (atom_value a)

@@ -1,11 +1,9 @@
 -- The groups that a refusal names: those that may come while a package is there, and that bring or
 -- take away what its needs ask for or keep out.
 use Rattle.std.specs.Prelude.{◌≡◌, ◌⊎◌, ℕ, ◌+◌, List, [], ◌∷◌}
-use Rattle.pms_names.specs.Flags.{has}
 use Rattle.dep_atom.specs.Values.{AtomValue}
-use Rattle.dep_group.specs.Trees.{all_leaves}
-use Rattle.dep_tree.specs.Truth.{kind}
-use Rattle.pkg_state.specs.Package.{Package, tree_of}
+use Rattle.pkg_state.specs.Consistent.{leaves_in}
+use Rattle.pkg_state.specs.Package.{Package}
 use Rattle.pkg_state.specs.declared.class.Class.TheVariants.{Rdepend}
 use Rattle.plan_law.specs.Plans.{Group}
 use Rattle.plan_law.specs.Lives.{IsAhead, IsPast, Life, Stretch, commit, stretch_of}
@@ -36,7 +34,7 @@ AreNumbers P g (group ∷ rest) numbers =
 
 -- what the package needs while it runs, and keeps out then
 abbrev pub runtime_leaves : Package → List AtomValue
-runtime_leaves p = all_leaves kind (has p.facts.enabled) (tree_of Rdepend p)
+runtime_leaves p = leaves_in Rdepend p
 
 -- the lives of what these leaves match
 abbrev pub those_matched : List Group → List Package → Package → List Life

@@ -2,9 +2,9 @@ ghost use Rattle.std.specs.Prelude.{◌≡◌, ◌⊎◌, ◌↔◌, ◌∷◌, 
 ghost use Rattle.std.specs.Option.{option_map};
 ghost use Rattle.dep_atom.specs.Values.{atom_value};
 ghost use Rattle.dep_tree.specs.Grammar.{is_block};
-ghost use Rattle.dep_tree.specs.View.{trees_view, view};
+ghost use Rattle.dep_tree.specs.View.{trees, trees_view, view};
 ghost use Rattle.pms_names.specs.Flags.{has};
-ghost use Rattle.plan_law.specs.Firm.{AreFirm, HasFirm, IsFirm, direct};
+ghost use Rattle.plan_law.specs.Firm.{AreFirm, HasFirm, HoldsEmpty, IsFirm, direct};
 ghost use Rattle.plan_lives.specs.Gathered.{Chained};
 ghost use Rattle.plan_lives.specs.Index.{IsIndex, plan_of};
 ghost use Rattle.plan_lives.specs.Leaves.{IsLeaf, IsLeafOfAll, IsLeafOfAny};
@@ -14,7 +14,7 @@ use crate::chains::is_chained;
 use crate::index::Index;
 use crate::stretch::Stretch;
 use dep_atom::Atom;
-use dep_tree::{Node, is_block, is_member};
+use dep_tree::{DepTree, Node, has_member, is_block, is_member};
 use pms_names::Flags;
 use std::alloc::{AllocError, Global};
 
@@ -52,7 +52,15 @@ fn is_leaf_firm(
     is_chained(alloc, index, stretch, asker, &[atom])
 }
 
-/// Whether one of the members is there all through the stretch, or the atoms among them together.
+/// Whether these are a group without members, where such groups hold.
+fn holds_empty(nodes: &[Node], asker: &Flags, empty_holds: bool) -> bool
+    ensures { IsTrue result ↔ HoldsEmpty empty_holds (has asker.now) (trees_view nodes.now) }
+{
+    empty_holds && !has_member(nodes, asker)
+}
+
+/// Whether one of the members is there all through the stretch, or the atoms among them together,
+/// or whether there is none and such groups hold.
 #[cycle(firm)]
 fn is_any_firm(
     alloc: Global,
@@ -60,14 +68,20 @@ fn is_any_firm(
     index: &Index<'_>,
     stretch: &Stretch,
     asker: &Flags,
+    empty_holds: bool,
 ) -> Result<bool, AllocError>
     requires is { IsIndex index.now }
     requires within { IsStretchWithin (length (plan_of index.now)) (stretch_value stretch.now) }
     ensures { IfOk result (λ firm. IsTrue firm ↔
-        (HasFirm (Chained index.now stretch.now asker.now) (has asker.now) (trees_view nodes.now)
-        ⊎ Chained index.now stretch.now asker.now (direct (trees_view nodes.now)))) }
+        (HasFirm empty_holds (Chained index.now stretch.now asker.now) (has asker.now)
+        (trees_view nodes.now)
+        ⊎ (Chained index.now stretch.now asker.now (direct (trees_view nodes.now))
+        ⊎ HoldsEmpty empty_holds (has asker.now) (trees_view nodes.now)))) }
 {
-    if has_firm(alloc, nodes, index, stretch, asker)? {
+    if holds_empty(nodes, asker, empty_holds) {
+        return Ok(true);
+    }
+    if has_firm(alloc, nodes, index, stretch, asker, empty_holds)? {
         return Ok(true);
     }
     let atoms = direct(alloc, nodes)?;
@@ -82,19 +96,21 @@ fn is_firm(
     index: &Index<'_>,
     stretch: &Stretch,
     asker: &Flags,
+    empty_holds: bool,
 ) -> Result<bool, AllocError>
     requires is { IsIndex index.now }
     requires within { IsStretchWithin (length (plan_of index.now)) (stretch_value stretch.now) }
     ensures { IfOk result (λ firm. IsTrue firm ↔
-        IsFirm (Chained index.now stretch.now asker.now) (has asker.now) (view node.now)) }
+        IsFirm empty_holds (Chained index.now stretch.now asker.now) (has asker.now)
+        (view node.now)) }
 {
     match node {
         Node::Leaf(atom) => is_leaf_firm(alloc, atom, index, stretch, asker),
-        Node::All(nodes) => are_firm(alloc, nodes, index, stretch, asker),
-        Node::AnyOf(nodes) => is_any_firm(alloc, nodes, index, stretch, asker),
+        Node::All(nodes) => all_firm(alloc, nodes, index, stretch, asker, empty_holds),
+        Node::AnyOf(nodes) => is_any_firm(alloc, nodes, index, stretch, asker, empty_holds),
         Node::When { flag, on, nodes } => {
             if asker.has(flag) == *on {
-                are_firm(alloc, nodes, index, stretch, asker)
+                all_firm(alloc, nodes, index, stretch, asker, empty_holds)
             } else {
                 Ok(true)
             }
@@ -104,20 +120,22 @@ fn is_firm(
 
 /// Whether what each of the trees asks is there all through the stretch.
 #[cycle(firm)]
-pub fn are_firm(
+fn all_firm(
     alloc: Global,
     nodes: &[Node],
     index: &Index<'_>,
     stretch: &Stretch,
     asker: &Flags,
+    empty_holds: bool,
 ) -> Result<bool, AllocError>
     requires is { IsIndex index.now }
     requires within { IsStretchWithin (length (plan_of index.now)) (stretch_value stretch.now) }
     ensures { IfOk result (λ firm. IsTrue firm ↔
-        AreFirm (Chained index.now stretch.now asker.now) (has asker.now) (trees_view nodes.now)) }
+        AreFirm empty_holds (Chained index.now stretch.now asker.now) (has asker.now)
+        (trees_view nodes.now)) }
 {
     for node in nodes {
-        if !is_firm(alloc, node, index, stretch, asker)? {
+        if !is_firm(alloc, node, index, stretch, asker, empty_holds)? {
             return Ok(false);
         }
     }
@@ -131,18 +149,37 @@ fn has_firm(
     index: &Index<'_>,
     stretch: &Stretch,
     asker: &Flags,
+    empty_holds: bool,
 ) -> Result<bool, AllocError>
     requires is { IsIndex index.now }
     requires within { IsStretchWithin (length (plan_of index.now)) (stretch_value stretch.now) }
     ensures { IfOk result (λ firm. IsTrue firm ↔
-        HasFirm (Chained index.now stretch.now asker.now) (has asker.now) (trees_view nodes.now)) }
+        HasFirm empty_holds (Chained index.now stretch.now asker.now) (has asker.now)
+        (trees_view nodes.now)) }
 {
     for node in nodes {
-        if is_member(node, asker) && is_firm(alloc, node, index, stretch, asker)? {
+        if is_member(node, asker) && is_firm(alloc, node, index, stretch, asker, empty_holds)? {
             return Ok(true);
         }
     }
     Ok(false)
+}
+
+/// Whether what the dependencies ask is there all through the stretch.
+pub fn are_firm(
+    alloc: Global,
+    tree: &DepTree,
+    index: &Index<'_>,
+    stretch: &Stretch,
+    asker: &Flags,
+) -> Result<bool, AllocError>
+    requires is { IsIndex index.now }
+    requires within { IsStretchWithin (length (plan_of index.now)) (stretch_value stretch.now) }
+    ensures { IfOk result (λ firm. IsTrue firm ↔
+        AreFirm (trees tree.now).empty_holds (Chained index.now stretch.now asker.now)
+        (has asker.now) (trees tree.now).groups) }
+{
+    all_firm(alloc, &tree.nodes, index, stretch, asker, tree.empty_holds)
 }
 
 #[cycle(leaf)]
@@ -152,41 +189,44 @@ fn leaf<'a>(
     index: &Index<'_>,
     stretch: &Stretch,
     asker: &Flags,
+    empty_holds: bool,
 ) -> Result<Option<&'a Atom>, AllocError>
     requires is { IsIndex index.now }
     requires within { IsStretchWithin (length (plan_of index.now)) (stretch_value stretch.now) }
     ensures { IfOk result (λ found.
-        IsLeaf (λ t. ¬ IsFirm (Chained index.now stretch.now asker.now) (has asker.now) t)
+        IsLeaf (λ t.
+        ¬ IsFirm empty_holds (Chained index.now stretch.now asker.now) (has asker.now) t)
         (has asker.now) (view node.now)
         (option_map (λ atom. atom_value atom.now) found)) }
 {
     match node {
         Node::Leaf(atom) => Ok(Some(atom)),
-        Node::All(nodes) => leaf_of_all(alloc, nodes, index, stretch, asker),
-        Node::AnyOf(nodes) => leaf_of_any(alloc, nodes, index, stretch, asker),
-        Node::When { nodes, .. } => leaf_of_all(alloc, nodes, index, stretch, asker),
+        Node::All(nodes) => leaf_of_nodes(alloc, nodes, index, stretch, asker, empty_holds),
+        Node::AnyOf(nodes) => leaf_of_any(alloc, nodes, index, stretch, asker, empty_holds),
+        Node::When { nodes, .. } => leaf_of_nodes(alloc, nodes, index, stretch, asker, empty_holds),
     }
 }
 
-/// The leaf to name of trees that should all be there.
 #[cycle(leaf)]
-pub fn leaf_of_all<'a>(
+fn leaf_of_nodes<'a>(
     alloc: Global,
     nodes: &'a [Node],
     index: &Index<'_>,
     stretch: &Stretch,
     asker: &Flags,
+    empty_holds: bool,
 ) -> Result<Option<&'a Atom>, AllocError>
     requires is { IsIndex index.now }
     requires within { IsStretchWithin (length (plan_of index.now)) (stretch_value stretch.now) }
     ensures { IfOk result (λ found.
-        IsLeafOfAll (λ t. ¬ IsFirm (Chained index.now stretch.now asker.now) (has asker.now) t)
+        IsLeafOfAll (λ t.
+        ¬ IsFirm empty_holds (Chained index.now stretch.now asker.now) (has asker.now) t)
         (has asker.now) (trees_view nodes.now)
         (option_map (λ atom. atom_value atom.now) found)) }
 {
     for node in nodes {
-        if !is_firm(alloc, node, index, stretch, asker)? {
-            return leaf(alloc, node, index, stretch, asker);
+        if !is_firm(alloc, node, index, stretch, asker, empty_holds)? {
+            return leaf(alloc, node, index, stretch, asker, empty_holds);
         }
     }
     Ok(None)
@@ -199,18 +239,39 @@ fn leaf_of_any<'a>(
     index: &Index<'_>,
     stretch: &Stretch,
     asker: &Flags,
+    empty_holds: bool,
 ) -> Result<Option<&'a Atom>, AllocError>
     requires is { IsIndex index.now }
     requires within { IsStretchWithin (length (plan_of index.now)) (stretch_value stretch.now) }
     ensures { IfOk result (λ found.
-        IsLeafOfAny (λ t. ¬ IsFirm (Chained index.now stretch.now asker.now) (has asker.now) t)
+        IsLeafOfAny (λ t.
+        ¬ IsFirm empty_holds (Chained index.now stretch.now asker.now) (has asker.now) t)
         (has asker.now) (trees_view nodes.now)
         (option_map (λ atom. atom_value atom.now) found)) }
 {
     for node in nodes {
         if is_member(node, asker) {
-            return leaf(alloc, node, index, stretch, asker);
+            return leaf(alloc, node, index, stretch, asker, empty_holds);
         }
     }
     Ok(None)
+}
+
+/// The leaf to name of dependencies that should all be there.
+pub fn leaf_of_all<'a>(
+    alloc: Global,
+    tree: &'a DepTree,
+    index: &Index<'_>,
+    stretch: &Stretch,
+    asker: &Flags,
+) -> Result<Option<&'a Atom>, AllocError>
+    requires is { IsIndex index.now }
+    requires within { IsStretchWithin (length (plan_of index.now)) (stretch_value stretch.now) }
+    ensures { IfOk result (λ found.
+        IsLeafOfAll (λ t. ¬ IsFirm (trees tree.now).empty_holds
+        (Chained index.now stretch.now asker.now) (has asker.now) t)
+        (has asker.now) (trees tree.now).groups
+        (option_map (λ atom. atom_value atom.now) found)) }
+{
+    leaf_of_nodes(alloc, &tree.nodes, index, stretch, asker, tree.empty_holds)
 }

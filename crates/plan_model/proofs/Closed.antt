@@ -12,12 +12,12 @@ use Rattle.dep_group.specs.Tokens.{AreMadeOf, IsInForm, IsMadeOf}
 use Rattle.dep_group.specs.Trees.{Tree, all_depth, all_free, depth, group, is_any_of, is_free, leaf, no_trees, tree}
 use Rattle.dep_group.specs.declared.token.Opener.{Opener}
 use Rattle.dep_tree.specs.Grammar.{AreAtomsInGroups, grammar, is_block}
-use Rattle.dep_tree.specs.Texts.{Dependencies}
+use Rattle.dep_tree.specs.Texts.{AtomTrees, Dependencies}
 use Rattle.vdb_law.specs.Fields.{all_bound, bound_alone, tree_bound, without_equals}
 use Rattle.plan_text.specs.Words.{IsBind}
 use Rattle.vdb_files.specs.Recorded.{AreBound}
 use Rattle.vdb_files.proofs.Again.{slot_again, slot_kept}
-use Rattle.plan_model.specs.Entering.{all_entered, all_left, asks, bound_slot, entered, entered_leaf, left, left_by, lets_in, slot_with}
+use Rattle.plan_model.specs.Entering.{all_entered, all_left, asks, bound_slot, entered, entered_leaf, entered_with, left, left_by, lets_in, slot_with}
 
 abbrev T : Type 0
 T = Tree (Opener (List ℕ)) AtomValue
@@ -79,7 +79,7 @@ module _ (on : List ℕ → Bool) where
     left_formed binds (leaf a) are = left_by_formed binds a are
     left_formed binds (group opener ts) are = binds_if (lets_in on opener) (all_left on binds ts) binds (all_left_formed binds ts are) are
 
-    all_left_formed : (binds : List Bind) (ts : Dependencies) → AreBinds binds → AreBinds (all_left on binds ts)
+    all_left_formed : (binds : List Bind) (ts : AtomTrees) → AreBinds binds → AreBinds (all_left on binds ts)
     all_left_formed binds no_trees are = are
     all_left_formed binds (tree t ts) are = all_left_formed (left on binds t) ts (left_formed binds t are)
 
@@ -91,7 +91,7 @@ module _ (on : List ℕ → Bool) where
     tree_closed binds (leaf a) = ap leaf (leaf_closed binds a)
     tree_closed binds (group opener ts) = ap (group opener) (all_closed (if lets_in on opener then binds else []) ts)
 
-    all_closed : (binds : List Bind) (ts : Dependencies) → all_bound (all_entered on binds ts) ≡ all_entered on binds ts
+    all_closed : (binds : List Bind) (ts : AtomTrees) → all_bound (all_entered on binds ts) ≡ all_entered on binds ts
     all_closed binds no_trees = refl
     all_closed binds (tree t ts) =
         ap (λ (u : T). tree u (all_bound (all_entered on (left on binds t) ts))) (tree_closed binds t)
@@ -102,7 +102,7 @@ module _ (on : List ℕ → Bool) where
     tree_made binds (leaf a) are is = leaf_formed binds a are is
     tree_made binds (group opener ts) are is = (is.0, all_made (if lets_in on opener then binds else []) ts (inside_formed binds opener are) is.1)
 
-    all_made : (binds : List Bind) (ts : Dependencies) → AreBinds binds → AreMadeOf grammar ts → AreMadeOf grammar (all_entered on binds ts)
+    all_made : (binds : List Bind) (ts : AtomTrees) → AreBinds binds → AreMadeOf grammar ts → AreMadeOf grammar (all_entered on binds ts)
     all_made binds no_trees are is = tt
     all_made binds (tree t ts) are is = (tree_made binds t are is.0, all_made (left on binds t) ts (left_formed binds t are) is.1)
 
@@ -111,7 +111,7 @@ module _ (on : List ℕ → Bool) where
     tree_deep binds (leaf a) = refl
     tree_deep binds (group opener ts) = ap (λ (n : ℕ). 1 + n) (all_deep (if lets_in on opener then binds else []) ts)
 
-    all_deep : (binds : List Bind) (ts : Dependencies) → all_depth (all_entered on binds ts) ≡ all_depth ts
+    all_deep : (binds : List Bind) (ts : AtomTrees) → all_depth (all_entered on binds ts) ≡ all_depth ts
     all_deep binds no_trees = refl
     all_deep binds (tree t ts) =
         ap (λ (n : ℕ). max n (all_depth (all_entered on (left on binds t) ts))) (tree_deep binds t)
@@ -122,7 +122,7 @@ module _ (on : List ℕ → Bool) where
     tree_free binds inside (leaf a) = refl
     tree_free binds inside (group opener ts) = all_free_too (if lets_in on opener then binds else []) _ ts
 
-    all_free_too : (binds : List Bind) (inside : Bool) (ts : Dependencies) → all_free is_any_of is_block inside (all_entered on binds ts) ≡ all_free is_any_of is_block inside ts
+    all_free_too : (binds : List Bind) (inside : Bool) (ts : AtomTrees) → all_free is_any_of is_block inside (all_entered on binds ts) ≡ all_free is_any_of is_block inside ts
     all_free_too binds inside no_trees = refl
     all_free_too binds inside (tree t ts) =
         ap (λ (b : Bool). b && all_free is_any_of is_block inside (all_entered on (left on binds t) ts)) (tree_free binds inside t)
@@ -130,16 +130,20 @@ module _ (on : List ℕ → Bool) where
 
 -- in form are just atoms in groups
 abbrev pub FormIsAtoms : Type 0
-FormIsAtoms = (x : Dependencies) → IsInForm grammar is_block x ↔ AreAtomsInGroups x
+FormIsAtoms = (ts : AtomTrees) → IsInForm grammar is_block ts ↔ AreAtomsInGroups ts
 
-pub entered_bound : FormIsAtoms → (on : List ℕ → Bool) (binds : List Bind) (x : Dependencies) → AllByRecursion IsBind binds → IsInForm grammar is_block x → AreBound (all_entered on binds x)
+pub entered_bound : FormIsAtoms → (on : List ℕ → Bool) (binds : List Bind) (x : Dependencies) → AllByRecursion IsBind binds → IsInForm grammar is_block x.groups → AreBound (entered_with on binds x)
 entered_bound law on binds x are form =
-    let atoms = (law x).0 form in
+    let atoms = (law x.groups).0 form in
     record {
-      form = (law (all_entered on binds x)).1 (record {
-        made = all_made on binds x are atoms.made;
-        low = subst (λ (n : ℕ). n ≤ 64) (sym (all_deep on binds x)) atoms.low;
-        free = all_free_too on binds false x ∙ atoms.free;
+      form = (law (all_entered on binds x.groups)).1 (record {
+        made = all_made on binds x.groups are atoms.made;
+        low = subst (λ (n : ℕ). n ≤ 64) (sym (all_deep on binds x.groups)) atoms.low;
+        free = all_free_too on binds false x.groups ∙ atoms.free;
       });
-      bound = all_closed on binds x;
+      bound = λ i. record { groups = all_closed on binds x.groups i; empty_holds = x.empty_holds };
     }
+
+-- what needs nothing enters as it is
+pub entered_none : (on : List ℕ → Bool) (binds : List Bind) (ts : AtomTrees) → ts ≡ no_trees → all_entered on binds ts ≡ no_trees
+entered_none on binds ts none = ap (all_entered on binds) none

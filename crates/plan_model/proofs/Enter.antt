@@ -4,7 +4,7 @@ use Rattle.dep_atom.specs.Values.{AtomValue}
 use Rattle.dep_atom.specs.declared.slot.Bind.{Bind}
 use Rattle.dep_group.specs.Trees.{Tree, no_trees, tree, trees_of}
 use Rattle.dep_group.specs.declared.token.Opener.{Opener}
-use Rattle.dep_tree.specs.Texts.{Dependencies}
+use Rattle.dep_tree.specs.Texts.{AtomTrees}
 use Rattle.dep_tree.specs.View.{trees_view, view}
 use Rattle.dep_tree.specs.declared.tree.Node.{Node}
 use Rattle.dep_tree.proofs.CopyLemmas.{trees_view-map}
@@ -22,11 +22,11 @@ left_unasked [] a e = refl
 left_unasked (b ∷ binds) a e = rw e refl
 
 -- trees before others
-abbrev pub put : List (Tree (Opener (List ℕ)) AtomValue) → Dependencies → Dependencies
+abbrev pub put : List (Tree (Opener (List ℕ)) AtomValue) → AtomTrees → AtomTrees
 put [] ts = ts
 put (x ∷ xs) ts = tree x (put xs ts)
 
-put_more : (xs : List (Tree (Opener (List ℕ)) AtomValue)) (x : Tree (Opener (List ℕ)) AtomValue) (ts : Dependencies) → put xs (tree x ts) ≡ put (xs ++ (x ∷ [])) ts
+put_more : (xs : List (Tree (Opener (List ℕ)) AtomValue)) (x : Tree (Opener (List ℕ)) AtomValue) (ts : AtomTrees) → put xs (tree x ts) ≡ put (xs ++ (x ∷ [])) ts
 put_more [] x ts = refl
 put_more (y ∷ xs) x ts = ap (tree y) (put_more xs x ts)
 
@@ -49,13 +49,13 @@ map_push (y ∷ xs) x = ap (λ (l : List _). view y ∷ l) (map_push xs x)
 pub one_entered : (on : List ℕ → Bool) (binds : List Bind) (nodes : List Node) (i : ℕ) (copies : List Node) (rest behind : List Bind) (node copy : Node) → i < length nodes → node ≡ get_or nodes i node → AreEntering on binds nodes i copies rest → view copy ≡ entered on rest (view node) → behind ≡ left on rest (view node) → AreEntering on binds nodes (i + 1) (copies ++ (copy ∷ [])) behind
 one_entered on binds nodes i copies rest behind node copy lt is so_far copied leaves = record {
   trees_are = so_far.trees_are
-      ∙ ap (λ (ts : Dependencies). put (map view copies) (all_entered on rest ts)) (trees_at nodes i node lt is)
+      ∙ ap (λ (ts : AtomTrees). put (map view copies) (all_entered on rest ts)) (trees_at nodes i node lt is)
       ∙ put_more (map view copies) (entered on rest (view node)) (all_entered on (left on rest (view node)) (trees_view (drop (i + 1) nodes)))
       ∙ ap (λ (x : Tree (Opener (List ℕ)) AtomValue). put (map view copies ++ (x ∷ [])) (all_entered on (left on rest (view node)) (trees_view (drop (i + 1) nodes)))) (sym copied)
       ∙ ap (λ (xs : List (Tree (Opener (List ℕ)) AtomValue)). put xs (all_entered on (left on rest (view node)) (trees_view (drop (i + 1) nodes)))) (sym (map_push copies copy))
       ∙ ap (λ (bs : List Bind). put (map view (copies ++ (copy ∷ []))) (all_entered on bs (trees_view (drop (i + 1) nodes)))) (sym leaves);
   left_is = so_far.left_is
-      ∙ ap (λ (ts : Dependencies). all_left on rest ts) (trees_at nodes i node lt is)
+      ∙ ap (λ (ts : AtomTrees). all_left on rest ts) (trees_at nodes i node lt is)
       ∙ ap (λ (bs : List Bind). all_left on bs (trees_view (drop (i + 1) nodes))) (sym leaves);
 }
 

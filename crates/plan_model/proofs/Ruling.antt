@@ -5,8 +5,9 @@ use Rattle.std.proofs.lemmas.Option.{none-some}
 use Rattle.std.proofs.lemmas.Bool.{true_from_ne_false}
 use Rattle.basics.specs.Members.{Has}
 use Rattle.pms_names.specs.Flags.{has}
+use Rattle.build_pool.specs.declared.orders.Order.{Order}
 use Rattle.pkg_state.specs.Package.{Package}
-use Rattle.plan_text.specs.Plans.{AdditionValue, GroupValue}
+use Rattle.plan_text.specs.Plans.{GroupValue}
 use Rattle.plan_rules.specs.Verdicts.{each}
 use Rattle.plan_rules.proofs.Trying.{IsClear, each_clear, each_passed, from_clear}
 use Rattle.plan_model.specs.Faults.{Says, addition_rule, flag_rule, found_rule, group_rule, link_rule}
@@ -15,18 +16,18 @@ use Rattle.plan_model.specs.declared.fault.LinkFault.{LinkFault}
 use Rattle.plan_model.specs.declared.fault.LinkFault.TheVariants as faults
 
 -- at most one package is the first
-pub first_once : (a : AdditionValue) (ps : List Package) (o r : Option Package) → IsFirst a ps o → IsFirst a ps r → o ≡ r
+pub first_once : (a : Order) (ps : List Package) (o r : Option Package) → IsFirst a ps o → IsFirst a ps r → o ≡ r
 first_once a [] o r h k = h ∙ sym k
 first_once a (p ∷ ps) o r (inl h) (inl k) = h.1 ∙ sym k.1
 first_once a (p ∷ ps) o r (inl h) (inr k) = absurd (k.0 h.0)
 first_once a (p ∷ ps) o r (inr h) (inl k) = absurd (h.0 k.0)
 first_once a (p ∷ ps) o r (inr h) (inr k) = first_once a ps o r h.1 k.1
 
-found_clear : (g : ℕ) (a : AdditionValue) (o : Option Package) → IsClear (found_rule g a o)
+found_clear : (g : ℕ) (a : Order) (o : Option Package) → IsClear (found_rule g a o)
 found_clear g a None e passed h = none-some _ passed
 found_clear g a (Some p) e passed h = each_clear a.enabled (flag_rule g a p) (λ flag f ok no. ok no.0) e passed h
 
-addition_clear : (offered : List Package) (g : ℕ) (a : AdditionValue) → IsClear (addition_rule offered g a)
+addition_clear : (offered : List Package) (g : ℕ) (a : Order) → IsClear (addition_rule offered g a)
 addition_clear offered g a e passed h = found_clear g a h.0 e (subst (λ (o : Option Package). found_rule g a o None) (first_once a offered passed.0 h.0 passed.1 h.1) passed.2) h.2
 
 pub link_clear : (offered : List Package) (text : List GroupValue) → IsClear (link_rule offered text)
@@ -43,11 +44,11 @@ fine_if J (Ok x) clear says ok = tt
 fine_if J (Err e) clear says ok = fault_if J clear ok e says
 
 -- a flag that no rule refuses is known
-pub all_known : (g : ℕ) (a : AdditionValue) (p : Package) → each a.enabled (flag_rule g a p) None → (flag : List ℕ) → Has a.enabled flag → has p.facts.iuse flag ≡ true
+pub all_known : (g : ℕ) (a : Order) (p : Package) → each a.enabled (flag_rule g a p) None → (flag : List ℕ) → Has a.enabled flag → has p.facts.iuse flag ≡ true
 all_known g a p passed flag there = true_from_ne_false (has p.facts.iuse flag) (each_passed a.enabled (flag_rule g a p) passed flag there)
 
 -- the addition's package is found, and its flags are judged
-pub says_found : {T : Type 0} (offered : List Package) (g : ℕ) (a : AdditionValue) (p : Package) (r : Result T LinkFault) → IsFirst a offered (Some p) → Says (each a.enabled (flag_rule g a p)) r → Says (addition_rule offered g a) r
+pub says_found : {T : Type 0} (offered : List Package) (g : ℕ) (a : Order) (p : Package) (r : Result T LinkFault) → IsFirst a offered (Some p) → Says (each a.enabled (flag_rule g a p)) r → Says (addition_rule offered g a) r
 says_found offered g a p (Ok x) first says = (Some p, first, says)
 says_found offered g a p (Err e) first says = λ other. (Some p, first, says other)
 

@@ -9,7 +9,7 @@ use Rattle.dep_group.specs.Trees.{Tree, group, is_met, leaf, no_trees, tree}
 use Rattle.dep_group.specs.declared.token.Opener.{Opener}
 use Rattle.dep_group.specs.declared.token.Opener.TheVariants.{AnyOf, AtMostOne, ExactlyOne, When}
 use Rattle.dep_tree.specs.Grammar.{is_block}
-use Rattle.dep_tree.specs.Texts.{Dependencies}
+use Rattle.dep_tree.specs.Texts.{AtomTrees, Dependencies}
 use Rattle.vdb_law.specs.Fields.{without_equals}
 
 -- the slot operator is bound to no subslot
@@ -60,7 +60,7 @@ abbrev mutual
   left on binds (leaf a) = left_by binds a
   left on binds (group opener ts) = if lets_in on opener then all_left on binds ts else binds
 
-  pub all_left : (List ℕ → Bool) → List Bind → Dependencies → List Bind
+  pub all_left : (List ℕ → Bool) → List Bind → AtomTrees → List Bind
   all_left on binds no_trees = binds
   all_left on binds (tree t ts) = all_left on (left on binds t) ts
 
@@ -71,7 +71,7 @@ abbrev mutual
   asking_leaves on (group opener ts) =
       if lets_in on opener then all_asking_leaves on ts else []
 
-  pub all_asking_leaves : (List ℕ → Bool) → Dependencies → List AtomValue
+  pub all_asking_leaves : (List ℕ → Bool) → AtomTrees → List AtomValue
   all_asking_leaves on no_trees = []
   all_asking_leaves on (tree t ts) = asking_leaves on t ++ all_asking_leaves on ts
 
@@ -83,7 +83,12 @@ abbrev mutual
   entered on binds (group opener ts) =
       group opener (all_entered on (if lets_in on opener then binds else []) ts)
 
-  pub all_entered : (List ℕ → Bool) → List Bind → Dependencies → Dependencies
+  pub all_entered : (List ℕ → Bool) → List Bind → AtomTrees → AtomTrees
   all_entered on binds no_trees = no_trees
   all_entered on binds (tree t ts) =
       tree (entered on binds t) (all_entered on (left on binds t) ts)
+
+-- dependencies as they enter with these binds
+abbrev pub entered_with : (List ℕ → Bool) → List Bind → Dependencies → Dependencies
+entered_with on binds x =
+    record { groups = all_entered on binds x.groups; empty_holds = x.empty_holds }

@@ -5,6 +5,7 @@ use Rattle.pms_names.specs.Flags.{IsRising, has}
 use Rattle.dep_group.specs.Tokens.{IsInForm}
 use Rattle.dep_tree.specs.Grammar as dependencies
 use Rattle.required_use.specs.Grammar as expressions
+use Rattle.pkg_state.specs.Editions.{FitsEdition}
 use Rattle.pkg_state.specs.Package.{Package, tree_of}
 use Rattle.pkg_state.specs.declared.class.Class.{Class}
 use Rattle.plan_law.specs.Plans as law
@@ -14,11 +15,13 @@ use Rattle.vdb_files.specs.Recorded.{IsRecordable}
 use Rattle.vdb_files.specs.Written.{installed_with}
 use Rattle.plan_model.specs.Linked.{IsLinked}
 
--- what the package needs and asks of its flags is in form, as it is where its texts were read
+-- what the package needs and asks of its flags is in form and fits its edition, as it does where
+-- its texts were read
 pub record IsFormed (p : Package) : Type 0 where
   pub needs : (class : Class) →
-      IsInForm dependencies.grammar dependencies.is_block (tree_of class p)
-  pub required : IsInForm expressions.grammar expressions.never p.required
+      IsInForm dependencies.grammar dependencies.is_block (tree_of class p).groups
+  pub required : IsInForm expressions.grammar expressions.never p.required.groups
+  pub edition : FitsEdition p
 
 -- packages that are offered: in form, with just the implicit flags on
 abbrev pub AreOffered : List (List ℕ) → List Package → Type 0

@@ -2,19 +2,19 @@
 use Rattle.std.specs.Prelude.{◌≡◌, ◌⊎◌, ◌||◌, ℕ, true, List, [], ◌∷◌, Option, None, Some}
 use Rattle.basics.specs.Members.{Has}
 use Rattle.pms_names.specs.Flags.{IsRising, has}
+use Rattle.build_pool.specs.declared.orders.Order.{Order}
 use Rattle.dep_atom.specs.declared.slot.Bind.{Bind}
 use Rattle.pkg_state.specs.Package.{Package, with_flags}
-use Rattle.plan_text.specs.Plans.{AdditionValue}
-use Rattle.plan_model.specs.Entering.{all_entered}
+use Rattle.plan_model.specs.Entering.{entered_with}
 
 -- the addition names the package
-pub record Names (a : AdditionValue) (p : Package) : Type 0 where
+pub record Names (a : Order) (p : Package) : Type 0 where
   pub id : p.facts.id ≡ a.id
   pub slot : p.facts.slot ≡ a.slot
   pub subslot : p.facts.subslot ≡ a.subslot
 
 -- of the packages the first that the addition names, or none
-abbrev pub IsFirst : AdditionValue → List Package → Option Package → Type 0
+abbrev pub IsFirst : Order → List Package → Option Package → Type 0
 IsFirst a [] found = found ≡ None
 IsFirst a (p ∷ ps) found = (Names a p × (found ≡ Some p)) ⊎ ((¬ Names a p) × IsFirst a ps found)
 
@@ -30,22 +30,22 @@ entering on binds p =
     record {
       facts = with_flags on p.facts;
       eapi = p.eapi;
-      rdepend = all_entered (has on) binds p.rdepend;
-      pdepend = all_entered (has on) [] p.pdepend;
-      depend = all_entered (has on) [] p.depend;
-      bdepend = all_entered (has on) [] p.bdepend;
-      idepend = all_entered (has on) [] p.idepend;
+      rdepend = entered_with (has on) binds p.rdepend;
+      pdepend = entered_with (has on) [] p.pdepend;
+      depend = entered_with (has on) [] p.depend;
+      bdepend = entered_with (has on) [] p.bdepend;
+      idepend = entered_with (has on) [] p.idepend;
       required = p.required;
     }
 
 -- the offered package comes as this with the addition
-pub record ComesAs (a : AdditionValue) (p q : Package) : Type 0 where
+pub record ComesAs (a : Order) (p q : Package) : Type 0 where
   pub on : List (List ℕ)
   pub flags : AreOn a.enabled p.facts.enabled on
   pub is : q ≡ entering on a.binds p
 
 -- what the addition brings, of the offered packages
-pub record Brings (offered : List Package) (a : AdditionValue) (q : Package) : Type 0 where
+pub record Brings (offered : List Package) (a : Order) (q : Package) : Type 0 where
   pub p : Package
   pub first : IsFirst a offered (Some p)
   pub known : (flag : List ℕ) → Has a.enabled flag → has p.facts.iuse flag ≡ true

@@ -3,9 +3,10 @@ ghost use Rattle.std.specs.Prelude.{if◌then◌else◌};
 ghost use Rattle.std.specs.List.{AllZip};
 ghost use Rattle.std.specs.Option.{option_map};
 ghost use Rattle.pms_names.specs.Flags.{has};
+ghost use Rattle.build_pool.specs.declared.orders.Order.{Order};
 ghost use Rattle.dep_atom.specs.Values.{atom_value};
 ghost use Rattle.dep_tree.specs.View.{trees_view, view};
-ghost use Rattle.plan_text.specs.Plans.{AdditionValue, addition_value, plan_value};
+ghost use Rattle.plan_text.specs.Plans.{plan_value};
 ghost use Rattle.plan_check.specs.Asks.{all_asked, asked_value};
 ghost use Rattle.plan_model.specs.Asking.{AreAsked, AreAsking, IsAsked};
 ghost use Rattle.plan_model.specs.Entering.{all_asking_leaves, asking_leaves, asks};
@@ -14,11 +15,12 @@ use crate::entering::asks;
 use crate::finding::find;
 use crate::flags::flags_on;
 use crate::offers::Offers;
+use build_pool::Order;
 use dep_atom::Atom;
 use dep_tree::Node;
 use pkg_state::Pkg;
 use plan_check::Asked;
-use plan_text::{Addition, Plan};
+use plan_text::Plan;
 use pms_names::Flags;
 use std::alloc::{AllocError, Global};
 
@@ -82,7 +84,7 @@ fn push_all_leaves<'a>(
 /// The leaves of the package's RDEPEND that ask for a bind, with the flags that it has on.
 pub fn asking_leaves<'a>(alloc: Global, pkg: &'a Pkg) -> Result<Vec<&'a Atom>, AllocError>
     ensures { IfOk result (λ leaves. map (λ atom. atom_value atom.now) leaves.items ≡
-        all_asking_leaves (has pkg.now.facts.enabled) pkg.now.rdepend) }
+        all_asking_leaves (has pkg.now.facts.enabled) pkg.now.rdepend.groups) }
 {
     let mut leaves = Vec::new(alloc);
     push_all_leaves(&pkg.rdepend.nodes, &pkg.facts.enabled, &mut leaves)?;
@@ -92,10 +94,10 @@ pub fn asking_leaves<'a>(alloc: Global, pkg: &'a Pkg) -> Result<Vec<&'a Atom>, A
 /// The leaves of the package that ask for a bind, where it comes with the addition.
 fn leaves_of<'a>(
     alloc: Global,
-    addition: &Addition,
+    addition: &Order,
     found: Option<&'a Pkg>,
 ) -> Result<Vec<&'a Atom>, AllocError>
-    ensures { IfOk result (λ leaves. AreAsking (addition_value addition.now)
+    ensures { IfOk result (λ leaves. AreAsking addition.now
         (option_map (λ p. p.now) found.entry) (map (λ atom. atom_value atom.now) leaves.items)) }
 {
     let mut leaves = Vec::new(alloc);
@@ -109,16 +111,16 @@ fn leaves_of<'a>(
 fn asked<'a>(
     alloc: Global,
     offers: &Offers<'a>,
-    addition: &'a Addition,
+    addition: &'a Order,
 ) -> Result<Asked<'a>, AllocError>
-    ensures { IfOk result (λ r. IsAsked offers.now.offered.now (addition_value addition.now)
+    ensures { IfOk result (λ r. IsAsked offers.now.offered.now addition.now
         (asked_value r)) }
 {
     let found = find(addition, offers);
     let leaves = leaves_of(alloc, addition, found)?;
     Ok(Asked {
         leaves,
-        binds: &addition.binds,
+        binds: addition.binds.list(),
     })
 }
 
@@ -126,12 +128,12 @@ fn asked<'a>(
 fn push_asked<'a>(
     alloc: Global,
     offers: &Offers<'a>,
-    additions: &'a [Addition],
+    additions: &'a [Order],
     asks: &mut Vec<Asked<'a>>,
 ) -> Result<(), AllocError>
-    ensures { OnOk result ((before : List AdditionValue) →
+    ensures { OnOk result ((before : List Order) →
         AllZip (IsAsked offers.now.offered.now) before (all_asked asks.old.items) →
-        AllZip (IsAsked offers.now.offered.now) (before ++ map addition_value additions.now)
+        AllZip (IsAsked offers.now.offered.now) (before ++ additions.now)
         (all_asked asks.new.items)) }
 {
     for addition in additions {

@@ -6,7 +6,7 @@ ghost use Rattle.dep_group.specs.Trees.{leaf};
 ghost use Rattle.dep_tree.specs.View.{trees, trees_view, view};
 ghost use Rattle.vdb_law.specs.Fields.{without_equals};
 ghost use Rattle.plan_model.specs.Entering.{all_entered, all_left, asks, bound_slot, entered};
-ghost use Rattle.plan_model.specs.Entering.{entered_leaf, is_open, left, left_by};
+ghost use Rattle.plan_model.specs.Entering.{entered_leaf, entered_with, is_open, left, left_by};
 
 use dep_atom::{Atom, Bind, SlotPart};
 use dep_tree::{DepTree, Node, is_block};
@@ -194,15 +194,18 @@ pub(crate) fn entered_tree(
     binds: &[Bind],
 ) -> Result<DepTree, AllocError>
     ensures { IfOk result (λ t.
-        trees t ≡ all_entered (has on.now) binds.now (trees tree.now)) }
+        trees t ≡ entered_with (has on.now) binds.now (trees tree.now)) }
 {
     let (nodes, _) = entered_all(alloc, &tree.nodes, on, binds)?;
-    Ok(DepTree { nodes })
+    Ok(DepTree {
+        nodes,
+        empty_holds: tree.empty_holds,
+    })
 }
 
 /// Dependencies as they enter without binds.
 pub(crate) fn closed_tree(alloc: Global, tree: &DepTree, on: &Flags) -> Result<DepTree, AllocError>
-    ensures { IfOk result (λ t. trees t ≡ all_entered (has on.now) [] (trees tree.now)) }
+    ensures { IfOk result (λ t. trees t ≡ entered_with (has on.now) [] (trees tree.now)) }
 {
     entered_tree(alloc, tree, on, &[])
 }

@@ -1,15 +1,14 @@
 ghost use Rattle.std.specs.Prelude.{◌↔◌, IsTrue};
 ghost use Rattle.std.specs.Option.{option_map};
-ghost use Rattle.plan_text.specs.Plans.{addition_value};
 ghost use Rattle.plan_model.specs.Offers.{IsFirst, Names};
 
 use crate::offers::Offers;
+use build_pool::Order;
 use pkg_state::Pkg;
-use plan_text::Addition;
 
 /// Whether the addition names the package.
-fn is_named(addition: &Addition, pkg: &Pkg) -> bool
-    ensures { IsTrue result ↔ Names (addition_value addition.now) pkg.now }
+fn is_named(addition: &Order, pkg: &Pkg) -> bool
+    ensures { IsTrue result ↔ Names addition.now pkg.now }
 {
     let facts = &pkg.facts;
     facts.id.is_same(&addition.id)
@@ -18,8 +17,8 @@ fn is_named(addition: &Addition, pkg: &Pkg) -> bool
 }
 
 /// The first package that the addition names, if one is offered.
-pub(crate) fn find<'a>(addition: &Addition, offers: &Offers<'a>) -> Option<&'a Pkg>
-    ensures { IsFirst (addition_value addition.now) offers.now.offered.now
+pub(crate) fn find<'a>(addition: &Order, offers: &Offers<'a>) -> Option<&'a Pkg>
+    ensures { IsFirst addition.now offers.now.offered.now
         (option_map (λ p. p.now) result) }
 {
     for &pkg in offers.named.get(addition.id.name.package.text()) {

@@ -1,7 +1,7 @@
 ghost use Rattle.std.specs.Prelude.{◌≡◌, ◌-◌, ◌<◌, IfOk, map};
 ghost use Rattle.std.specs.List.{AllZip};
-ghost use Rattle.plan_text.specs.Plans.{addition_value, group_value};
 ghost use Rattle.basics.specs.Limits.{most_groups};
+ghost use Rattle.plan_text.specs.Plans.{group_value};
 ghost use Rattle.plan_rules.specs.Verdicts.{each};
 ghost use Rattle.plan_model.specs.Faults.{Says, addition_rule, flag_rule, group_rule};
 ghost use Rattle.plan_model.specs.Linked.{IsLinkedGroup, removal_of};
@@ -11,18 +11,19 @@ use crate::fault::LinkFault;
 use crate::finding::find;
 use crate::offers::Offers;
 use crate::package::entering;
+use build_pool::Order;
 use pkg_state::Pkg;
 use plan_lives as lives;
-use plan_text::{Addition, Group, Removal};
+use plan_text::{Group, Removal};
 use std::alloc::{AllocError, Global};
 
 /// Whether the package knows each flag of the addition.
-fn judge_flags(g: usize, addition: &Addition, pkg: &Pkg) -> Result<(), LinkFault>
+fn judge_flags(g: usize, addition: &Order, pkg: &Pkg) -> Result<(), LinkFault>
     requires { g < most_groups }
-    ensures { Says (each (addition_value addition.now).enabled
-        (flag_rule g (addition_value addition.now) pkg.now)) result }
+    ensures { Says (each addition.now.enabled
+        (flag_rule g addition.now pkg.now)) result }
 {
-    for flag in &addition.enabled {
+    for flag in addition.enabled.list() {
         if !pkg.facts.iuse.has(flag) {
             let package = addition.id.try_clone()?;
             let flag = flag.try_clone()?;
@@ -41,12 +42,12 @@ fn link_addition(
     alloc: Global,
     offers: &Offers<'_>,
     g: usize,
-    addition: &Addition,
+    addition: &Order,
 ) -> Result<Pkg, LinkFault>
     requires { g < most_groups }
     ensures brings { IfOk result (λ q.
-        Brings offers.now.offered.now (addition_value addition.now) q) }
-    ensures says { Says (addition_rule offers.now.offered.now g (addition_value addition.now))
+        Brings offers.now.offered.now addition.now q) }
+    ensures says { Says (addition_rule offers.now.offered.now g addition.now)
         result }
 {
     let Some(pkg) = find(addition, offers) else {
@@ -64,12 +65,12 @@ fn link_additions(
     alloc: Global,
     offers: &Offers<'_>,
     g: usize,
-    additions: &[Addition],
+    additions: &[Order],
 ) -> Result<Vec<Pkg>, LinkFault>
     requires { g < most_groups }
     ensures brings { IfOk result (λ linked.
-        AllZip (Brings offers.now.offered.now) (map addition_value additions.now) linked.items) }
-    ensures says { Says (each (map addition_value additions.now)
+        AllZip (Brings offers.now.offered.now) additions.now linked.items) }
+    ensures says { Says (each additions.now
         (addition_rule offers.now.offered.now g)) result }
 {
     let mut linked = Vec::new(alloc);

@@ -1,8 +1,10 @@
 -- When a plan of at most one group repairs the packages that are there, and else what is told.
 use Rattle.std.specs.Prelude.{◌≡◌, ℕ, Bool, not, List, Option, None, Some, bytes_eq, map}
 use Rattle.std.specs.List.{list_any}
-use Rattle.dep_group.specs.Trees.{no_trees}
+use Rattle.dep_tree.specs.Texts.{no_dependencies}
+use Rattle.required_use.specs.Texts.{no_expressions}
 use Rattle.pkg_state.specs.Consistent.{AreConsistent}
+use Rattle.pkg_state.specs.Eapis.{empty_holds}
 use Rattle.pkg_state.specs.Fault as state
 use Rattle.pkg_state.specs.Package.{Package, line_of}
 use Rattle.pkg_state.specs.declared.class.Class.TheVariants.{Rdepend}
@@ -20,12 +22,12 @@ bare p =
     record {
       facts = p.facts;
       eapi = p.eapi;
-      rdepend = no_trees;
-      pdepend = no_trees;
-      depend = no_trees;
-      bdepend = no_trees;
-      idepend = no_trees;
-      required = no_trees;
+      rdepend = no_dependencies (empty_holds p.eapi);
+      pdepend = no_dependencies (empty_holds p.eapi);
+      depend = no_dependencies (empty_holds p.eapi);
+      bdepend = no_dependencies (empty_holds p.eapi);
+      idepend = no_dependencies (empty_holds p.eapi);
+      required = no_expressions (empty_holds p.eapi);
     }
 
 -- the package is on none of the lines

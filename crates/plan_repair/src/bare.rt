@@ -11,15 +11,16 @@ fn bare(alloc: Global, pkg: &Pkg) -> Result<Pkg, AllocError>
     ensures { IfOk result (λ copy. copy ≡ bare pkg.now) }
 {
     let facts = copy_facts(&pkg.facts)?;
+    let empty_holds = pkg.eapi.empty_holds();
     Ok(Pkg {
         facts,
         eapi: pkg.eapi,
-        rdepend: DepTree::new(alloc),
-        pdepend: DepTree::new(alloc),
-        depend: DepTree::new(alloc),
-        bdepend: DepTree::new(alloc),
-        idepend: DepTree::new(alloc),
-        required_use: RequiredUse::new(alloc),
+        rdepend: DepTree::new(alloc, empty_holds),
+        pdepend: DepTree::new(alloc, empty_holds),
+        depend: DepTree::new(alloc, empty_holds),
+        bdepend: DepTree::new(alloc, empty_holds),
+        idepend: DepTree::new(alloc, empty_holds),
+        required_use: RequiredUse::new(alloc, empty_holds),
     })
 }
 

@@ -4,10 +4,11 @@ use Rattle.std.specs.Prelude.{nat_lt}
 use Rattle.std.specs.List.{AllByRecursion, flat_map}
 use Rattle.std.specs.Cmp.Derive.{both_true}
 use Rattle.std.proofs.lemmas.Bool.{and_parts, eq-eqb, lt-ltb, ltb-true}
+use Rattle.build_pool.specs.declared.orders.Order.{Order}
 use Rattle.dep_atom.specs.declared.slot.Bind.{Bind}
 use Rattle.plan_text.specs.Lines.{LineValue, line_of}
 use Rattle.plan_text.specs.Numbers.{IsNumber, rise_between}
-use Rattle.plan_text.specs.Plans.{AdditionValue, GroupValue}
+use Rattle.plan_text.specs.Plans.{GroupValue}
 use Rattle.plan_text.specs.Standing.{StandingValue, ends, may_end, runs, standing, start}
 use Rattle.plan_text.specs.Texts.{AreGroups, IsAddition, IsPlan, addition_lines, after_lines, group_lines, groups_lines, plan_lines, remove_line}
 use Rattle.basics.specs.Limits.{most_groups}
@@ -36,7 +37,7 @@ bind_lines : (bs : List Bind) → AllByRecursion IsBind bs → AreInForm (map (l
 bind_lines [] h = tt
 bind_lines (b ∷ bs) h = (h.0, bind_lines bs h.1)
 
-additions_of : (xs : List AdditionValue) → AreInForm (flat_map addition_lines xs) → AllByRecursion IsAddition xs
+additions_of : (xs : List Order) → AreInForm (flat_map addition_lines xs) → AllByRecursion IsAddition xs
 additions_of [] h = tt
 additions_of (a ∷ xs) h =
     let says : IsEntry _ = h.0.0 in (
@@ -47,7 +48,7 @@ additions_of (a ∷ xs) h =
       additions_of xs (all_right (map (line_of kinds.Bind) a.binds) (flat_map addition_lines xs) h.1),
     )
 
-additions_lines : (xs : List AdditionValue) → AllByRecursion IsAddition xs → AreInForm (flat_map addition_lines xs)
+additions_lines : (xs : List Order) → AllByRecursion IsAddition xs → AreInForm (flat_map addition_lines xs)
 additions_lines [] h = tt
 additions_lines (a ∷ xs) h =
     let says : IsEntry a = h.0.says in (

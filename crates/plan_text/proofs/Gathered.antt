@@ -1,9 +1,10 @@
 -- The lines of a plan tell which plan it is.
 use Rattle.std.proofs.Common.{◌≡◌, ◌∙◌, ◌+◌, ℕ, List, [], ◌∷◌, ◌++◌, map, refl, sym, ap, append_assoc}
 use Rattle.std.specs.List.{flat_map}
+use Rattle.build_pool.specs.declared.orders.Order.{Order}
 use Rattle.dep_atom.specs.declared.slot.Bind.{Bind}
 use Rattle.plan_text.specs.Lines.{LineValue, Said, line_of}
-use Rattle.plan_text.specs.Plans.{AdditionValue, GroupValue}
+use Rattle.plan_text.specs.Plans.{GroupValue}
 use Rattle.plan_text.specs.Texts.{addition_lines, after_lines, entry, groups_lines, plan_lines, remove_line}
 use Rattle.plan_text.specs.declared.kind.Kind.{Kind}
 use Rattle.plan_text.specs.declared.kind.Kind.TheVariants as kinds
@@ -13,15 +14,15 @@ use Rattle.plan_text.specs.declared.plan.Removal.{Removal}
 -- before the first line of a group, and the groups
 record Gathered : Type 0 where
   binds : List Bind
-  additions : List AdditionValue
+  additions : List Order
   removals : List Removal
   after : List ℕ
   groups : List GroupValue
 
-abbrev of : List Bind → List AdditionValue → List Removal → List ℕ → List GroupValue → Gathered
+abbrev of : List Bind → List Order → List Removal → List ℕ → List GroupValue → Gathered
 of bs xs rs ns gs = record { binds = bs; additions = xs; removals = rs; after = ns; groups = gs }
 
-abbrev with_binds : AdditionValue → List Bind → AdditionValue
+abbrev with_binds : Order → List Bind → Order
 with_binds a bs = record { id = a.id; slot = a.slot; subslot = a.subslot; enabled = a.enabled; binds = bs }
 
 abbrev put : (kind : Kind) → Said kind → Gathered → Gathered
@@ -36,21 +37,21 @@ abbrev gather : List LineValue → Gathered
 gather [] = of [] [] [] [] []
 gather (l ∷ ls) = put l.kind l.said (gather ls)
 
-binds_first : (bs : List Bind) (ls : List LineValue) (xs : List AdditionValue) (rs : List Removal) (ns : List ℕ) (gs : List GroupValue) → gather ls ≡ of [] xs rs ns gs → gather (map (line_of kinds.Bind) bs ++ ls) ≡ of bs xs rs ns gs
+binds_first : (bs : List Bind) (ls : List LineValue) (xs : List Order) (rs : List Removal) (ns : List ℕ) (gs : List GroupValue) → gather ls ≡ of [] xs rs ns gs → gather (map (line_of kinds.Bind) bs ++ ls) ≡ of bs xs rs ns gs
 binds_first [] ls xs rs ns gs e = e
 binds_first (b ∷ bs) ls xs rs ns gs e = ap (put kinds.Bind b) (binds_first bs ls xs rs ns gs e)
 
-additions_first : (xs : List AdditionValue) (ls : List LineValue) (rs : List Removal) (ns : List ℕ) (gs : List GroupValue) → gather ls ≡ of [] [] rs ns gs → gather (flat_map addition_lines xs ++ ls) ≡ of [] xs rs ns gs
+additions_first : (xs : List Order) (ls : List LineValue) (rs : List Removal) (ns : List ℕ) (gs : List GroupValue) → gather ls ≡ of [] [] rs ns gs → gather (flat_map addition_lines xs ++ ls) ≡ of [] xs rs ns gs
 additions_first [] ls rs ns gs e = e
 additions_first (a ∷ xs) ls rs ns gs e =
     ap (λ l. put kinds.Add (entry a) (gather l)) (append_assoc (map (line_of kinds.Bind) a.binds) (flat_map addition_lines xs) ls)
     ∙ ap (put kinds.Add (entry a)) (binds_first a.binds (flat_map addition_lines xs ++ ls) xs rs ns gs (additions_first xs ls rs ns gs e))
 
-removals_first : (rs : List Removal) (ls : List LineValue) (xs : List AdditionValue) (ns : List ℕ) (gs : List GroupValue) → gather ls ≡ of [] xs [] ns gs → gather (map remove_line rs ++ ls) ≡ of [] xs rs ns gs
+removals_first : (rs : List Removal) (ls : List LineValue) (xs : List Order) (ns : List ℕ) (gs : List GroupValue) → gather ls ≡ of [] xs [] ns gs → gather (map remove_line rs ++ ls) ≡ of [] xs rs ns gs
 removals_first [] ls xs ns gs e = e
 removals_first (r ∷ rs) ls xs ns gs e = ap (put kinds.Remove r) (removals_first rs ls xs ns gs e)
 
-after_first : (ns : List ℕ) (ls : List LineValue) (xs : List AdditionValue) (rs : List Removal) (gs : List GroupValue) → gather ls ≡ of [] xs rs [] gs → gather (after_lines ns ++ ls) ≡ of [] xs rs ns gs
+after_first : (ns : List ℕ) (ls : List LineValue) (xs : List Order) (rs : List Removal) (gs : List GroupValue) → gather ls ≡ of [] xs rs [] gs → gather (after_lines ns ++ ls) ≡ of [] xs rs ns gs
 after_first [] ls xs rs gs e = e
 after_first (n ∷ ns) ls xs rs gs e = ap (put kinds.After (n ∷ ns)) e
 

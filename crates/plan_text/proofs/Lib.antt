@@ -6,6 +6,7 @@ mod Reached
 mod Readers
 mod Runs
 mod Said
+mod Sets
 mod Split
 mod Steps
 mod Whole

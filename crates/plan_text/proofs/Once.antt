@@ -12,6 +12,7 @@ use Rattle.std.proofs.lemmas.Bool.{eq-eqb}
 use Rattle.basics.proofs.Lists.{heads_and_tails}
 use Rattle.pms_names.specs.Names.{IsName}
 use Rattle.pms_names.specs.declared.kind.Kind.TheVariants.{Flag, Slot}
+use Rattle.build_pool.specs.declared.orders.Order.{Order}
 use Rattle.dep_atom.specs.Cuts.{is_plain}
 use Rattle.dep_atom.specs.Ids.{IsId, id_text, name_and_version}
 use Rattle.dep_atom.specs.declared.package.PackageId.{PackageId}
@@ -20,7 +21,6 @@ use Rattle.dep_atom.proofs.Joined.{id_same}
 use Rattle.dep_atom.proofs.Named.{joined_once}
 use Rattle.plan_text.specs.Lines.{IsLine, IsSaid, LineValue, Said, head_text, line_of, line_text, line_words, said_words}
 use Rattle.plan_text.specs.Numbers.{IsNumber}
-use Rattle.plan_text.specs.Plans.{AdditionValue}
 use Rattle.plan_text.specs.Reading.{is_newline, is_space}
 use Rattle.plan_text.specs.Spelled.{Lacks}
 use Rattle.plan_text.specs.Texts.{ended}
@@ -60,7 +60,7 @@ one_bind a b is js e =
     let cut = cut_same 47 a.slot b.slot a.subslot b.subslot (name_lacks Slot 47 a.slot refl is.slot) (name_lacks Slot 47 b.slot refl js.slot) e in
     λ i. record { slot = cut.0 i; subslot = cut.1 i }
 
-pub one_addition : (a b : AdditionValue) → IsBare a → IsBare b → addition_word a ∷ a.enabled ≡ addition_word b ∷ b.enabled → a ≡ b
+pub one_addition : (a b : Order) → IsBare a → IsBare b → addition_word a ∷ a.enabled ≡ addition_word b ∷ b.enabled → a ≡ b
 one_addition a b is js e =
     let ws = heads_and_tails (addition_word a) (addition_word b) a.enabled b.enabled e in
     let cut = cut_same 58 (id_text a.id) (id_text b.id) (slots_word a.slot a.subslot) (slots_word b.slot b.subslot) (id_lacks 58 a.id refl colon_apart is.0.id) (id_lacks 58 b.id refl colon_apart js.0.id) ws.0 in

@@ -3,9 +3,10 @@ use Rattle.std.proofs.Common.{◌≡◌, ◌∙◌, ◌+◌, ℕ, List, [], ◌�
 use Rattle.std.specs.Prelude.{codes, decimal}
 use Rattle.std.specs.List.{flat_map, join_with_byte}
 use Rattle.std.proofs.lemmas.Grind.{flat_map-append}
+use Rattle.build_pool.specs.declared.orders.Order.{Order}
 use Rattle.dep_atom.specs.declared.slot.Bind.{Bind}
 use Rattle.plan_text.specs.Lines.{LineValue, line_of}
-use Rattle.plan_text.specs.Plans.{AdditionValue, GroupValue, group_value}
+use Rattle.plan_text.specs.Plans.{GroupValue, group_value}
 use Rattle.plan_text.specs.Printed.{addition_text, after_text, bind_text, changes_text, entry_text, group_text, groups_text, number_text, removal_text, spaced}
 use Rattle.plan_text.specs.Texts.{add_line, addition_lines, after_lines, ended, group_lines, groups_lines, plan_text, remove_line}
 use Rattle.plan_text.specs.Words.{addition_word}
@@ -29,12 +30,12 @@ binds : (bs : List Bind) → text_of (map (line_of kinds.Bind) bs) ≡ flat_map 
 binds [] = refl
 binds (b ∷ bs) = ap (λ l. bind_text b ++ l) (binds bs)
 
-entered : (a : AdditionValue) → ended (add_line a) ≡ entry_text a
+entered : (a : Order) → ended (add_line a) ≡ entry_text a
 entered a =
     ap (λ l. (codes "add" ++ (32 ∷ l)) ++ (10 ∷ [])) (joined (addition_word a) a.enabled)
     ∙ ap (λ l. codes "add " ++ l) (append_assoc (addition_word a) (flat_map spaced a.enabled) (10 ∷ []))
 
-additions : (xs : List AdditionValue) → text_of (flat_map addition_lines xs) ≡ flat_map addition_text xs
+additions : (xs : List Order) → text_of (flat_map addition_lines xs) ≡ flat_map addition_text xs
 additions [] = refl
 additions (a ∷ xs) =
     flat_map-append ended (addition_lines a) (flat_map addition_lines xs)

@@ -5,13 +5,13 @@ use Rattle.std.specs.List.{AllByRecursion}
 use Rattle.std.proofs.Math.Seq.{drop-cons}
 use Rattle.std.specs.Fmt.{decimal}
 use Rattle.basics.proofs.Lists.{heads_and_tails}
+use Rattle.build_pool.specs.declared.orders.Order.{Order}
 use Rattle.plan_text.specs.Numbers.{AreNumbers, IsNumber}
 use Rattle.pms_names.specs.Names.{IsName}
 use Rattle.pms_names.specs.declared.kind.Kind.TheVariants.{Flag, Slot}
 use Rattle.dep_atom.specs.Ids.{IsId, id_text, name_and_version}
 use Rattle.dep_atom.specs.declared.package.PackageId.{PackageId}
 use Rattle.dep_atom.specs.declared.slot.Bind.{Bind}
-use Rattle.plan_text.specs.Plans.{AdditionValue}
 use Rattle.plan_text.specs.Spelled.{Lacks}
 use Rattle.plan_text.specs.Words.{AreFlags, IsBare, IsBind, IsRemoval, addition_word, addition_words, bind_word, removal_word, slots_word}
 use Rattle.plan_text.specs.declared.plan.Removal.{Removal}
@@ -69,26 +69,26 @@ an_id text front back id f is = (is.0, f.0 ∙ ap (λ l. l ++ (47 ∷ back)) is.
 
 -- additions
 
-pub no_addition_word : (ws : List (List ℕ)) → ws ≡ [] → (a : AdditionValue) → IsBare a → ws ≡ addition_words a → ⊥
+pub no_addition_word : (ws : List (List ℕ)) → ws ≡ [] → (a : Order) → IsBare a → ws ≡ addition_words a → ⊥
 no_addition_word ws none a is e = absurd (omega (arith, ap length (sym none ∙ e)))
 
-pub no_addition_cut : (word : List ℕ) (ws : List (List ℕ)) → NotFound 58 word → (a : AdditionValue) → IsBare a → word ∷ ws ≡ addition_words a → ⊥
+pub no_addition_cut : (word : List ℕ) (ws : List (List ℕ)) → NotFound 58 word → (a : Order) → IsBare a → word ∷ ws ≡ addition_words a → ⊥
 no_addition_cut word ws none a is e = none (id_text a.id) (slots_word a.slot a.subslot) (id_lacks 58 a.id refl colon_apart is.0.id) (heads_and_tails word (addition_word a) ws a.enabled e).0
 
-addition_parts : (word front back : List ℕ) (ws : List (List ℕ)) → Found 58 word front back → (a : AdditionValue) → IsBare a → word ∷ ws ≡ addition_words a → (front ≡ id_text a.id) × (back ≡ slots_word a.slot a.subslot)
+addition_parts : (word front back : List ℕ) (ws : List (List ℕ)) → Found 58 word front back → (a : Order) → IsBare a → word ∷ ws ≡ addition_words a → (front ≡ id_text a.id) × (back ≡ slots_word a.slot a.subslot)
 addition_parts word front back ws f a is e = f.1 (id_text a.id) (slots_word a.slot a.subslot) (id_lacks 58 a.id refl colon_apart is.0.id) (heads_and_tails word (addition_word a) ws a.enabled e).0
 
-pub no_addition_id : (word front back : List ℕ) (ws : List (List ℕ)) → Found 58 word front back → ((id : PackageId) → IsId id → front ≡ id_text id → ⊥) → (a : AdditionValue) → IsBare a → word ∷ ws ≡ addition_words a → ⊥
+pub no_addition_id : (word front back : List ℕ) (ws : List (List ℕ)) → Found 58 word front back → ((id : PackageId) → IsId id → front ≡ id_text id → ⊥) → (a : Order) → IsBare a → word ∷ ws ≡ addition_words a → ⊥
 no_addition_id word front back ws f none a is e = none a.id is.0.id (addition_parts word front back ws f a is e).0
 
-pub no_addition_slots : (word front back : List ℕ) (ws : List (List ℕ)) → Found 58 word front back → ((b : Bind) → IsBind b → back ≡ bind_word b → ⊥) → (a : AdditionValue) → IsBare a → word ∷ ws ≡ addition_words a → ⊥
+pub no_addition_slots : (word front back : List ℕ) (ws : List (List ℕ)) → Found 58 word front back → ((b : Bind) → IsBind b → back ≡ bind_word b → ⊥) → (a : Order) → IsBare a → word ∷ ws ≡ addition_words a → ⊥
 no_addition_slots word front back ws f none a is e =
     none (record { slot = a.slot; subslot = a.subslot }) (record { slot = is.0.slot; subslot = is.0.subslot }) (addition_parts word front back ws f a is e).1
 
-pub no_addition_flags : (word : List ℕ) (ws : List (List ℕ)) → ((fs : List (List ℕ)) → AreFlags fs → ws ≡ fs → ⊥) → (a : AdditionValue) → IsBare a → word ∷ ws ≡ addition_words a → ⊥
+pub no_addition_flags : (word : List ℕ) (ws : List (List ℕ)) → ((fs : List (List ℕ)) → AreFlags fs → ws ≡ fs → ⊥) → (a : Order) → IsBare a → word ∷ ws ≡ addition_words a → ⊥
 no_addition_flags word ws none a is e = none a.enabled is.0.enabled (heads_and_tails word (addition_word a) ws a.enabled e).1
 
-abbrev pub bare : PackageId → List ℕ → List ℕ → List (List ℕ) → AdditionValue
+abbrev pub bare : PackageId → List ℕ → List ℕ → List (List ℕ) → Order
 bare id slot subslot flags = record { id = id; slot = slot; subslot = subslot; enabled = flags; binds = [] }
 
 pub an_addition : (word front back slot subslot : List ℕ) (ws flags : List (List ℕ)) (id : PackageId) (binds : List Bind) → Found 58 word front back → IsId id × (front ≡ id_text id)

@@ -2,10 +2,11 @@
 use Rattle.std.proofs.Common.{◌≡◌, ◌∙◌, ◌+◌, ◌<◌, ◌&&◌, Bool, true, false, ℕ, List, [], ◌∷◌, ◌++◌, length, map, refl, sym, ap, arith}
 use Rattle.std.specs.List.{AllByRecursion, flat_map}
 use Rattle.basics.proofs.Tests.{and-true}
+use Rattle.build_pool.specs.declared.orders.Order.{Order}
 use Rattle.dep_atom.specs.declared.slot.Bind.{Bind}
 use Rattle.plan_text.specs.Lines.{IsLine, LineValue, line_of, line_text}
 use Rattle.plan_text.specs.Numbers.{rise_between}
-use Rattle.plan_text.specs.Plans.{AdditionValue, GroupValue}
+use Rattle.plan_text.specs.Plans.{GroupValue}
 use Rattle.plan_text.specs.Standing.{StandingValue, ends, follows, may_end, next, runs, standing, takes_addition, takes_removal}
 use Rattle.plan_text.specs.Texts.{add_line, addition_lines, after_lines, remove_line}
 use Rattle.plan_text.specs.Words.{is_before, rise}
@@ -17,7 +18,7 @@ use Rattle.plan_text.specs.declared.standing.Place.TheVariants as places
 abbrev pub removal_text : Removal → List ℕ
 removal_text r = line_text (remove_line r)
 
-abbrev pub addition_text : AdditionValue → List ℕ
+abbrev pub addition_text : Order → List ℕ
 addition_text a = line_text (add_line a)
 
 and_assoc : (a b c : Bool) → ((a && b) && c) ≡ (a && (b && c))
@@ -56,12 +57,12 @@ behind_binds n t bs ls =
     ∙ ap (λ b. b && runs (ends (standing n places.Additions t) (map (line_of kinds.Bind) bs)) ls) (binds_run n t bs)
     ∙ ap (λ s. runs s ls) (binds_end n t bs)
 
-additions_run : (n : ℕ) (t : List ℕ) (xs : List AdditionValue) → runs (standing n places.Additions t) (flat_map addition_lines xs) ≡ rise (t ∷ map addition_text xs)
+additions_run : (n : ℕ) (t : List ℕ) (xs : List Order) → runs (standing n places.Additions t) (flat_map addition_lines xs) ≡ rise (t ∷ map addition_text xs)
 additions_run n t [] = refl
 additions_run n t (a ∷ xs) =
     ap (λ b. is_before t (addition_text a) && b) (behind_binds n (addition_text a) a.binds (flat_map addition_lines xs) ∙ additions_run n (addition_text a) xs)
 
-additions_first : (n : ℕ) (p : Place) (t : List ℕ) (xs : List AdditionValue) → ((u : List ℕ) → takes_addition p t u ≡ true) → runs (standing n p t) (flat_map addition_lines xs) ≡ rise (map addition_text xs)
+additions_first : (n : ℕ) (p : Place) (t : List ℕ) (xs : List Order) → ((u : List ℕ) → takes_addition p t u ≡ true) → runs (standing n p t) (flat_map addition_lines xs) ≡ rise (map addition_text xs)
 additions_first n p t [] h = refl
 additions_first n p t (a ∷ xs) h =
     ap (λ b. b && runs (standing n places.Additions (addition_text a)) (map (line_of kinds.Bind) a.binds ++ flat_map addition_lines xs)) (h (addition_text a))
@@ -92,7 +93,7 @@ removals_end : (n : ℕ) (p : Place) (t : List ℕ) (rs : List Removal) → (u :
 removals_end n p t [] = (t, refl)
 removals_end n p t (r ∷ rs) = removals_stay n (removal_text r) rs
 
-additions_stay : (n : ℕ) (t : List ℕ) (xs : List AdditionValue) → (u : List ℕ) × (ends (standing n places.Additions t) (flat_map addition_lines xs) ≡ standing n places.Additions u)
+additions_stay : (n : ℕ) (t : List ℕ) (xs : List Order) → (u : List ℕ) × (ends (standing n places.Additions t) (flat_map addition_lines xs) ≡ standing n places.Additions u)
 additions_stay n t [] = (t, refl)
 additions_stay n t (a ∷ xs) =
     let rest = additions_stay n (addition_text a) xs in (
@@ -101,7 +102,7 @@ additions_stay n t (a ∷ xs) =
           ∙ ap (λ s. ends s (flat_map addition_lines xs)) (binds_end n (addition_text a) a.binds) ∙ rest.1,
     )
 
-additions_end : (n : ℕ) (p : Place) (t : List ℕ) (xs : List AdditionValue) → (u : List ℕ) × (ends (standing n p t) (flat_map addition_lines xs) ≡ standing n (place_if xs places.Additions p) u)
+additions_end : (n : ℕ) (p : Place) (t : List ℕ) (xs : List Order) → (u : List ℕ) × (ends (standing n p t) (flat_map addition_lines xs) ≡ standing n (place_if xs places.Additions p) u)
 additions_end n p t [] = (t, refl)
 additions_end n p t (a ∷ xs) =
     let rest = additions_stay n (addition_text a) xs in (
@@ -131,7 +132,7 @@ takes_additions (r ∷ rs) ns t u = refl
 abbrev pub group_rises : ℕ → GroupValue → Bool
 group_rises n g = rise_between 0 n g.after && (rise (map removal_text g.removals) && rise (map addition_text g.additions))
 
-changes_run : (n : ℕ) (p : Place) (t : List ℕ) (rs : List Removal) (xs : List AdditionValue) → ((u v : List ℕ) → takes_removal p u v ≡ true) → ((u v : List ℕ) → takes_addition (place_if rs places.Removals p) u v ≡ true)
+changes_run : (n : ℕ) (p : Place) (t : List ℕ) (rs : List Removal) (xs : List Order) → ((u v : List ℕ) → takes_removal p u v ≡ true) → ((u v : List ℕ) → takes_addition (place_if rs places.Removals p) u v ≡ true)
     → runs (standing n p t) (map remove_line rs ++ flat_map addition_lines xs) ≡ (rise (map removal_text rs) && rise (map addition_text xs))
 changes_run n p t rs xs h k =
     let e = removals_end n p t rs in
@@ -161,7 +162,7 @@ inside_ends n t g =
 pub may_end_if : (g : GroupValue) → may_end (group_place g) ≡ true → 0 < length g.removals + length g.additions
 may_end_if g e = go g.after g.removals g.additions e
   where
-    go : (ns : List ℕ) (rs : List Removal) (xs : List AdditionValue) → may_end (place_if xs places.Additions (place_if rs places.Removals (after_place ns))) ≡ true → 0 < length rs + length xs
+    go : (ns : List ℕ) (rs : List Removal) (xs : List Order) → may_end (place_if xs places.Additions (place_if rs places.Removals (after_place ns))) ≡ true → 0 < length rs + length xs
     go [] [] [] e = absurd (let f : false ≡ true = e in cc)
     go (n ∷ ns) [] [] e = absurd (let f : false ≡ true = e in cc)
     go ns (r ∷ rs) [] e = omega arith
@@ -170,7 +171,7 @@ may_end_if g e = go g.after g.removals g.additions e
 pub may_end_of : (g : GroupValue) → 0 < length g.removals + length g.additions → may_end (group_place g) ≡ true
 may_end_of g lt = go g.after g.removals g.additions lt
   where
-    go : (ns : List ℕ) (rs : List Removal) (xs : List AdditionValue) → 0 < length rs + length xs → may_end (place_if xs places.Additions (place_if rs places.Removals (after_place ns))) ≡ true
+    go : (ns : List ℕ) (rs : List Removal) (xs : List Order) → 0 < length rs + length xs → may_end (place_if xs places.Additions (place_if rs places.Removals (after_place ns))) ≡ true
     go ns [] [] lt = absurd (omega (arith, lt))
     go ns (r ∷ rs) [] lt = refl
     go ns rs (x ∷ xs) lt = refl

@@ -1,9 +1,9 @@
 -- The lines of a plan's text: a head, and words behind it.
 use Rattle.std.specs.Prelude.{ℕ, List, [], ◌∷◌, codes, decimal, map, ⊤}
 use Rattle.std.specs.List.{join_with_byte}
+use Rattle.build_pool.specs.declared.orders.Order.{Order}
 use Rattle.dep_atom.specs.declared.slot.Bind.{Bind}
 use Rattle.plan_text.specs.Numbers.{AreNumbers, IsNumber}
-use Rattle.plan_text.specs.Plans.{AdditionValue}
 use Rattle.plan_text.specs.Words.{IsBare, IsBind, IsRemoval, addition_words, bind_word, removal_word}
 use Rattle.plan_text.specs.declared.kind.Kind.{Kind}
 use Rattle.plan_text.specs.declared.kind.Kind.TheVariants as kinds
@@ -24,7 +24,7 @@ Said kinds.Plan = ⊤
 Said kinds.Group = ℕ
 Said kinds.After = List ℕ
 Said kinds.Remove = Removal
-Said kinds.Add = AdditionValue
+Said kinds.Add = Order
 Said kinds.Bind = Bind
 
 -- in which words it says it

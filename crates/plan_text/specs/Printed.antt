@@ -1,8 +1,9 @@
 -- The text of a plan, piece by piece as it is printed.
 use Rattle.std.specs.Prelude.{ℕ, ◌+◌, List, [], ◌∷◌, ◌++◌, codes, decimal}
 use Rattle.std.specs.List.{flat_map}
+use Rattle.build_pool.specs.declared.orders.Order.{Order}
 use Rattle.dep_atom.specs.declared.slot.Bind.{Bind}
-use Rattle.plan_text.specs.Plans.{AdditionValue, GroupValue}
+use Rattle.plan_text.specs.Plans.{GroupValue}
 use Rattle.plan_text.specs.Words.{addition_word, bind_word, removal_word}
 use Rattle.plan_text.specs.declared.plan.Removal.{Removal}
 
@@ -19,10 +20,10 @@ removal_text r = codes "remove " ++ (removal_word r ++ (10 ∷ []))
 abbrev pub bind_text : Bind → List ℕ
 bind_text b = codes "bind " ++ (bind_word b ++ (10 ∷ []))
 
-abbrev pub entry_text : AdditionValue → List ℕ
+abbrev pub entry_text : Order → List ℕ
 entry_text a = codes "add " ++ (addition_word a ++ (flat_map spaced a.enabled ++ (10 ∷ [])))
 
-abbrev pub addition_text : AdditionValue → List ℕ
+abbrev pub addition_text : Order → List ℕ
 addition_text a = entry_text a ++ flat_map bind_text a.binds
 
 abbrev pub after_text : List ℕ → List ℕ

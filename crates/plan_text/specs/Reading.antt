@@ -1,7 +1,6 @@
 -- What reading the words and the lines of a plan's text gives.
 use Rattle.std.specs.Prelude.{◌≡◌, ◌==◌, ℕ, Bool, List, Option, option_map}
 use Rattle.plan_text.specs.Lines.{IsLine, LineValue, head_text, line_of, line_text, said_words}
-use Rattle.plan_text.specs.Plans.{addition_value}
 use Rattle.plan_text.specs.Spelled.{Reads}
 use Rattle.plan_text.specs.declared.kind.Kind.{Kind}
 use Rattle.plan_text.specs.declared.kind.Kind.TheVariants as kinds
@@ -18,7 +17,7 @@ line_value lines.Plan = line_of kinds.Plan tt
 line_value (lines.Group n) = line_of kinds.Group n
 line_value (lines.After ns) = line_of kinds.After ns.items
 line_value (lines.Remove r) = line_of kinds.Remove r
-line_value (lines.Add a) = line_of kinds.Add (addition_value a)
+line_value (lines.Add a) = line_of kinds.Add a
 line_value (lines.Bind b) = line_of kinds.Bind b
 
 -- a line of the kind

@@ -2,26 +2,27 @@
 use Rattle.std.specs.Prelude.{◌≡◌, ◌<◌, ◌≤◌, ◌+◌, ℕ, true, List, [], ◌∷◌, ◌++◌, length, map, ⊤}
 use Rattle.std.specs.List.{AllByRecursion, flat_map}
 use Rattle.basics.specs.Limits.{most_groups}
+use Rattle.build_pool.specs.declared.orders.Order.{Order}
 use Rattle.plan_text.specs.Lines.{LineValue, line_of, line_text}
 use Rattle.plan_text.specs.Numbers.{rise_between}
-use Rattle.plan_text.specs.Plans.{AdditionValue, GroupValue}
+use Rattle.plan_text.specs.Plans.{GroupValue}
 use Rattle.plan_text.specs.Words.{IsBind, IsEntry, IsRemoval, rise}
 use Rattle.plan_text.specs.declared.kind.Kind.TheVariants as kinds
 use Rattle.plan_text.specs.declared.plan.Removal.{Removal}
 
 -- the addition without its binds
-abbrev pub entry : AdditionValue → AdditionValue
+abbrev pub entry : Order → Order
 entry a =
     record { id = a.id; slot = a.slot; subslot = a.subslot; enabled = a.enabled; binds = [] }
 
 abbrev pub remove_line : Removal → LineValue
 remove_line r = line_of kinds.Remove r
 
-abbrev pub add_line : AdditionValue → LineValue
+abbrev pub add_line : Order → LineValue
 add_line a = line_of kinds.Add (entry a)
 
 -- the line of an addition, and one for each of its binds
-abbrev pub addition_lines : AdditionValue → List LineValue
+abbrev pub addition_lines : Order → List LineValue
 addition_lines a = add_line a ∷ map (line_of kinds.Bind) a.binds
 
 -- a line for what a group waits for, where it waits for some
@@ -50,7 +51,7 @@ ended l = line_text l ++ (10 ∷ [])
 abbrev pub plan_text : List GroupValue → List ℕ
 plan_text gs = flat_map ended (plan_lines gs)
 
-pub record IsAddition (a : AdditionValue) : Type 0 where
+pub record IsAddition (a : Order) : Type 0 where
   pub says : IsEntry a
   pub binds : AllByRecursion IsBind a.binds
 

@@ -5,9 +5,9 @@ use Rattle.std.specs.Ordering.{is_lt}
 use Rattle.pms_names.specs.Flags.{byte_order}
 use Rattle.pms_names.specs.Names.{IsName}
 use Rattle.pms_names.specs.declared.kind.Kind.TheVariants.{Flag, Slot}
+use Rattle.build_pool.specs.declared.orders.Order.{Order}
 use Rattle.dep_atom.specs.Ids.{IsId, id_text}
 use Rattle.dep_atom.specs.declared.slot.Bind.{Bind}
-use Rattle.plan_text.specs.Plans.{AdditionValue}
 use Rattle.plan_text.specs.declared.plan.Removal.{Removal}
 
 -- the one text stands before the other in byte order
@@ -29,7 +29,7 @@ abbrev pub removal_word : Removal → List ℕ
 removal_word r = id_text r.id ++ (58 ∷ r.slot)
 
 -- `category/package-version:slot/subslot`
-abbrev pub addition_word : AdditionValue → List ℕ
+abbrev pub addition_word : Order → List ℕ
 addition_word a = id_text a.id ++ (58 ∷ slots_word a.slot a.subslot)
 
 abbrev pub bind_word : Bind → List ℕ
@@ -50,16 +50,16 @@ pub record AreFlags (flags : List (List ℕ)) : Type 0 where
   pub rise : rise flags ≡ true
 
 -- what its line says is in form
-pub record IsEntry (a : AdditionValue) : Type 0 where
+pub record IsEntry (a : Order) : Type 0 where
   pub id : IsId a.id
   pub slot : IsName Slot a.slot
   pub subslot : IsName Slot a.subslot
   pub enabled : AreFlags a.enabled
 
 -- the addition has no binds, which have lines of their own
-abbrev pub IsBare : AdditionValue → Type 0
+abbrev pub IsBare : Order → Type 0
 IsBare a = IsEntry a × (a.binds ≡ [])
 
 -- the words of its line behind the head
-abbrev pub addition_words : AdditionValue → List (List ℕ)
+abbrev pub addition_words : Order → List (List ℕ)
 addition_words a = addition_word a ∷ a.enabled

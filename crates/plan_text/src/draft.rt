@@ -2,7 +2,7 @@ ghost use Rattle.std.specs.Prelude.{◌≡◌, ◌<◌, IfOk, [], length, true};
 ghost use Rattle.plan_text.specs.Drafts.{FitsPlace, FitsGroup, GrowsBy, current_group, draft_count};
 ghost use Rattle.plan_text.specs.Drafts.{whole_groups};
 ghost use Rattle.plan_text.specs.Lines.{IsLine, line_of};
-ghost use Rattle.plan_text.specs.Plans.{addition_value, group_value};
+ghost use Rattle.plan_text.specs.Plans.{group_value};
 ghost use Rattle.plan_text.specs.Progress.{Grows, is_inner};
 ghost use Rattle.plan_text.specs.Reading.{line_value};
 ghost use Rattle.plan_text.specs.Standing.{follows, next, standing_value};
@@ -11,8 +11,9 @@ ghost use Rattle.plan_text.specs.declared.kind.Kind.TheVariants as kinds;
 ghost use Rattle.plan_text.specs.declared.standing.Place.TheVariants as places;
 
 use crate::line::Line;
-use crate::plan::{Addition, Group, Removal};
+use crate::plan::{Group, Removal};
 use crate::standing::Standing;
+use build_pool::Order;
 use dep_atom::Bind;
 use std::alloc::{AllocError, Global};
 
@@ -140,10 +141,10 @@ fn with_removal(mut group: Group, removal: Removal) -> Result<Group, AllocError>
     Ok(group)
 }
 
-fn with_addition(mut group: Group, addition: Addition) -> Result<Group, AllocError>
-    requires { addition.binds.items ≡ [] }
+fn with_addition(mut group: Group, addition: Order) -> Result<Group, AllocError>
+    requires { addition.binds ≡ [] }
     ensures lines { IfOk result (λ g. GrowsBy (group_value group) (group_value g)
-        (line_of kinds.Add (addition_value addition))) }
+        (line_of kinds.Add addition)) }
     ensures fits { IfOk result (λ g. FitsGroup places.Additions (group_value g)) }
 {
     group.additions.push(addition)?;

@@ -10,6 +10,7 @@
 //!
 //! **A contract sees** a plan as the list of its groups (`plan_value` of `specs/Plans.antt`), and
 //! its one text as `plan_text` of `specs/Texts.antt`, where `IsPlan` says which plans are in form.
+//! What comes with a group is a list of orders, as a builder takes them.
 //!
 //! **Proved**: a text is read as a plan exactly where it is the text of that plan, and the plan is
 //! in form; what is printed is the plan's text, in form or not; no two plans in form have one text.
@@ -30,6 +31,7 @@
 mod draft;
 mod fault;
 mod faulty;
+mod flags;
 mod kind;
 mod laws;
 mod line;
@@ -42,5 +44,5 @@ mod words;
 
 pub use fault::PlanTextFault;
 pub use laws::one_plan;
-pub use plan::{Addition, Group, Plan, Removal};
+pub use plan::{Group, Plan, Removal};
 pub use print::push_flags;

@@ -5,8 +5,9 @@ ghost use Rattle.plan_text.specs.Reading.{ReadsLine, ReadsSaid, is_space};
 
 use crate::kind::Kind;
 use crate::number::read_number;
-use crate::plan::{Addition, Removal};
+use crate::plan::Removal;
 use crate::words::{first_word, only_word, read_addition, read_bind, read_numbers, read_removal};
+use build_pool::Order;
 use dep_atom::Bind;
 use std::alloc::{AllocError, Global};
 
@@ -18,7 +19,7 @@ pub(crate) enum Line {
     After(Vec<u32>),
     Remove(Removal),
     /// Its binds have lines of their own.
-    Add(Addition),
+    Add(Order),
     Bind(Bind),
 }
 

@@ -1,17 +1,18 @@
-ghost use Rattle.std.specs.Prelude.{◌≡◌, [], ◌++◌, ◌∷◌, IfOk, OnOk, map, string_bytes};
+ghost use Rattle.std.specs.Prelude.{◌≡◌, [], ◌++◌, ◌∷◌, IfOk, OnOk, string_bytes};
 ghost use Rattle.std.specs.List.{flat_map};
 ghost use Rattle.dep_atom.specs.Ids.{id_text};
-ghost use Rattle.plan_text.specs.Plans.{addition_value, group_value, plan_value};
+ghost use Rattle.plan_text.specs.Plans.{group_value, plan_value};
 ghost use Rattle.plan_text.specs.Printed.{addition_text, after_text, bind_text, entry_text};
 ghost use Rattle.plan_text.specs.Printed.{group_text, groups_text, number_text, removal_text};
 ghost use Rattle.plan_text.specs.Printed.{spaced};
 ghost use Rattle.plan_text.specs.Texts.{plan_text};
 ghost use Rattle.plan_text.specs.Words.{slots_word};
 
-use crate::plan::{Addition, Group, Plan, Removal};
+use crate::plan::{Group, Plan, Removal};
+use build_pool::Order;
 use dep_atom::{Bind, PackageId};
 use itoa::Buffer;
-use pms_names::{Flag, SlotName};
+use pms_names::{Flags, SlotName};
 use std::alloc::{AllocError, Global};
 
 impl Plan {
@@ -95,20 +96,20 @@ fn push_removal(out: &mut String, alloc: Global, removal: &Removal) -> Result<()
     out.push_str("\n")
 }
 
-fn push_additions(out: &mut String, alloc: Global, additions: &[Addition]) -> Result<(), AllocError>
+fn push_additions(out: &mut String, alloc: Global, additions: &[Order]) -> Result<(), AllocError>
     ensures { OnOk result (string_bytes out.new ≡
-        string_bytes out.old ++ flat_map addition_text (map addition_value additions.now)) }
+        string_bytes out.old ++ flat_map addition_text additions.now) }
 {
     for addition in additions {
         push_entry(out, alloc, addition)?;
-        push_binds(out, &addition.binds)?;
+        push_binds(out, addition.binds.list())?;
     }
     Ok(())
 }
 
-fn push_entry(out: &mut String, alloc: Global, addition: &Addition) -> Result<(), AllocError>
+fn push_entry(out: &mut String, alloc: Global, addition: &Order) -> Result<(), AllocError>
     ensures { OnOk result (string_bytes out.new ≡
-        string_bytes out.old ++ entry_text (addition_value addition.now)) }
+        string_bytes out.old ++ entry_text addition.now) }
 {
     out.push_str("add ")?;
     push_id(out, alloc, &addition.id)?;
@@ -118,11 +119,11 @@ fn push_entry(out: &mut String, alloc: Global, addition: &Addition) -> Result<()
 }
 
 /// Puts each of the flags behind the text, with a space before it.
-pub fn push_flags(out: &mut String, flags: &[Flag]) -> Result<(), AllocError>
+pub fn push_flags(out: &mut String, flags: &Flags) -> Result<(), AllocError>
     ensures { OnOk result (string_bytes out.new ≡
         string_bytes out.old ++ flat_map spaced flags.now) }
 {
-    for flag in flags {
+    for flag in flags.list() {
         out.push_str(" ")?;
         out.push_str(flag.text())?;
     }

@@ -2,13 +2,14 @@ ghost use Rattle.std.specs.Prelude.{◌≡◌, [], ◌∷◌, IfOk, MatchOption,
 ghost use Rattle.pms_names.specs.Names.{IsName};
 ghost use Rattle.dep_atom.specs.Ids.{IsId, id_text};
 ghost use Rattle.plan_text.specs.Numbers.{AreNumbers, IsNumber};
-ghost use Rattle.plan_text.specs.Plans.{addition_value};
 ghost use Rattle.plan_text.specs.Spelled.{IsNoSingle, Reads, SplitsAt};
 ghost use Rattle.plan_text.specs.Words.{AreFlags, IsBare, IsBind, IsRemoval, addition_words};
 ghost use Rattle.plan_text.specs.Words.{bind_word, is_before, removal_word, rise};
 
+use crate::flags::set_of;
 use crate::number::read_number;
-use crate::plan::{Addition, Removal};
+use crate::plan::Removal;
+use build_pool::{Binds, Order};
 use dep_atom::{AtomFault, Bind, PackageId};
 use pms_names::{Flag, NameFault, NameKind, NameOf};
 use std::alloc::{AllocError, Global};
@@ -71,9 +72,8 @@ pub(crate) fn read_removal(alloc: Global, word: &str) -> Result<Option<Removal>,
 
 /// A package and its slots, as `category/package-version:slot/subslot`, and flags behind it. It has
 /// no binds yet.
-pub(crate) fn read_addition(alloc: Global, words: &[&str]) -> Result<Option<Addition>, AllocError>
-    ensures { IfOk result (λ r. Reads IsBare addition_words (map (λ w. w.now) words.now)
-        (option_map addition_value r)) }
+pub(crate) fn read_addition(alloc: Global, words: &[&str]) -> Result<Option<Order>, AllocError>
+    ensures { IfOk result (Reads IsBare addition_words (map (λ w. w.now) words.now)) }
 {
     let Some((word, flags)) = first_word(words) else {
         return Ok(None);
@@ -87,15 +87,16 @@ pub(crate) fn read_addition(alloc: Global, words: &[&str]) -> Result<Option<Addi
     let Some(Bind { slot, subslot }) = read_bind(alloc, slots)? else {
         return Ok(None);
     };
-    let Some(enabled) = read_flags(alloc, flags)? else {
+    let Some(flags) = read_flags(alloc, flags)? else {
         return Ok(None);
     };
-    Ok(Some(Addition {
+    let enabled = set_of(alloc, &flags)?;
+    Ok(Some(Order {
         id,
         slot,
         subslot,
         enabled,
-        binds: Vec::new(alloc),
+        binds: Binds::new(Vec::new(alloc)),
     }))
 }
 

@@ -15,14 +15,14 @@ none_step : (b h : Bool) (rest : Option ℕ) (i : ℕ) → IsNone rest ↔ IsTru
 none_step true h rest i k = k
 none_step false h rest i k = (λ n. absurd (search rules), λ t. absurd (search rules))
 
-none_from : (fact : Item → Bool) (has : List ℕ → Bool) (ns : List Required) (i : ℕ) → IsNone (position_from (λ r. not (holds kind fact has (view r))) i ns) ↔ IsTrue (all_hold kind fact has (trees_view ns))
-none_from fact has [] i = (λ _. search rules, λ _. search rules)
-none_from fact has (n ∷ ns) i = none_step (holds kind fact has (view n)) (all_hold kind fact has (trees_view ns)) _ i (none_from fact has ns (i + 1))
+none_from : (empty : Bool) (fact : Item → Bool) (has : List ℕ → Bool) (ns : List Required) (i : ℕ) → IsNone (position_from (λ r. not (holds empty kind fact has (view r))) i ns) ↔ IsTrue (all_hold empty kind fact has (trees_view ns))
+none_from empty fact has [] i = (λ _. search rules, λ _. search rules)
+none_from empty fact has (n ∷ ns) i = none_step (holds empty kind fact has (view n)) (all_hold empty kind fact has (trees_view ns)) _ i (none_from empty fact has ns (i + 1))
 
-pub position-none : (fact : Item → Bool) (has : List ℕ → Bool) (ns : List Required) (r : Option ℕ) → r ≡ position (λ n. not (holds kind fact has (view n))) ns → IsNone r ↔ IsTrue (all_hold kind fact has (trees_view ns))
-position-none fact has ns r e =
-    let P : Option ℕ → Type 0 = λ o. IsNone o ↔ IsTrue (all_hold kind fact has (trees_view ns)) in
-    subst P (sym e) (subst P (sym (position_from-zero (λ n. not (holds kind fact has (view n))) ns)) (none_from fact has ns 0))
+pub position-none : (empty : Bool) (fact : Item → Bool) (has : List ℕ → Bool) (ns : List Required) (r : Option ℕ) → r ≡ position (λ n. not (holds empty kind fact has (view n))) ns → IsNone r ↔ IsTrue (all_hold empty kind fact has (trees_view ns))
+position-none empty fact has ns r e =
+    let P : Option ℕ → Type 0 = λ o. IsNone o ↔ IsTrue (all_hold empty kind fact has (trees_view ns)) in
+    subst P (sym e) (subst P (sym (position_from-zero (λ n. not (holds empty kind fact has (view n))) ns)) (none_from empty fact has ns 0))
 
 trees_from : (p : Tree (Opener (List ℕ)) Item → Bool) (ns : List Required) (i : ℕ) → position_from (λ n. p (view n)) i ns ≡ position_from p i (list_of (trees_view ns))
 trees_from p [] i = refl

@@ -4,7 +4,6 @@ use Rattle.dep_group.specs.declared.token.Opener.{Opener}
 use Rattle.dep_group.specs.Tokens.{Grammar, IsFlag}
 use Rattle.dep_group.specs.Trees.{is_met}
 use Rattle.dep_group.specs.Shapes.{exclamation_mark}
-use Rattle.pms_names.specs.Flags.{has}
 use Rattle.required_use.specs.declared.required.Item.{Item}
 
 -- a flag that is wanted off has an exclamation mark before it
@@ -26,9 +25,9 @@ grammar =
 abbrev pub never : Item → Bool
 never a = false
 
--- an item holds where its flag is on, or where it is not
-abbrev pub is_on : List (List ℕ) → Item → Bool
-is_on enabled a = is_met (has enabled) a.flag a.on
+-- an item holds where its flag is on, or where it is not; `on` says which flags are on
+abbrev pub is_on : (List ℕ → Bool) → Item → Bool
+is_on on a = is_met on a.flag a.on
 
 -- the groups are those of their openers
 abbrev pub kind : Opener (List ℕ) → Opener (List ℕ)

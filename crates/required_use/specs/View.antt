@@ -2,7 +2,8 @@
 use Rattle.std.specs.Prelude.{ℕ, List, map, Some, None}
 use Rattle.dep_group.specs.declared.token.Opener.{Opener}
 use Rattle.dep_group.specs.declared.token.Opener.TheVariants as openers
-use Rattle.dep_group.specs.Trees.{Tree, Trees, leaf, group, trees_of}
+use Rattle.dep_group.specs.Trees.{Tree, leaf, group, trees_of}
+use Rattle.required_use.specs.Texts.{Expressions, ItemTrees}
 use Rattle.required_use.specs.declared.required.Item.{Item}
 use Rattle.required_use.specs.declared.required.RequiredUse.{RequiredUse}
 use Rattle.required_use.specs.declared.required.Required.{Required}
@@ -22,8 +23,9 @@ view_step (Required-F.When flag on nodes) =
 abbrev pub view : Required → Tree (Opener (List ℕ)) Item
 view = fold-Required (Tree (Opener (List ℕ)) Item) view_step
 
-abbrev pub trees_view : List Required → Trees (Opener (List ℕ)) Item
+abbrev pub trees_view : List Required → ItemTrees
 trees_view nodes = trees_of (map view nodes)
 
-abbrev pub trees : RequiredUse → Trees (Opener (List ℕ)) Item
-trees r = trees_view r.nodes.items
+-- the expressions that the nodes are
+abbrev pub trees : RequiredUse → Expressions
+trees r = record { groups = trees_view r.nodes.items; empty_holds = r.empty_holds }

@@ -4,7 +4,7 @@ ghost use Rattle.dep_group.specs.Trees.{group};
 ghost use Rattle.dep_group.specs.Tokens.{IsLeafWord, IsOnlyLeaf};
 ghost use Rattle.required_use.specs.Faults.{FirstFault, IsDenial, IsMemory, named};
 ghost use Rattle.required_use.specs.Grammar.{grammar, kind};
-ghost use Rattle.required_use.specs.Texts.{Expressions, Writes};
+ghost use Rattle.required_use.specs.Texts.{ItemTrees, WritesItems};
 ghost use Rattle.required_use.specs.View.{trees_view, view};
 
 use crate::fault::RequiredFault;
@@ -15,9 +15,9 @@ use std::alloc::{AllocError, Global};
 
 /// The expressions that the text is.
 pub fn read(alloc: Global, text: &str) -> Result<Vec<Required>, RequiredFault>
-    ensures found { IfOk result (λ nodes. Writes text.now (trees_view nodes.items)) }
-    ensures only { (x : Expressions) → Writes text.now x →
-        MatchResult result (λ nodes. trees_view nodes.items ≡ x) IsMemory }
+    ensures found { IfOk result (λ nodes. WritesItems text.now (trees_view nodes.items)) }
+    ensures only { (ts : ItemTrees) → WritesItems text.now ts →
+        MatchResult result (λ nodes. trees_view nodes.items ≡ ts) IsMemory }
     ensures fault { IfErr result (FirstFault text.now) }
 {
     match read_text::<Opener<Flag>, Item, Required>(alloc, text) {

@@ -1,9 +1,9 @@
 ghost use Rattle.std.specs.Prelude.{◌≡◌, ◌++◌, IfOk, OnOk, string_bytes};
 ghost use Rattle.dep_group.specs.Printing.{Adds, group_tokens};
 ghost use Rattle.dep_group.specs.Reading.{all_tokens, tokens};
+ghost use Rattle.dep_group.specs.Texts.{text_of};
 ghost use Rattle.dep_group.specs.Words.{and_space};
 ghost use Rattle.required_use.specs.Grammar.{grammar, item_text};
-ghost use Rattle.required_use.specs.Texts.{text_of};
 ghost use Rattle.required_use.specs.View.{trees_view, view};
 
 use crate::required::Required;
@@ -13,7 +13,7 @@ use std::alloc::{AllocError, Global};
 
 /// The text of the expressions, with one space between each two words.
 pub fn print(alloc: Global, nodes: &[Required]) -> Result<String, AllocError>
-    ensures { IfOk result (λ text. string_bytes text ≡ text_of (trees_view nodes.now)) }
+    ensures { IfOk result (λ text. string_bytes text ≡ text_of grammar (trees_view nodes.now)) }
 {
     let mut out = String::new(alloc);
     push_all(nodes, &mut out)?;

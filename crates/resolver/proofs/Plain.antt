@@ -35,5 +35,5 @@ nodes_plain : (ns : List Node) → CountNothing (trees_view ns)
 nodes_plain [] = tt
 nodes_plain (n ∷ ns) = (node_plain n, nodes_plain ns)
 
-pub tree_plain : (t : DepTree) → CountNothing (trees t)
+pub tree_plain : (t : DepTree) → CountNothing (trees t).groups
 tree_plain t = nodes_plain t.nodes.items

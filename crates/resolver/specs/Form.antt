@@ -10,7 +10,7 @@ use Rattle.choice_tree.specs.declared.universe.Offer.{Offer}
 
 -- no group of its dependencies counts its members
 abbrev pub IsPlain : Package → Type 0
-IsPlain p = (class : Class) → CountNothing (tree_of class p)
+IsPlain p = (class : Class) → CountNothing (tree_of class p).groups
 
 abbrev pub ArePlain : List Package → Type 0
 ArePlain ps = (p : Package) → Has ps p → IsPlain p

@@ -12,7 +12,7 @@ use pkg_state::{Class, Pkg};
 
 // No group of what is read counts its members. Nothing is done: it is so of each tree.
 fn tree_is_plain(_tree: &DepTree)
-    ensures { CountNothing (trees _tree.now) }
+    ensures { CountNothing (trees _tree.now).groups }
 {}
 
 fn package_is_plain(one: &Pkg)

@@ -32,7 +32,7 @@ use Rattle.law_commit.specs.Lit.{as_recorded}
 use Rattle.run_files.specs.Laws.{CanBeRecorded}
 use Rattle.run_files.specs.Made.{AreFilesFor, IsNamed, recorded}
 use Rattle.run_files.specs.declared.newcomer.Newcomer.{Newcomer}
-use Rattle.run_files.proofs.Kept.{named_recorded, same_tree}
+use Rattle.run_files.proofs.Kept.{named_recorded, same_edition, same_tree}
 
 -- a path that an image may have, and that is outside the journal, is one that packages own
 pub ownable_path : (p : List ℕ) → is_reserved p ≡ false → meets_jobs p ≡ false → is_dropped p ≡ false
@@ -68,6 +68,7 @@ module _ (read : SortedRecordsAreReadBack) (inside : FilesAreInTheFolder) (flags
 
   recordable : IsRecordable (recorded n)
   recordable = record {
+    edition = same_edition n.pkg can.needs.edition;
     needs = λ class. subst AreBound (sym (same_tree n.pkg class)) (can.needs.needs class);
     required = can.needs.required;
     owned = all_ownable image ownable;

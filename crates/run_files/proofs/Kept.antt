@@ -1,13 +1,16 @@
 -- The package that is recorded of one that comes.
-use Rattle.std.proofs.Common.{◌≡◌, ◌∙◌, ◌||◌, ◌&&◌, ℕ, Bool, true, false, List, [], ◌∷◌, filter, refl, ap, sym}
+use Rattle.std.proofs.Common.{◌≡◌, ◌∙◌, ◌||◌, ◌&&◌, ℕ, Bool, true, false, List, [], ◌∷◌, filter, refl, ap, subst, sym}
 use Rattle.std.specs.Prelude.{bytes_eq, if◌then◌else◌}
 use Rattle.std.proofs.lemmas.List.Kept.{IsStrictlySortedBy-filter}
 use Rattle.std.proofs.lemmas.Slice.Eq.{bytes_eq-Decides}
 use Rattle.basics.proofs.Each.{all_by_has, all_has}
 use Rattle.basics.proofs.Membership.{has-filter_back}
 use Rattle.dep_group.specs.Tokens.{IsFlag}
+use Rattle.dep_group.specs.Trees.{no_trees}
+use Rattle.dep_tree.specs.Texts.{Dependencies}
 use Rattle.pms_names.specs.Flags.{IsRising, byte_order, has}
 use Rattle.pms_names.proofs.Sets.{one_set}
+use Rattle.pkg_state.specs.Editions.{FitsEdition}
 use Rattle.pkg_state.specs.Package.{Package, tree_of, with_enabled}
 use Rattle.pkg_state.specs.declared.class.Class.{Class}
 use Rattle.pkg_state.specs.declared.class.Class.TheVariants.{Bdepend, Depend, Idepend, Pdepend, Rdepend}
@@ -21,6 +24,14 @@ same_tree p Depend = refl
 same_tree p Idepend = refl
 same_tree p Pdepend = refl
 same_tree p Rdepend = refl
+
+-- .. in its edition
+pub same_edition : (p : Package) → FitsEdition p → FitsEdition (as_recorded p)
+same_edition p fits = record {
+  lacking = λ class lacks. subst (λ (x : Dependencies). x.groups ≡ no_trees) (sym (same_tree p class)) (fits.lacking class lacks);
+  needs = λ class. ap (λ (x : Dependencies). x.empty_holds) (same_tree p class) ∙ fits.needs class;
+  required = fits.required;
+}
 
 kept_set : (test : List ℕ → Bool) (set : List (List ℕ)) → IsFlagSet set → IsFlagSet (filter test set)
 kept_set test set is = record {

@@ -63,7 +63,7 @@ module _ (ps qs : List Package) (perm : IsPermutation ps qs) where
   same_fact asker a = ap (λ (b : Bool). is_block a || b) (list_any-IsPermutation (λ f. value_matches a f asker) (facts_of ps) (facts_of qs) (IsPermutation-map (λ (p : Package). p.facts) ps qs perm))
 
   same_met : (p : Package) → is_met (facts_of ps) Rdepend p ≡ is_met (facts_of qs) Rdepend p
-  same_met p = ap (λ (fact : AtomValue → Bool). all_hold kind fact (has p.facts.enabled) (tree_of Rdepend p)) (λ i a. same_fact p.facts.enabled a i)
+  same_met p = ap (λ (fact : AtomValue → Bool). all_hold (tree_of Rdepend p).empty_holds kind fact (has p.facts.enabled) (tree_of Rdepend p).groups) (λ i a. same_fact p.facts.enabled a i)
 
   back : (p : Package) → Has qs p → Has ps p
   back p there = has-moved qs ps p (IsPermutation-sym ps qs perm) there

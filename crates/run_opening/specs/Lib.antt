@@ -1,4 +1,3 @@
-pub mod Matched
 pub mod Order
 pub mod Rows
 pub mod Faults

@@ -6,14 +6,12 @@
 //! **Proved**: the packages of a tree are read exactly where it has a database, no two of its
 //! packages are in each other's way, and they go together with the flags on that the run has on for
 //! every package; else the first fault is told. They come back as they are recorded. The ownership
-//! book has them as the owners of what they recorded and of their own folders. Whether an atom
-//! matches one of them is answered exactly.
+//! book has them as the owners of what they recorded and of their own folders.
 //!
 //! **Only tested**, within whole runs: that with ample memory what a run begins with is read.
 //!
 //! ```
 //! let opening = read_opening(alloc, &mut tree, &implicit)?;
-//! let there = is_matched(alloc, &atom, &opening.packages);
 //! ```
 #![tactic(auto)]
 
@@ -23,11 +21,9 @@ mod lighting;
 mod opened;
 mod order;
 mod owners;
-mod places;
 mod reading;
 
 pub use fault::OpeningFault;
 pub use lighting::lit;
 pub use opened::Opening;
-pub use places::is_matched;
 pub use reading::read_opening;

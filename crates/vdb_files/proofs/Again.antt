@@ -12,17 +12,23 @@ use Rattle.dep_atom.specs.Form.{IsSlotForm}
 use Rattle.dep_atom.specs.Values.{AtomValue}
 use Rattle.dep_atom.specs.declared.slot.SlotPart.{SlotPart}
 use Rattle.dep_atom.specs.declared.slot.SlotPart.TheVariants.{Equals, Free, Given, Star}
-use Rattle.dep_group.specs.Tokens.{AreMadeOf, IsFlag, IsInForm, IsMadeOf}
+use Rattle.dep_group.specs.Tokens.{AreMadeOf, IsFlag, IsInForm, IsMadeOf, tree_words}
 use Rattle.dep_group.specs.Trees.{Tree, all_depth, all_free, depth, group, is_any_of, is_free, leaf, no_trees, tree}
+use Rattle.dep_group.specs.Words.{words_of}
 use Rattle.dep_group.specs.declared.token.Opener.{Opener}
 use Rattle.dep_tree.specs.Grammar.{AreAtomsInGroups, grammar, is_block}
-use Rattle.dep_tree.specs.Texts.{Dependencies}
+use Rattle.dep_tree.specs.Texts.{AtomTrees, Dependencies}
 use Rattle.pms_slot.specs.Slots.{IsWritten}
+use Rattle.pkg_state.specs.Package.{tree_of}
 use Rattle.vdb_contents.specs.Contents.{IsContent, IsLine, IsOwnable, Line, TellsOwned, dir, is_dropped, obj, owned_by, owned_in, path_of, sym as link_line}
 use Rattle.vdb_contents.specs.declared.owned.Content.{Content}
 use Rattle.vdb_contents.specs.declared.owned.Content.TheVariants.{File, Link}
 use Rattle.vdb_contents.specs.declared.owned.Owned.{Owned}
-use Rattle.vdb_law.specs.Fields.{AreFlags, AreSlots, all_bound, bound_alone, contents, flags, known, needs, required, slots, tree_bound, without_equals}
+use Rattle.vdb_law.specs.Fields.{AreFlags, AreSlots, ReadsNeeds, all_bound, bound_alone, bound_of, contents, flags, known, needs, needs_text, required, slots, tree_bound, without_equals}
+use Rattle.vdb_law.proofs.NoWords.{no_words}
+use Rattle.pkg_state.specs.Eapis.{empty_holds, has_class}
+use Rattle.pkg_state.specs.declared.class.Class.{Class}
+use Rattle.pkg_state.specs.declared.eapi.Eapi.{Eapi}
 use Rattle.vdb_files.specs.Recorded.{AreBound, IsFlagSet, SaidIsRecordable}
 
 -- ---- names
@@ -64,7 +70,7 @@ mutual
   tree_again (leaf a) = ap leaf (atom_again a)
   tree_again (group opener ts) = ap (group opener) (all_again ts)
 
-  all_again : (ts : Dependencies) → all_bound (all_bound ts) ≡ all_bound ts
+  all_again : (ts : AtomTrees) → all_bound (all_bound ts) ≡ all_bound ts
   all_again no_trees = refl
   all_again (tree t ts) = ap (λ (u : Tree (Opener (List ℕ)) AtomValue). tree u (all_bound (all_bound ts))) (tree_again t) ∙ ap (tree (tree_bound t)) (all_again ts)
 
@@ -73,7 +79,7 @@ mutual
   tree_made (leaf a) is = atom_kept a is
   tree_made (group opener ts) is = (is.0, all_made ts is.1)
 
-  all_made : (ts : Dependencies) → AreMadeOf grammar ts → AreMadeOf grammar (all_bound ts)
+  all_made : (ts : AtomTrees) → AreMadeOf grammar ts → AreMadeOf grammar (all_bound ts)
   all_made no_trees is = tt
   all_made (tree t ts) is = (tree_made t is.0, all_made ts is.1)
 
@@ -82,7 +88,7 @@ mutual
   tree_deep (leaf a) = refl
   tree_deep (group opener ts) = ap (λ (n : ℕ). 1 + n) (all_deep ts)
 
-  all_deep : (ts : Dependencies) → all_depth (all_bound ts) ≡ all_depth ts
+  all_deep : (ts : AtomTrees) → all_depth (all_bound ts) ≡ all_depth ts
   all_deep no_trees = refl
   all_deep (tree t ts) = ap (λ (n : ℕ). max n (all_depth (all_bound ts))) (tree_deep t) ∙ ap (max (depth t)) (all_deep ts)
 
@@ -92,7 +98,7 @@ mutual
   tree_free inside (group None ts) = all_free_too inside ts
   tree_free inside (group (Some opener) ts) = all_free_too _ ts
 
-  all_free_too : (inside : Bool) (ts : Dependencies) → all_free is_any_of is_block inside (all_bound ts) ≡ all_free is_any_of is_block inside ts
+  all_free_too : (inside : Bool) (ts : AtomTrees) → all_free is_any_of is_block inside (all_bound ts) ≡ all_free is_any_of is_block inside ts
   all_free_too inside no_trees = refl
   all_free_too inside (tree t ts) =
       ap (λ (b : Bool). b && all_free is_any_of is_block inside (all_bound ts)) (tree_free inside t)
@@ -100,19 +106,31 @@ mutual
 
 -- in form are just atoms in groups
 abbrev pub FormIsAtoms : Type 0
-FormIsAtoms = (x : Dependencies) → IsInForm grammar is_block x ↔ AreAtomsInGroups x
+FormIsAtoms = (ts : AtomTrees) → IsInForm grammar is_block ts ↔ AreAtomsInGroups ts
 
-are_bound : FormIsAtoms → (x : Dependencies) → IsInForm grammar is_block x → AreBound (all_bound x)
+bound_again : (x : Dependencies) → bound_of (bound_of x) ≡ bound_of x
+bound_again x = λ i. record { groups = all_again x.groups i; empty_holds = x.empty_holds }
+
+are_bound : FormIsAtoms → (x : Dependencies) → IsInForm grammar is_block x.groups → AreBound (bound_of x)
 are_bound law x form =
-    let are = (law x).0 form in
+    let are = (law x.groups).0 form in
     record {
-      form = (law (all_bound x)).1 (record {
-        made = all_made x are.made;
-        low = subst (λ (n : ℕ). n ≤ 64) (sym (all_deep x)) are.low;
-        free = all_free_too false x ∙ are.free;
+      form = (law (all_bound x.groups)).1 (record {
+        made = all_made x.groups are.made;
+        low = subst (λ (n : ℕ). n ≤ 64) (sym (all_deep x.groups)) are.low;
+        free = all_free_too false x.groups ∙ are.free;
       });
-      bound = all_again x;
+      bound = bound_again x;
     }
+
+-- ---- the edition
+
+-- nothing is read of a class that the edition lacks
+none_needed : (e : Eapi) (class : Class) (text : List ℕ) (x : Dependencies) → ReadsNeeds e class text x → has_class e class ≡ false → x.groups ≡ no_trees
+none_needed e class text x r none =
+    let empty : needs_text e class text ≡ [] = ap (λ (b : Bool). if b then text else []) none in
+    let words : tree_words grammar r.0.groups ≡ [] = sym r.1.atoms.1 ∙ ap words_of empty in
+    ap (λ (y : Dependencies). y.groups) r.2 ∙ ap all_bound (no_words grammar r.0.groups words)
 
 -- ---- owned paths
 
@@ -146,8 +164,13 @@ said_recordable law f p says = (
     enabled = flag_set _ p.package_is.facts.enabled (says.reads flags);
   },
   record {
-    needs = λ class. (let r = says.reads (needs class) in subst AreBound (sym r.2) (are_bound law r.0 r.1.0));
-    required = (says.reads required).0;
+    edition = record {
+      lacking = λ class. none_needed p.package_is.eapi class _ (tree_of class p.package_is) (says.reads (needs class));
+      needs = λ class. (let r = says.reads (needs class) in ap (λ (x : Dependencies). x.empty_holds) r.2 ∙ r.1.flag);
+      required = (says.reads required).flag;
+    };
+    needs = λ class. (let r = says.reads (needs class) in subst AreBound (sym r.2) (are_bound law r.0 r.1.atoms.0));
+    required = (says.reads required).items.0;
     owned = told_ownable _ p.owned (says.reads contents);
   },
   told_once _ p.owned (says.reads contents),

@@ -26,7 +26,7 @@ use Rattle.vdb_law.specs.Packages.{Installed, id_of, paths}
 use Rattle.vdb_files.specs.Written.{AreInOrder, fields, file_if_written, folder_files, has_bytes, installed_with, is_written, value_of}
 use Rattle.vdb_files.specs.Recorded.{AreNamed, FilesAreInTheFolder, IsRecordable, RecordsAreReadBack, SortedRecordsAreReadBack, folder_of}
 use Rattle.vdb_files.proofs.Order.{already_sorted, distinct_moved, rising_distinct}
-use Rattle.vdb_files.proofs.Words.{flags_said, known_said, needs_said, required_said, slots_said}
+use Rattle.vdb_files.proofs.Words.{eapi_said, flags_said, known_said, needs_said, required_said, slots_said}
 
 same_name : (id : PackageId) (a b : List ℕ) → bytes_eq (package_file_path id a) (package_file_path id b) ≡ bytes_eq a b
 same_name id a b = elim (cases_Bool (bytes_eq a b)) [
@@ -98,14 +98,17 @@ module _ (p : Installed) where
 
   reads : ContentsAreReadBack → AreNamed p.package_is.facts → IsRecordable p → AreDistinct (paths p) → (k : Field) → Reads k (value_of k p) p
   reads back named is once contents = back p.owned is.owned once
-  reads back named is once eapi = refl
+  reads back named is once eapi = eapi_said p.package_is.eapi
   reads back named is once slots = slots_said p.package_is.facts.slot p.package_is.facts.subslot named.slot named.subslot
   reads back named is once flags = flags_said p.package_is.facts.enabled named.enabled
   reads back named is once known = known_said p.package_is.facts.iuse named.known
-  reads back named is once required = required_said p.package_is.required is.required
+  reads back named is once required = record { items = required_said p.package_is.required is.required; flag = is.edition.required }
   reads back named is once (needs class) = (
     tree_of class p.package_is,
-    needs_said (tree_of class p.package_is) (is.needs class).form,
+    record {
+      atoms = needs_said p.package_is.eapi class (tree_of class p.package_is) (is.needs class).form (is.edition.lacking class);
+      flag = is.edition.needs class;
+    },
     sym (is.needs class).bound,
   )
 
@@ -132,6 +135,7 @@ module _ (p : Installed) where
 
 recordable : (p : Installed) (sorted : List Owned) → AreInOrder p.owned sorted → IsRecordable p → IsRecordable (installed_with p.package_is sorted)
 recordable p sorted order is = record {
+  edition = is.edition;
   needs = is.needs;
   required = is.required;
   owned = all_by_has IsOwnable sorted (λ o has. all_has IsOwnable p.owned o is.owned (has-moved sorted p.owned o (IsPermutation-sym p.owned sorted order.all) has));

@@ -12,7 +12,8 @@ use Rattle.dep_group.specs.Tokens.{IsFlag, IsInForm, tree_words}
 use Rattle.dep_group.specs.Words.{Spot, begins_word, is_word, spaced, texts, with_letter, words, words_of}
 use Rattle.dep_group.proofs.WordLemmas.{words-word, words_of-spaced}
 use Rattle.dep_tree.specs.Grammar as dependencies
-use Rattle.dep_tree.specs.Texts.{Dependencies}
+use Rattle.dep_group.specs.Trees.{no_trees}
+use Rattle.dep_tree.specs.Texts.{AtomTrees, Dependencies}
 use Rattle.dep_tree.specs.Texts as dependency_texts
 use Rattle.required_use.specs.Grammar as expressions
 use Rattle.required_use.specs.Texts.{Expressions}
@@ -20,7 +21,11 @@ use Rattle.required_use.specs.Texts as expression_texts
 use Rattle.pms_slot.specs.Slots.{slot_text}
 use Rattle.pms_slot.proofs.Parted.{printed_says}
 use Rattle.use_flags.specs.Items.{flag_of, hyphen, plus}
-use Rattle.vdb_law.specs.Fields.{AreFlags, AreSlots}
+use Rattle.pkg_state.specs.Eapis.{eapi_text, has_class}
+use Rattle.pkg_state.specs.declared.class.Class.{Class}
+use Rattle.pkg_state.specs.declared.eapi.Eapi.{Eapi}
+use Rattle.pkg_state.specs.declared.eapi.Eapi.TheVariants.{Five, Six, Seven, Eight}
+use Rattle.vdb_law.specs.Fields.{AreFlags, AreSlots, needs_text}
 use Rattle.vdb_law.proofs.Words.{name_word, slot_word}
 use Rattle.vdb_files.specs.Written.{with_newline}
 use Rattle.vdb_files.specs.Recorded.{IsFlagSet}
@@ -44,6 +49,14 @@ words_newline (b ∷ bs) = ap texts (words_ended 0 (b ∷ bs))
 -- words with a space between each two and a newline behind are read back
 words_written : (ws : List (List ℕ)) → list_all is_word ws ≡ true → words_of (with_newline (spaced ws)) ≡ ws
 words_written ws h = words_newline (spaced ws) ∙ words_of-spaced ws h
+
+-- ---- EAPI
+
+pub eapi_said : (e : Eapi) → words_of (with_newline (eapi_text e)) ≡ eapi_text e ∷ []
+eapi_said Five = refl
+eapi_said Six = refl
+eapi_said Seven = refl
+eapi_said Eight = refl
 
 -- ---- SLOT
 
@@ -85,8 +98,18 @@ known_said set is =
 
 -- ---- trees
 
-pub needs_said : (x : Dependencies) → IsInForm dependencies.grammar dependencies.is_block x → dependency_texts.Writes (with_newline (dependency_texts.text_of x)) x
-needs_said x form = (form, words_written (tree_words dependencies.grammar x) form.words)
+-- what is written of a class is what is read of it
+nothing_written : (e : Eapi) (class : Class) (x : Dependencies) → (has_class e class ≡ false → x.groups ≡ no_trees) → needs_text e class (with_newline (dependency_texts.text_of x)) ≡ with_newline (dependency_texts.text_of x)
+nothing_written e class x lacking = go (has_class e class) lacking
+  where
+    go : (b : Bool) → (b ≡ false → x.groups ≡ no_trees) → (if b then with_newline (dependency_texts.text_of x) else []) ≡ with_newline (dependency_texts.text_of x)
+    go true none = refl
+    go false none = ap (λ (ts : AtomTrees). with_newline (spaced (tree_words dependencies.grammar ts))) (sym (none refl))
 
-pub required_said : (x : Expressions) → IsInForm expressions.grammar expressions.never x → expression_texts.Writes (with_newline (expression_texts.text_of x)) x
-required_said x form = (form, words_written (tree_words expressions.grammar x) form.words)
+pub needs_said : (e : Eapi) (class : Class) (x : Dependencies) → IsInForm dependencies.grammar dependencies.is_block x.groups → (has_class e class ≡ false → x.groups ≡ no_trees)
+    → dependency_texts.WritesAtoms (needs_text e class (with_newline (dependency_texts.text_of x))) x.groups
+needs_said e class x form lacking =
+    subst (λ (text : List ℕ). dependency_texts.WritesAtoms text x.groups) (sym (nothing_written e class x lacking)) (form, words_written (tree_words dependencies.grammar x.groups) form.words)
+
+pub required_said : (x : Expressions) → IsInForm expressions.grammar expressions.never x.groups → expression_texts.WritesItems (with_newline (expression_texts.text_of x)) x.groups
+required_said x form = (form, words_written (tree_words expressions.grammar x.groups) form.words)

@@ -12,12 +12,13 @@ use Rattle.dep_tree.specs.Texts.{Dependencies}
 use Rattle.required_use.specs.Grammar as expressions
 use Rattle.file_tree.specs.Disk.{held_by}
 use Rattle.file_tree.specs.declared.objects.Entry.{Entry}
+use Rattle.pkg_state.specs.Editions.{FitsEdition}
 use Rattle.pkg_state.specs.Package.{tree_of}
 use Rattle.pkg_state.specs.declared.class.Class.{Class}
 use Rattle.vdb_contents.specs.Contents.{IsOwnable}
 use Rattle.vdb_contents.specs.declared.owned.Owned.{Owned}
 use Rattle.vdb_law.specs.Database.{IsOf, folder}
-use Rattle.vdb_law.specs.Fields.{Folder, Says, all_bound}
+use Rattle.vdb_law.specs.Fields.{Folder, Says, bound_of}
 use Rattle.vdb_law.specs.Packages.{Installed, id_of, paths}
 use Rattle.vdb_files.specs.Written.{AreFolderFiles, AreInOrder, installed_with}
 
@@ -35,13 +36,14 @@ pub record AreNamed (f : Facts) : Type 0 where
 
 -- dependencies as a record has them: in form, with no equals operator that is bound to nothing
 pub record AreBound (x : Dependencies) : Type 0 where
-  pub form : IsInForm dependencies.grammar dependencies.is_block x
-  pub bound : all_bound x ≡ x
+  pub form : IsInForm dependencies.grammar dependencies.is_block x.groups
+  pub bound : bound_of x ≡ x
 
--- what the package needs and owns can be recorded
+-- what the package needs and owns can be recorded in its edition
 pub record IsRecordable (p : Installed) : Type 0 where
+  pub edition : FitsEdition p.package_is
   pub needs : (class : Class) → AreBound (tree_of class p.package_is)
-  pub required : IsInForm expressions.grammar expressions.never p.package_is.required
+  pub required : IsInForm expressions.grammar expressions.never p.package_is.required.groups
   pub owned : AllByRecursion IsOwnable p.owned
 
 -- what the files hold in the package's folder

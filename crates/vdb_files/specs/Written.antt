@@ -8,9 +8,10 @@ use Rattle.dep_tree.specs.Texts as dependencies
 use Rattle.required_use.specs.Texts as expressions
 use Rattle.pms_slot.specs.Slots.{slot_text}
 use Rattle.file_tree.specs.declared.objects.Entry.{Entry}
+use Rattle.pkg_state.specs.Eapis.{eapi_text}
 use Rattle.pkg_state.specs.Package.{Package, tree_of}
 use Rattle.pkg_state.specs.declared.class.Class.TheVariants.{Bdepend, Depend, Idepend, Pdepend, Rdepend}
-use Rattle.vdb_paths.specs.Files.{eapi_text, record_file}
+use Rattle.vdb_paths.specs.Files.{record_file}
 use Rattle.vdb_contents.specs.Contents.{contents_text, path_of}
 use Rattle.vdb_contents.specs.declared.owned.Owned.{Owned}
 use Rattle.vdb_law.specs.Fields.{Field, contents, eapi, flags, is_needed, known, name_of, needs, required, slots}
@@ -25,7 +26,7 @@ with_newline (b ∷ bs) = (b ∷ bs) ++ (10 ∷ [])
 -- and a newline behind
 abbrev pub value_of : Field → Installed → List ℕ
 value_of contents p = contents_text p.owned
-value_of eapi p = eapi_text
+value_of eapi p = with_newline (eapi_text p.package_is.eapi)
 value_of slots p = with_newline (slot_text p.package_is.facts.slot p.package_is.facts.subslot)
 value_of flags p = with_newline (spaced p.package_is.facts.enabled)
 value_of known p = with_newline (spaced p.package_is.facts.iuse)

@@ -11,7 +11,7 @@ ghost use Rattle.vdb_files.specs.Written.{value_of};
 use crate::contents::{in_order, text_of_contents};
 use crate::laws::records_are_read_back;
 use crate::named::facts_are_named;
-use crate::texts::{text_of_flags, text_of_needs, text_of_required, text_of_slots};
+use crate::texts::{text_of_eapi, text_of_flags, text_of_needs, text_of_required, text_of_slots};
 use dep_atom::PackageId;
 use file_tree::{Entry, Kind, Object};
 use pkg_state::{Class, Pkg};
@@ -83,7 +83,7 @@ fn text_of(
 {
     match file {
         RecordFile::Contents => text_of_contents(alloc, owned),
-        RecordFile::Eapi => Vec::from_slice(alloc, b"8\n"),
+        RecordFile::Eapi => text_of_eapi(alloc, pkg.eapi),
         RecordFile::Slot => text_of_slots(alloc, &pkg.facts),
         RecordFile::Use => text_of_flags(alloc, &pkg.facts.enabled),
         RecordFile::Iuse => text_of_flags(alloc, &pkg.facts.iuse),

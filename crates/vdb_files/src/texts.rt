@@ -4,16 +4,26 @@ ghost use Rattle.dep_tree.specs.Texts as dependencies;
 ghost use Rattle.dep_tree.specs.View.{trees};
 ghost use Rattle.required_use.specs.Texts as expressions;
 ghost use Rattle.required_use.specs.View.{trees as required_trees};
+ghost use Rattle.pkg_state.specs.Eapis.{eapi_text};
 ghost use Rattle.pms_slot.specs.Slots.{slot_text};
 ghost use Rattle.vdb_files.specs.Written.{with_newline};
 
 use dep_atom::Facts;
 use dep_group::push_word;
 use dep_tree::DepTree;
+use pkg_state::Eapi;
 use pms_names::Flags;
 use pms_slot::print_slots;
 use required_use::RequiredUse;
 use std::alloc::{AllocError, Global};
+
+/// The text of EAPI.
+pub(crate) fn text_of_eapi(alloc: Global, edition: Eapi) -> Result<Vec<u8>, AllocError>
+    ensures { IfOk result (λ t. t.items ≡ with_newline (eapi_text edition)) }
+{
+    let text = String::from_str(alloc, edition.text())?;
+    with_newline(text)
+}
 
 /// The text of SLOT.
 pub(crate) fn text_of_slots(alloc: Global, facts: &Facts) -> Result<Vec<u8>, AllocError>

@@ -3,3 +3,4 @@ pub mod Law
 pub mod After
 pub mod Words
 pub mod FileNames
+pub mod NoWords

@@ -17,8 +17,10 @@ use Rattle.use_flags.specs.Items.{flag_of}
 use Rattle.file_tree.specs.ObjectValue.{ObjectValue}
 use Rattle.file_tree.specs.declared.objects.Kind.{Kind}
 use Rattle.file_tree.specs.declared.objects.Kind.TheVariants.{Exec, Link, Plain}
+use Rattle.pkg_state.specs.Eapis.{eapi_text, empty_holds, has_class}
 use Rattle.pkg_state.specs.Package.{class_word, tree_of}
 use Rattle.pkg_state.specs.declared.class.Class.{Class}
+use Rattle.pkg_state.specs.declared.eapi.Eapi.{Eapi}
 use Rattle.vdb_contents.specs.Contents.{TellsOwned}
 use Rattle.vdb_law.specs.Packages.{Installed}
 
@@ -108,17 +110,31 @@ abbrev mutual
   all_bound no_trees = no_trees
   all_bound (tree t ts) = tree (tree_bound t) (all_bound ts)
 
+-- dependencies as a record has them
+abbrev pub bound_of : dependencies.Dependencies → dependencies.Dependencies
+bound_of x = record { groups = all_bound x.groups; empty_holds = x.empty_holds }
+
+-- the text of a class of dependencies, which is ignored where the edition lacks the class
+abbrev pub needs_text : Eapi → Class → List ℕ → List ℕ
+needs_text e class text = if has_class e class then text else []
+
+-- in a record of the edition the text of the class has these dependencies
+abbrev pub ReadsNeeds : Eapi → Class → List ℕ → dependencies.Dependencies → Type 0
+ReadsNeeds e class text told =
+    (x : dependencies.Dependencies)
+    × dependencies.Writes (empty_holds e) (needs_text e class text) x × (told ≡ bound_of x)
+
 -- the text of a file says this of the package
 abbrev pub Reads : Field → List ℕ → Installed → Type 0
 Reads contents text p = TellsOwned text p.owned
-Reads eapi text p = words_of text ≡ codes "8" ∷ []
+Reads eapi text p = words_of text ≡ eapi_text p.package_is.eapi ∷ []
 Reads slots text p = AreSlots (words_of text) p.package_is.facts.slot p.package_is.facts.subslot
 Reads flags text p = AreFlags (words_of text) p.package_is.facts.enabled
 Reads known text p = AreFlags (map flag_of (words_of text)) p.package_is.facts.iuse
-Reads required text p = expressions.Writes text p.package_is.required
+Reads required text p =
+    expressions.Writes (empty_holds p.package_is.eapi) text p.package_is.required
 Reads (needs class) text p =
-    (x : dependencies.Dependencies) × dependencies.Writes text x
-    × (tree_of class p.package_is ≡ all_bound x)
+    ReadsNeeds p.package_is.eapi class text (tree_of class p.package_is)
 
 -- the text of a field, which is empty where its file is missing
 abbrev pub field_text : Folder → Field → List ℕ

@@ -1,3 +1,2 @@
 pub mod Packages
 pub mod Placed
-pub mod Rising

@@ -1,14 +1,11 @@
 -- The files of a package's record in the database of installed packages.
-use Rattle.std.specs.Prelude.{◌≡◌, ℕ, Bool, ◌&&◌, ◌||◌, ◌==◌, ltb, leb, List, [], ◌∷◌, ◌++◌, codes, length}
+use Rattle.std.specs.Prelude.{ℕ, Bool, ◌&&◌, ◌||◌, ◌==◌, ltb, leb, List, [], ◌∷◌, ◌++◌, codes, length}
 use Rattle.std.specs.Int.{is_in_range}
 use Rattle.std.specs.List.{list_all}
 use Rattle.file_tree.specs.ObjectValue.{plain}
 use Rattle.file_tree.specs.declared.objects.Entry.{Entry}
 use Rattle.dep_atom.specs.Ids.{id_text}
-use Rattle.dep_atom.specs.declared.package.Facts.{Facts}
 use Rattle.dep_atom.specs.declared.package.PackageId.{PackageId}
-use Rattle.pms_slot.specs.Slots.{slot_text}
-use Rattle.vdb_paths.specs.Contents.{IsContentsOf}
 
 -- the package's own folder there
 abbrev pub package_folder : PackageId → List ℕ
@@ -38,14 +35,3 @@ eapi_text = 56 ∷ 10 ∷ []
 -- a file of the record with this text
 abbrev pub record_file : PackageId → List ℕ → List ℕ → Entry
 record_file id name text = record { path = package_file_path id name; object = plain text }
-
--- the files of a package's record, where CONTENTS has this text, in the order in which they are put
-abbrev pub record_files : Facts → List ℕ → List Entry
-record_files f contents = record_file f.id (codes "CONTENTS") contents
-    ∷ record_file f.id (codes "EAPI") eapi_text
-    ∷ record_file f.id (codes "SLOT") (slot_text f.slot f.subslot ++ (10 ∷ [])) ∷ []
-
--- the entries are the record of a package with this image
-abbrev pub AreRecordOf : Facts → List Entry → List Entry → Type 0
-AreRecordOf f image es =
-    (contents : List ℕ) × IsContentsOf image contents × (es ≡ record_files f contents)

@@ -1,23 +1,20 @@
-//! The record of an installed package without flags and needs, as it is written into the database.
+//! Where the record of an installed package stands in the database: the folder of all packages, a
+//! package's own folder, and the files in it.
 //!
-//! **A contract sees** a package's record as the files below `var/db/pkg`, and its CONTENTS as a list
-//! of lines.
+//! **A contract sees** a path as its text, and a file of a record as an entry with plain bytes.
 //!
-//! **Proved**: the files of a package's record are exactly those of the format, below the
-//! database's folder and each at its own path, with a line for each entry of the image in byte order
-//! of their paths.
+//! **Proved**: the paths are exactly those of the format, below the database's folder, and each file
+//! of a package has its own.
 //!
-//! **Only tested**: the files of a record with a known digest, and that with ample memory each is
-//! written.
+//! **Only tested**, by the crates above: that with ample memory each path is made.
 //!
 //! ```
-//! let files = record_files(alloc, &facts, &image)?;
+//! let path = path_of_record(alloc, &id, "SLOT")?;
 //! ```
 #![tactic(auto)]
 
 mod files;
 mod laws;
-mod written;
 
-pub use files::{id_is_one, path_of_database, path_of_package, path_of_record, record_files};
+pub use files::{id_is_one, path_of_database, path_of_package, path_of_record};
 pub use laws::files_apart;

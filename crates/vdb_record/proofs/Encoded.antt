@@ -1,6 +1,6 @@
 -- A file that says something of a package is UTF-8.
 use Rattle.std.proofs.Common.{◌≡◌, ◌||◌, ◌==◌, ◌<◌, ℕ, Bool, true, false, List, [], ◌∷◌, length, map, Option, Some, None, refl, sym, subst, inl, inr, arith}
-use Rattle.std.specs.Prelude.{◌↔◌, codes, if◌then◌else◌, IsTrue}
+use Rattle.std.specs.Prelude.{if◌then◌else◌}
 use Rattle.std.specs.List.{AllByRecursion}
 use Rattle.std.specs.Str.{IsUtf8}
 use Rattle.std.proofs.lemmas.Bool.Decides.{nat_tests}
@@ -26,7 +26,11 @@ use Rattle.required_use.specs.Grammar as expressions
 use Rattle.required_use.specs.Texts.{Expressions}
 use Rattle.required_use.specs.Texts as expression_texts
 use Rattle.required_use.specs.declared.required.Item.{Item}
+use Rattle.pkg_state.specs.Eapis.{eapi_text}
+use Rattle.pkg_state.specs.declared.eapi.Eapi.{Eapi}
+use Rattle.pkg_state.specs.declared.eapi.Eapi.TheVariants.{Five, Six, Seven, Eight}
 use Rattle.vdb_law.specs.Fields.{AreFlags, AreSlots}
+use Rattle.vdb_values.specs.Values.{IsAlone, SaysNoEapi}
 use Rattle.vdb_record.proofs.Ascii.{AreSmall, is_small, small-append, small_atom, small_name, utf8_words}
 
 -- a text that isn't UTF-8 has a first bad byte, and only such a one
@@ -94,9 +98,9 @@ module _ {L : Type 0} (g : Grammar L) where
   small_tokens leaf [] is = tt
   small_tokens leaf (t ∷ ts) is = (small_token leaf t is.0, small_tokens leaf ts is.1)
 
-pub needs_utf8 : (text : List ℕ) (x : Dependencies) → Writes text x → IsUtf8 text
-needs_utf8 text x writes =
-    utf8_words text (subst (AllByRecursion AreSmall) (sym writes.1) (small_tokens dependencies.grammar small_atom (all_tokens x []) writes.0.spelled))
+pub needs_utf8 : (empty : Bool) (text : List ℕ) (x : Dependencies) → Writes empty text x → IsUtf8 text
+needs_utf8 empty text x writes =
+    utf8_words text (subst (AllByRecursion AreSmall) (sym writes.atoms.1) (small_tokens dependencies.grammar small_atom (all_tokens x.groups []) writes.atoms.0.spelled))
 
 small_item : (a : Item) → IsName kinds.Flag a.flag → AreSmall (expressions.item_text a.flag a.on)
 small_item a is = small_denied a.flag a.on is
@@ -105,12 +109,22 @@ small_item a is = small_denied a.flag a.on is
     small_denied flag true named = small_name kinds.Flag flag named
     small_denied flag false named = (refl, small_name kinds.Flag flag named)
 
-pub required_utf8 : (text : List ℕ) (x : Expressions) → expression_texts.Writes text x → IsUtf8 text
-required_utf8 text x writes =
-    utf8_words text (subst (AllByRecursion AreSmall) (sym writes.1) (small_tokens expressions.grammar small_item (all_tokens x []) writes.0.spelled))
+pub required_utf8 : (empty : Bool) (text : List ℕ) (x : Expressions) → expression_texts.Writes empty text x → IsUtf8 text
+required_utf8 empty text x writes =
+    utf8_words text (subst (AllByRecursion AreSmall) (sym writes.items.1) (small_tokens expressions.grammar small_item (all_tokens x.groups []) writes.items.0.spelled))
 
-pub eapi_utf8 : (text : List ℕ) → words_of text ≡ codes "8" ∷ [] → IsUtf8 text
-eapi_utf8 text e = utf8_words text (subst (AllByRecursion AreSmall) (sym e) ((refl, tt), tt))
+small_eapi : (e : Eapi) → AreSmall (eapi_text e)
+small_eapi Five = (refl, tt)
+small_eapi Six = (refl, tt)
+small_eapi Seven = (refl, tt)
+small_eapi Eight = (refl, tt)
 
-pub not_supported : (text : List ℕ) → ¬ IsUtf8 text → IsTrue false ↔ (words_of text ≡ codes "8" ∷ [])
-not_supported text bad = (λ t. cc, λ e. absurd (bad (eapi_utf8 text e)))
+eapi_utf8 : (text : List ℕ) (e : Eapi) → IsAlone text (eapi_text e) → IsUtf8 text
+eapi_utf8 text e alone = utf8_words text (subst (AllByRecursion AreSmall) (sym alone) (small_eapi e, tt))
+
+pub says_no_eapi : (text : List ℕ) → ¬ IsUtf8 text → SaysNoEapi text
+says_no_eapi text bad = λ e alone. bad (eapi_utf8 text e alone)
+
+-- nothing is UTF-8
+pub nothing_utf8 : IsUtf8 []
+nothing_utf8 = utf8_words [] tt

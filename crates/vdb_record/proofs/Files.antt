@@ -10,42 +10,41 @@ use Rattle.vdb_contents.specs.declared.fault.ContentsFault.TheVariants as conten
 use Rattle.vdb_contents.specs.declared.owned.Owned.{Owned}
 use Rattle.dep_atom.specs.declared.package.Facts.{Facts}
 use Rattle.dep_atom.specs.declared.package.PackageId.{PackageId}
-use Rattle.dep_group.specs.Trees.{no_trees}
 use Rattle.dep_group.specs.Words.{words_of}
 use Rattle.dep_tree.specs.Faults as trees
-use Rattle.dep_tree.specs.Texts.{Dependencies}
+use Rattle.dep_tree.specs.Texts.{Dependencies, no_dependencies}
 use Rattle.dep_tree.specs.declared.fault.TreeTextFault.{TreeTextFault}
 use Rattle.dep_tree.specs.declared.fault.TreeTextFault.TheVariants as tree_faults
 use Rattle.required_use.specs.Faults as expressions
-use Rattle.required_use.specs.Texts.{Expressions}
+use Rattle.required_use.specs.Texts.{Expressions, no_expressions}
 use Rattle.required_use.specs.Texts as expression_texts
 use Rattle.required_use.specs.declared.fault.RequiredFault.{RequiredFault}
 use Rattle.required_use.specs.declared.fault.RequiredFault.TheVariants as required_faults
 use Rattle.pms_slot.specs.Slots.{IsSlotValue}
 use Rattle.use_flags.specs.Items.{flag_of}
-use Rattle.pkg_state.specs.Package.{Package}
+use Rattle.pkg_state.proofs.Editions.{one_eapi}
+use Rattle.pkg_state.specs.Eapis.{empty_holds}
+use Rattle.pkg_state.specs.Package.{Package, tree_of}
 use Rattle.pkg_state.specs.declared.class.Class.{Class}
 use Rattle.pkg_state.specs.declared.class.Class.TheVariants.{Bdepend, Depend, Idepend, Pdepend, Rdepend}
-use Rattle.pkg_state.specs.declared.class.Eapi.{Eapi}
-use Rattle.pkg_state.specs.declared.class.Eapi.TheVariants.{Eight}
-use Rattle.vdb_law.specs.Fields.{AreFlags, AreSlots, Field, Reads, contents, eapi, flags, known, needs, required, slots}
+use Rattle.pkg_state.specs.declared.eapi.Eapi.{Eapi}
+use Rattle.vdb_law.specs.Fields.{AreFlags, AreSlots, Field, Reads, ReadsNeeds, contents, eapi, flags, known, needs, required, slots}
 use Rattle.vdb_law.specs.Packages.{Installed}
 use Rattle.vdb_values.specs.Values as values
-use Rattle.vdb_values.specs.Values.{Needs}
 use Rattle.vdb_values.specs.declared.fault.FlagFault.{FlagFault}
 use Rattle.vdb_values.specs.declared.fault.FlagFault.TheVariants as flag_faults
-use Rattle.vdb_record.specs.Faults.{AreThere, FirstFault, IsBadLine, IsFileFault, IsFirstBad, IsFirstOfFiles, IsGood, IsSupported, dep_fault, files, flag_fault, line_at, required_place, tree_place, value_start}
-use Rattle.vdb_record.specs.Texts.{ReadAll, Texts, value}
+use Rattle.vdb_record.specs.Faults.{AreThere, FirstFault, IsBadLine, IsFileFault, IsFirstBad, IsFirstOfFiles, IsGood, dep_fault, files, flag_fault, line_at, required_place, tree_place, value_start}
+use Rattle.vdb_record.specs.Texts.{IsOfEdition, ReadAll, Texts, text_for, value}
 use Rattle.vdb_record.specs.declared.fault.RecordFault.{RecordFault}
 use Rattle.vdb_record.specs.declared.fault.RecordFault.TheVariants as faults
 use Rattle.vdb_record.specs.declared.file.RecordFile.TheVariants as files_of
 
 -- a package of which nothing is said
-abbrev blank : PackageId → Dependencies → Expressions → Package
-blank id x r =
+abbrev blank : Eapi → PackageId → Dependencies → Expressions → Package
+blank e id x r =
     record {
       facts = record { id = id; slot = []; subslot = []; iuse = []; enabled = [] };
-      eapi = Eight;
+      eapi = e;
       rdepend = x;
       pdepend = x;
       depend = x;
@@ -54,39 +53,39 @@ blank id x r =
       required = r;
     }
 
-abbrev with_facts : Facts → Package
-with_facts f =
+abbrev with_facts : Eapi → Facts → Package
+with_facts e f =
     record {
       facts = f;
-      eapi = Eight;
-      rdepend = no_trees;
-      pdepend = no_trees;
-      depend = no_trees;
-      bdepend = no_trees;
-      idepend = no_trees;
-      required = no_trees;
+      eapi = e;
+      rdepend = no_dependencies true;
+      pdepend = no_dependencies true;
+      depend = no_dependencies true;
+      bdepend = no_dependencies true;
+      idepend = no_dependencies true;
+      required = no_expressions true;
     }
 
-pub good_owned : (id : PackageId) (text : List ℕ) (owned : List Owned) → TellsOwned text owned → IsGood contents text
-good_owned id text owned h = (record { package_is = blank id no_trees no_trees; owned = owned }, h)
+pub good_owned : (e : Eapi) (id : PackageId) (text : List ℕ) (owned : List Owned) → TellsOwned text owned → IsGood e contents text
+good_owned e id text owned h = (record { package_is = blank e id (no_dependencies true) (no_expressions true); owned = owned }, refl, h)
 
-pub good_slots : (id : PackageId) (text slot subslot : List ℕ) → AreSlots (words_of text) slot subslot → IsGood slots text
-good_slots id text slot subslot h =
-    (record { package_is = with_facts (record { id = id; slot = slot; subslot = subslot; iuse = []; enabled = [] }); owned = [] }, h)
+pub good_slots : (e : Eapi) (id : PackageId) (text slot subslot : List ℕ) → AreSlots (words_of text) slot subslot → IsGood e slots text
+good_slots e id text slot subslot h =
+    (record { package_is = with_facts e (record { id = id; slot = slot; subslot = subslot; iuse = []; enabled = [] }); owned = [] }, refl, h)
 
-pub good_known : (id : PackageId) (text : List ℕ) (set : List (List ℕ)) → AreFlags (map flag_of (words_of text)) set → IsGood known text
-good_known id text set h =
-    (record { package_is = with_facts (record { id = id; slot = []; subslot = []; iuse = set; enabled = [] }); owned = [] }, h)
+pub good_known : (e : Eapi) (id : PackageId) (text : List ℕ) (set : List (List ℕ)) → AreFlags (map flag_of (words_of text)) set → IsGood e known text
+good_known e id text set h =
+    (record { package_is = with_facts e (record { id = id; slot = []; subslot = []; iuse = set; enabled = [] }); owned = [] }, refl, h)
 
-pub good_required : (id : PackageId) (text : List ℕ) (x : Expressions) → expression_texts.Writes text x → IsGood required text
-good_required id text x h = (record { package_is = blank id no_trees x; owned = [] }, h)
+pub good_required : (e : Eapi) (id : PackageId) (text : List ℕ) (x : Expressions) → expression_texts.Writes (empty_holds e) text x → IsGood e required text
+good_required e id text x h = (record { package_is = blank e id (no_dependencies true) x; owned = [] }, refl, h)
 
-pub good_needs : (id : PackageId) (class : Class) (text : List ℕ) (x : Dependencies) → Needs text x → IsGood (needs class) text
-good_needs id Rdepend text x h = (record { package_is = blank id x no_trees; owned = [] }, h)
-good_needs id Pdepend text x h = (record { package_is = blank id x no_trees; owned = [] }, h)
-good_needs id Depend text x h = (record { package_is = blank id x no_trees; owned = [] }, h)
-good_needs id Bdepend text x h = (record { package_is = blank id x no_trees; owned = [] }, h)
-good_needs id Idepend text x h = (record { package_is = blank id x no_trees; owned = [] }, h)
+pub good_needs : (e : Eapi) (id : PackageId) (class : Class) (text : List ℕ) (x : Dependencies) → ReadsNeeds e class text x → IsGood e (needs class) text
+good_needs e id Rdepend text x h = (record { package_is = blank e id x (no_expressions true); owned = [] }, refl, h)
+good_needs e id Pdepend text x h = (record { package_is = blank e id x (no_expressions true); owned = [] }, refl, h)
+good_needs e id Depend text x h = (record { package_is = blank e id x (no_expressions true); owned = [] }, refl, h)
+good_needs e id Bdepend text x h = (record { package_is = blank e id x (no_expressions true); owned = [] }, refl, h)
+good_needs e id Idepend text x h = (record { package_is = blank e id x (no_expressions true); owned = [] }, refl, h)
 
 -- what each file says of a package
 pub record AreRead (t : Texts) (p : Installed) : Type 0 where
@@ -115,30 +114,39 @@ read_all t p r (needs Depend) = r.of_depend
 read_all t p r (needs Bdepend) = r.of_bdepend
 read_all t p r (needs Idepend) = r.of_idepend
 
-one_eapi : (a b : Eapi) → a ≡ b
-one_eapi Eight Eight = refl
+-- a record is of one edition
+pub one_edition : (t : Texts) (e : Eapi) (p : Installed) → IsOfEdition t e → ReadAll t p → p.package_is.eapi ≡ e
+one_edition t e p is reads =
+    one_eapi p.package_is.eapi e (ap (λ (l : List (List ℕ)). get_or l 0 []) (sym (reads eapi) ∙ is))
 
-pub same_package : (a b : Package) → a.facts ≡ b.facts → a.rdepend ≡ b.rdepend → a.pdepend ≡ b.pdepend → a.depend ≡ b.depend → a.bdepend ≡ b.bdepend → a.idepend ≡ b.idepend → a.required ≡ b.required → a ≡ b
-same_package a b facts rdepend pdepend depend bdepend idepend required' =
-    let one = one_eapi a.eapi b.eapi in
-    λ i. record { facts = facts i; eapi = one i; rdepend = rdepend i; pdepend = pdepend i; depend = depend i; bdepend = bdepend i; idepend = idepend i; required = required' i }
+pub needs_in : (t : Texts) (e : Eapi) (p : Installed) → IsOfEdition t e → ReadAll t p → (class : Class) → ReadsNeeds e class (value (t (needs class))) (tree_of class p.package_is)
+needs_in t e p is reads class =
+    subst (λ (x : Eapi). ReadsNeeds x class (value (t (needs class))) (tree_of class p.package_is)) (one_edition t e p is reads) (reads (needs class))
+
+pub required_in : (t : Texts) (e : Eapi) (p : Installed) → IsOfEdition t e → ReadAll t p → expression_texts.Writes (empty_holds e) (value (t required)) p.package_is.required
+required_in t e p is reads =
+    subst (λ (x : Eapi). expression_texts.Writes (empty_holds x) (value (t required)) p.package_is.required) (one_edition t e p is reads) (reads required)
+
+pub same_package : (a b : Package) → a.eapi ≡ b.eapi → a.facts ≡ b.facts → a.rdepend ≡ b.rdepend → a.pdepend ≡ b.pdepend → a.depend ≡ b.depend → a.bdepend ≡ b.bdepend → a.idepend ≡ b.idepend → a.required ≡ b.required → a ≡ b
+same_package a b edition facts rdepend pdepend depend bdepend idepend required' =
+    λ i. record { facts = facts i; eapi = edition i; rdepend = rdepend i; pdepend = pdepend i; depend = depend i; bdepend = bdepend i; idepend = idepend i; required = required' i }
 
 pub same_installed : (a b : Installed) → a.package_is ≡ b.package_is → a.owned ≡ b.owned → a ≡ b
 same_installed a b is owned = λ i. record { package_is = is i; owned = owned i }
 
 -- the first fault of the files is the first of all
-has_none : (t : Texts) (fault : RecordFault) (ks : List Field) → ((k : Field) → IsFileFault k (value (t k)) fault → ⊥)
-    → IsFirstBad (λ k. IsGood k (value (t k))) (λ k. IsFileFault k (value (t k)) fault) ks → ⊥
-has_none t fault [] none h = h
-has_none t fault (k ∷ ks) none (inl bad) = none k bad
-has_none t fault (k ∷ ks) none (inr later) = has_none t fault ks none later.1
+has_none : (e : Eapi) (t : Texts) (fault : RecordFault) (ks : List Field) → ((k : Field) → IsFileFault k (text_for e t k) fault → ⊥)
+    → IsFirstBad (λ k. IsGood e k (value (t k))) (λ k. IsFileFault k (text_for e t k) fault) ks → ⊥
+has_none e t fault [] none h = h
+has_none e t fault (k ∷ ks) none (inl bad) = none k bad
+has_none e t fault (k ∷ ks) none (inr later) = has_none e t fault ks none later.1
 
-pub first_fault : (t : Texts) (fault : RecordFault) → AreThere t → IsSupported t → IsFirstOfFiles t fault → FirstFault t fault
-first_fault t (faults.Missing file) there is h = absurd (has_none t (faults.Missing file) files (λ k bad. bad) h)
-first_fault t faults.Eapi there is h = absurd (has_none t faults.Eapi files (λ k bad. bad) h)
-first_fault t (faults.Text file line) there is h = (there, (is, h))
-first_fault t (faults.Dep file place) there is h = (there, (is, h))
-first_fault t faults.Memory there is h = tt
+pub first_fault : (t : Texts) (e : Eapi) (fault : RecordFault) → AreThere t → IsOfEdition t e → IsFirstOfFiles e t fault → FirstFault t fault
+first_fault t e (faults.Missing file) there is h = absurd (has_none e t (faults.Missing file) files (λ k bad. bad) h)
+first_fault t e faults.Eapi there is h = absurd (has_none e t faults.Eapi files (λ k bad. bad) h)
+first_fault t e (faults.Text file line) there is h = (there, (e, is, h))
+first_fault t e (faults.Dep file place) there is h = (there, (e, is, h))
+first_fault t e faults.Memory there is h = tt
 
 -- the faults of the values as those of their files
 pub line_of_number : (text : List ℕ) (number : ℕ) → contents_texts.FirstFault text (contents_faults.Line number) → IsBadLine contents text (min number most_lines)

@@ -1,12 +1,14 @@
--- A record whose files are there and of a supported EAPI.
-use Rattle.std.proofs.Common.{◌≡◌, ◌∙◌, true, false, Bool, Result, Ok, Err, refl, sym, inl, inr}
-use Rattle.std.specs.Prelude.{◌↔◌, IfErr, IsTrue}
+-- A record whose files are there and of an edition that is read.
+use Rattle.std.proofs.Common.{Result, Ok, Err, refl, inl, inr}
+use Rattle.std.specs.Prelude.{IfErr}
 use Rattle.basics.proofs.Tests.{none_is_not_some}
 use Rattle.dep_atom.specs.declared.package.PackageId.{PackageId}
+use Rattle.pkg_state.specs.declared.eapi.Eapi.{Eapi}
 use Rattle.vdb_law.specs.Fields.{Field, contents, eapi, slots}
 use Rattle.vdb_law.specs.Packages.{Installed}
 use Rattle.vdb_record.specs.Faults.{AreThere, FirstFault, IsFirstMissing, IsFirstOfFiles, IsSupported}
-use Rattle.vdb_record.specs.Texts.{Tell, Texts}
+use Rattle.vdb_values.specs.Values.{SaysNoEapi}
+use Rattle.vdb_record.specs.Texts.{IsOfEdition, Tell, Texts, value}
 use Rattle.vdb_record.specs.declared.fault.RecordFault.{RecordFault}
 use Rattle.vdb_record.proofs.Files.{first_fault}
 
@@ -17,9 +19,12 @@ none_missing t k id p (inr (some, inl bad)) tell = none_is_not_some (t eapi) bad
 none_missing t k id p (inr (some, inr (some', inl bad))) tell = none_is_not_some (t slots) bad.1 (tell.there slots refl)
 none_missing t k id p (inr (some, inr (some', inr (some'', none)))) tell = none
 
-pub unsupported : (t : Texts) (b : Bool) (id : PackageId) (p : Installed) → b ≡ false → (IsTrue b ↔ IsSupported t) → Tell t id p → ⊥
-unsupported t b id p e is tell = let f : false ≡ true = sym e ∙ is.1 (tell.reads eapi) in cc
+pub unsupported : (t : Texts) (id : PackageId) (p : Installed) → SaysNoEapi (value (t eapi)) → Tell t id p → ⊥
+unsupported t id p none tell = none p.package_is.eapi (tell.reads eapi)
 
-pub file_fault : {A : Type 0} (t : Texts) (r : Result A RecordFault) → AreThere t → IsSupported t → IfErr r (IsFirstOfFiles t) → IfErr r (FirstFault t)
-file_fault t (Ok p) there is h = tt
-file_fault t (Err f) there is h = first_fault t f there is h
+pub not_supported : (t : Texts) → SaysNoEapi (value (t eapi)) → ¬ IsSupported t
+not_supported t none of = none of.0 of.1
+
+pub file_fault : {A : Type 0} (t : Texts) (e : Eapi) (r : Result A RecordFault) → AreThere t → IsOfEdition t e → IfErr r (IsFirstOfFiles e t) → IfErr r (FirstFault t)
+file_fault t e (Ok p) there is h = tt
+file_fault t e (Err f) there is h = first_fault t e f there is h

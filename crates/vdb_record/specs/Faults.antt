@@ -1,10 +1,9 @@
 -- The first fault of texts that tell no package.
-use Rattle.std.specs.Prelude.{◌≡◌, ◌⊎◌, ◌-◌, ℕ, Bool, true, false, not, List, [], ◌∷◌, ⊤, Option, None, Some, codes, position, take, unwrap_or, IsSome}
+use Rattle.std.specs.Prelude.{◌≡◌, ◌⊎◌, ◌-◌, ℕ, Bool, true, false, not, List, [], ◌∷◌, ⊤, Option, None, Some, position, take, unwrap_or, IsSome}
 use Rattle.std.specs.Str.{IsUtf8}
 use Rattle.basics.specs.Blanks.{is_blank}
 use Rattle.config_text.specs.Faults.{NotUtf8At}
 use Rattle.config_text.specs.Lines.{line_behind, line_number}
-use Rattle.dep_group.specs.Words.{words_of}
 use Rattle.dep_tree.specs.Faults as trees
 use Rattle.dep_tree.specs.declared.fault.TreeTextFault.{TreeTextFault}
 use Rattle.dep_tree.specs.declared.fault.TreeTextFault.TheVariants as tree_faults
@@ -12,6 +11,7 @@ use Rattle.required_use.specs.Faults as expressions
 use Rattle.required_use.specs.declared.fault.RequiredFault.{RequiredFault}
 use Rattle.required_use.specs.declared.fault.RequiredFault.TheVariants as required_faults
 use Rattle.pkg_state.specs.declared.class.Class.TheVariants.{Bdepend, Depend, Idepend, Pdepend, Rdepend}
+use Rattle.pkg_state.specs.declared.eapi.Eapi.{Eapi as Edition}
 use Rattle.vdb_contents.specs.Contents.{IsFaultyLine, lines}
 use Rattle.vdb_law.specs.Fields.{Field, Reads, contents, eapi, flags, known, needs, required, slots}
 use Rattle.vdb_law.specs.Packages.{Installed}
@@ -20,7 +20,7 @@ use Rattle.vdb_values.specs.Values.{SaysNoSlots}
 use Rattle.vdb_values.specs.declared.fault.FlagFault.{FlagFault}
 use Rattle.vdb_values.specs.declared.fault.FlagFault.TheVariants.{Word}
 use Rattle.vdb_values.specs.declared.fault.FlagFault.TheVariants as flag_faults
-use Rattle.vdb_record.specs.Texts.{Texts, value}
+use Rattle.vdb_record.specs.Texts.{IsOfEdition, Texts, text_for, value}
 use Rattle.vdb_record.specs.Views.{field_of}
 use Rattle.vdb_record.specs.declared.fault.RecordFault.{RecordFault}
 use Rattle.vdb_record.specs.declared.fault.RecordFault.TheVariants.{Missing, Eapi, Text, Dep, Memory}
@@ -107,9 +107,9 @@ IsFileFault k text (Text file line) = (k ≡ field_of file) × IsBadLine k text 
 IsFileFault k text (Dep file at) = (k ≡ field_of file) × IsBadPlace k text at
 IsFileFault k text Memory = ⊤
 
--- the text of a file says something of some package
-abbrev pub IsGood : Field → List ℕ → Type 0
-IsGood k text = (p : Installed) × Reads k text p
+-- in a record of the edition the text of a file says something of some package
+abbrev pub IsGood : Edition → Field → List ℕ → Type 0
+IsGood e k text = (p : Installed) × (p.package_is.eapi ≡ e) × Reads k text p
 
 -- of these files the first that isn't good is bad
 abbrev pub IsFirstBad : (Field → Type 0) → (Field → Type 0) → List Field → Type 0
@@ -137,20 +137,24 @@ abbrev pub IsMissing : Texts → Option RecordFile → Type 0
 IsMissing t None = AreThere t
 IsMissing t (Some file) = IsFirstMissing t (field_of file)
 
--- EAPI says the one edition that is supported
+-- EAPI says an edition that is read
 abbrev pub IsSupported : Texts → Type 0
-IsSupported t = words_of (value (t eapi)) ≡ codes "8" ∷ []
+IsSupported t = (e : Edition) × IsOfEdition t e
 
--- of the texts of the files the first that isn't good has this fault
-abbrev pub IsFirstOfFiles : Texts → RecordFault → Type 0
-IsFirstOfFiles t fault =
-    IsFirstBad (λ k. IsGood k (value (t k))) (λ k. IsFileFault k (value (t k)) fault) files
+-- in a record of the edition the first of the texts of the files that isn't good has this fault
+abbrev pub IsFirstOfFiles : Edition → Texts → RecordFault → Type 0
+IsFirstOfFiles e t fault =
+    IsFirstBad (λ k. IsGood e k (value (t k))) (λ k. IsFileFault k (text_for e t k) fault) files
+
+-- the files that must be there are, and in the edition that EAPI says this is the first fault
+abbrev pub IsOfFiles : Texts → RecordFault → Type 0
+IsOfFiles t fault =
+    AreThere t × ((e : Edition) × IsOfEdition t e × IsFirstOfFiles e t fault)
 
 -- the first fault of the texts: a file that must be there, then EAPI, then the others
 abbrev pub FirstFault : Texts → RecordFault → Type 0
 FirstFault t (Missing file) = IsFirstMissing t (field_of file)
 FirstFault t Eapi = AreThere t × ¬ IsSupported t
-FirstFault t (Text file line) =
-    AreThere t × (IsSupported t × IsFirstOfFiles t (Text file line))
-FirstFault t (Dep file at) = AreThere t × (IsSupported t × IsFirstOfFiles t (Dep file at))
+FirstFault t (Text file line) = IsOfFiles t (Text file line)
+FirstFault t (Dep file at) = IsOfFiles t (Dep file at)
 FirstFault t Memory = ⊤

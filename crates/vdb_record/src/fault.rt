@@ -11,7 +11,7 @@ pub enum RecordFault {
     /// A file that must be there isn't.
     #[error("a file of the record is missing")]
     Missing { file: RecordFile },
-    /// The edition of the standard isn't one that is supported.
+    /// The edition of the standard isn't one that is read.
     #[error("the record is of another EAPI")]
     Eapi,
     /// The first line of a file that is none of its form, counted from 1 up to `u32::MAX`.

@@ -1,8 +1,8 @@
 ghost use Rattle.std.specs.Prelude.{◌≡◌, IfErr, IfOk, MatchResult, OnOk};
 ghost use Rattle.vdb_law.specs.Packages.{Installed as InstalledValue, id_of};
 ghost use Rattle.vdb_record.specs.Faults.{AreThere, FirstFault, IsFirstMissing, IsFirstOfFiles};
-ghost use Rattle.vdb_record.specs.Faults.{IsMissing, IsSupported};
-ghost use Rattle.vdb_record.specs.Texts.{ReadAll, Tell};
+ghost use Rattle.vdb_record.specs.Faults.{IsMissing};
+ghost use Rattle.vdb_record.specs.Texts.{IsOfEdition, ReadAll, Tell};
 ghost use Rattle.vdb_record.specs.Views.{texts_in};
 ghost use Rattle.vdb_record.specs.declared.fault.RecordFault.TheVariants.{Memory};
 
@@ -10,14 +10,14 @@ use crate::fault::RecordFault;
 use crate::file::RecordFile;
 use crate::installed::Installed;
 use crate::texts::RecordTexts;
-use crate::values::{flags_of, is_supported, known_of, needs_of, owned_of, required_of, slots_of};
+use crate::values::{edition_of, flags_of, known_of, needs_of, owned_of, required_of, slots_of};
 use dep_atom::{Facts, PackageId};
 use pkg_state::{Class, Eapi, Pkg};
 use std::alloc::Global;
 
 /// The package of this id, as the texts of its folder's files tell it. Of the faults come first
 /// those of CONTENTS, EAPI and SLOT that are missing, then that of EAPI, and then those of the other
-/// files in byte order of their names.
+/// files in byte order of their names. The file of a class that the edition lacks is ignored.
 pub fn read_record(
     alloc: Global,
     id: PackageId,
@@ -31,10 +31,10 @@ pub fn read_record(
     if let Some(file) = missing(texts) {
         return Err(RecordFault::Missing { file });
     }
-    if !is_supported(alloc, &texts.eapi)? {
-        return Err(RecordFault::Eapi);
+    match edition_of(alloc, &texts.eapi)? {
+        Some(edition) => read_files(alloc, id, edition, texts),
+        None => Err(RecordFault::Eapi),
     }
-    read_files(alloc, id, texts)
 }
 
 /// The first of the files that must be there and isn't.
@@ -53,23 +53,28 @@ fn missing(texts: &RecordTexts) -> Option<RecordFile>
     None
 }
 
-/// What the files tell, where EAPI is one that is supported.
-fn read_files(alloc: Global, id: PackageId, texts: &RecordTexts) -> Result<Installed, RecordFault>
-    requires supported { IsSupported (texts_in texts.now) }
+/// What the files tell in the edition that EAPI says.
+fn read_files(
+    alloc: Global,
+    id: PackageId,
+    edition: Eapi,
+    texts: &RecordTexts,
+) -> Result<Installed, RecordFault>
+    requires edition { IsOfEdition (texts_in texts.now) edition }
     ensures id { IfOk result (λ p. id_of p ≡ id) }
     ensures found { IfOk result (λ p. ReadAll (texts_in texts.now) p) }
     ensures only { (p : InstalledValue) → id_of p ≡ id → ReadAll (texts_in texts.now) p →
         MatchResult result (λ r. r ≡ p) (λ e. e ≡ Memory) }
-    ensures fault { IfErr result (IsFirstOfFiles (texts_in texts.now)) }
+    ensures fault { IfErr result (IsFirstOfFiles edition (texts_in texts.now)) }
 {
-    let bdepend = needs_of(alloc, Class::Bdepend, &texts.bdepend)?;
+    let bdepend = needs_of(alloc, edition, Class::Bdepend, &texts.bdepend)?;
     let owned = owned_of(alloc, &texts.contents)?;
-    let depend = needs_of(alloc, Class::Depend, &texts.depend)?;
-    let idepend = needs_of(alloc, Class::Idepend, &texts.idepend)?;
+    let depend = needs_of(alloc, edition, Class::Depend, &texts.depend)?;
+    let idepend = needs_of(alloc, edition, Class::Idepend, &texts.idepend)?;
     let iuse = known_of(alloc, &texts.iuse)?;
-    let pdepend = needs_of(alloc, Class::Pdepend, &texts.pdepend)?;
-    let rdepend = needs_of(alloc, Class::Rdepend, &texts.rdepend)?;
-    let required_use = required_of(alloc, &texts.required_use)?;
+    let pdepend = needs_of(alloc, edition, Class::Pdepend, &texts.pdepend)?;
+    let rdepend = needs_of(alloc, edition, Class::Rdepend, &texts.rdepend)?;
+    let required_use = required_of(alloc, edition, &texts.required_use)?;
     let slots = slots_of(alloc, &texts.slot)?;
     let enabled = flags_of(alloc, &texts.enabled)?;
     let facts = Facts {
@@ -81,7 +86,7 @@ fn read_files(alloc: Global, id: PackageId, texts: &RecordTexts) -> Result<Insta
     };
     let pkg = Pkg {
         facts,
-        eapi: Eapi::Eight,
+        eapi: edition,
         rdepend,
         pdepend,
         depend,

@@ -1,15 +1,16 @@
-ghost use Rattle.std.specs.Prelude.{◌≡◌, ◌↔◌, ◌∷◌, ℕ, List, [], codes, false, map, true};
+ghost use Rattle.std.specs.Prelude.{◌≡◌, ℕ, List, false, map, true};
 ghost use Rattle.std.specs.Prelude.{IfErr, IfOk};
-ghost use Rattle.std.specs.Prelude.{IsTrue, MatchResult, OnOk};
+ghost use Rattle.std.specs.Prelude.{MatchOption, MatchResult, OnOk};
 ghost use Rattle.std.specs.Str.{IsUtf8};
 ghost use Rattle.vdb_contents.specs.Contents.{TellsOwned};
 ghost use Rattle.vdb_contents.specs.declared.owned.Owned.{Owned as OwnedPath};
-ghost use Rattle.vdb_law.specs.Fields.{AreFlags, AreSlots, all_bound, contents, flags, known};
-ghost use Rattle.vdb_law.specs.Fields.{needs, required, slots};
+ghost use Rattle.pkg_state.specs.Eapis.{eapi_text, empty_holds};
+ghost use Rattle.vdb_law.specs.Fields.{AreFlags, AreSlots, ReadsNeeds, bound_of, contents, flags};
+ghost use Rattle.vdb_law.specs.Fields.{known, needs, needs_text, required, slots};
 ghost use Rattle.dep_group.specs.Words.{words_of};
 ghost use Rattle.dep_tree.specs.Texts.{Dependencies, Writes};
 ghost use Rattle.dep_tree.specs.View.{trees};
-ghost use Rattle.vdb_values.specs.Values.{Needs};
+ghost use Rattle.vdb_values.specs.Values.{IsAlone, SaysNoEapi};
 ghost use Rattle.required_use.specs.Texts.{Expressions, Writes as WritesRequired};
 ghost use Rattle.required_use.specs.View.{trees as required_trees};
 ghost use Rattle.use_flags.specs.Items.{flag_of};
@@ -17,6 +18,7 @@ ghost use Rattle.vdb_record.specs.Faults.{IsFileFault, IsNotUtf8, dep_fault, fla
 ghost use Rattle.vdb_record.specs.Faults.{required_place, tree_place};
 ghost use Rattle.vdb_record.specs.Texts.{value};
 ghost use Rattle.vdb_record.specs.declared.fault.RecordFault.TheVariants.{Memory};
+ghost use Rattle.vdb_record.specs.declared.file.RecordFile.TheVariants as files;
 
 use crate::fault::RecordFault;
 use crate::file::RecordFile;
@@ -24,14 +26,14 @@ use crate::lines::{line_at, line_from, value_start};
 use crate::texts::FileText;
 use config_text::text_of;
 use dep_tree::{DepTree, TreeTextFault};
-use pkg_state::Class;
+use pkg_state::{Class, Eapi};
 use pms_names::Flags;
 use pms_slot::SlotValue;
 use required_use::{RequiredFault, RequiredUse};
 use std::alloc::{AllocError, Global};
 use std::str::from_utf8;
 use vdb_contents::{ContentsFault, Owned, read_contents};
-use vdb_values::{FlagFault, is_eapi, read_flags, read_known, read_needs, read_slots};
+use vdb_values::{FlagFault, read_eapi, read_flags, read_known, read_needs, read_slots};
 
 /// The text of a file, or the fault at the first byte that isn't UTF-8.
 fn utf8_of(file: RecordFile, text: &FileText) -> Result<&str, RecordFault>
@@ -45,13 +47,14 @@ fn utf8_of(file: RecordFile, text: &FileText) -> Result<&str, RecordFault>
     }
 }
 
-/// Whether EAPI says the one edition that is supported.
-pub(crate) fn is_supported(alloc: Global, text: &FileText) -> Result<bool, AllocError>
-    ensures { IfOk result (λ b. IsTrue b ↔ (words_of (value text.now) ≡ codes "8" ∷ [])) }
+/// The edition that EAPI says, if it is one that is read.
+pub(crate) fn edition_of(alloc: Global, text: &FileText) -> Result<Option<Eapi>, AllocError>
+    ensures { IfOk result (λ r. MatchOption r (SaysNoEapi (value text.now))
+        (λ e. IsAlone (value text.now) (eapi_text e))) }
 {
     match from_utf8(text.value()) {
-        Ok(text) => is_eapi(alloc, text),
-        Err(_) => Ok(false),
+        Ok(text) => read_eapi(alloc, text),
+        Err(_) => Ok(None),
     }
 }
 
@@ -135,32 +138,58 @@ fn flag_fault(file: RecordFile, text: &[u8], fault: FlagFault) -> RecordFault
 }
 
 /// What REQUIRED_USE tells.
-pub(crate) fn required_of(alloc: Global, text: &FileText) -> Result<RequiredUse, RecordFault>
-    ensures found { IfOk result (λ r. WritesRequired (value text.now) (required_trees r)) }
-    ensures only { (x : Expressions) → WritesRequired (value text.now) x →
+pub(crate) fn required_of(
+    alloc: Global,
+    edition: Eapi,
+    text: &FileText,
+) -> Result<RequiredUse, RecordFault>
+    ensures found { IfOk result (λ r.
+        WritesRequired (empty_holds edition) (value text.now) (required_trees r)) }
+    ensures only { (x : Expressions) → WritesRequired (empty_holds edition) (value text.now) x →
         MatchResult result (λ r. required_trees r ≡ x) (λ e. e ≡ Memory) }
     ensures fault { IfErr result (IsFileFault required (value text.now)) }
 {
     let file = RecordFile::RequiredUse;
     let value = utf8_of(file, text)?;
-    match RequiredUse::parse(alloc, value) {
+    match RequiredUse::parse(alloc, value, edition.empty_holds()) {
         Ok(required) => Ok(required),
         Err(fault) => Err(dep_fault(file, value.as_bytes(), required_place(&fault))),
     }
 }
 
-/// What the file of a class tells.
-pub(crate) fn needs_of(alloc: Global, class: Class, text: &FileText) -> Result<DepTree, RecordFault>
-    ensures found { IfOk result (λ t. Needs (value text.now) (trees t)) }
-    ensures only { (x : Dependencies) → Writes (value text.now) x →
-        MatchResult result (λ t. trees t ≡ all_bound x) (λ e. e ≡ Memory) }
-    ensures fault { IfErr result (IsFileFault (needs class) (value text.now)) }
+/// What the file of a class tells in a record of the edition.
+pub(crate) fn needs_of(
+    alloc: Global,
+    edition: Eapi,
+    class: Class,
+    text: &FileText,
+) -> Result<DepTree, RecordFault>
+    ensures found { IfOk result (λ t. ReadsNeeds edition class (value text.now) (trees t)) }
+    ensures only { (x : Dependencies) →
+        Writes (empty_holds edition) (needs_text edition class (value text.now)) x →
+        MatchResult result (λ t. trees t ≡ bound_of x) (λ e. e ≡ Memory) }
+    ensures fault { IfErr result
+        (IsFileFault (needs class) (needs_text edition class (value text.now))) }
 {
     let file = RecordFile::Needs(class);
-    let value = utf8_of(file, text)?;
-    match read_needs(alloc, value) {
+    let value = needs_text(edition, class, text)?;
+    match read_needs(alloc, value, edition.empty_holds()) {
         Ok(tree) => Ok(tree),
         Err(fault) => Err(dep_fault(file, value.as_bytes(), tree_place(&fault))),
+    }
+}
+
+/// The text of a class, which is empty where the edition lacks the class.
+fn needs_text(edition: Eapi, class: Class, text: &FileText) -> Result<&str, RecordFault>
+    ensures text { IfOk result (λ s. s.now ≡ needs_text edition class (value text.now)) }
+    ensures utf8 { OnOk result (IsUtf8 (needs_text edition class (value text.now))) }
+    ensures fault { IfErr result
+        (IsNotUtf8 (files.Needs class) (needs_text edition class (value text.now))) }
+{
+    if edition.has_class(class) {
+        utf8_of(RecordFile::Needs(class), text)
+    } else {
+        Ok("")
     }
 }
 

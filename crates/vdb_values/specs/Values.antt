@@ -10,14 +10,16 @@ use Rattle.dep_tree.specs.Faults.{IsMemory}
 use Rattle.dep_tree.specs.Faults as trees
 use Rattle.dep_tree.specs.Texts.{Dependencies, Writes}
 use Rattle.dep_tree.specs.declared.fault.TreeTextFault.{TreeTextFault}
-use Rattle.vdb_law.specs.Fields.{AreFlags, AreSlots, all_bound}
+use Rattle.pkg_state.specs.Eapis.{eapi_text}
+use Rattle.pkg_state.specs.declared.eapi.Eapi.{Eapi}
+use Rattle.vdb_law.specs.Fields.{AreFlags, AreSlots, bound_of}
 use Rattle.vdb_values.specs.declared.fault.FlagFault.{FlagFault}
 use Rattle.vdb_values.specs.declared.fault.FlagFault.TheVariants as faults
 
 -- the text writes dependencies that are these, once each equals operator that is bound to no
--- subslot is dropped
-abbrev pub Needs : List ℕ → Dependencies → Type 0
-Needs text needs = (x : Dependencies) × Writes text x × (needs ≡ all_bound x)
+-- subslot is dropped; `empty` says whether an any-of group without members holds
+abbrev pub Needs : Bool → List ℕ → Dependencies → Type 0
+Needs empty text needs = (x : Dependencies) × Writes empty text x × (needs ≡ bound_of x)
 
 -- but for want of memory the fault is the text's first one
 abbrev pub IsFirstFault : List ℕ → TreeTextFault → Type 0
@@ -26,6 +28,10 @@ IsFirstFault text fault = ¬ IsMemory fault → trees.FirstFault text fault
 -- the text has this word and no other
 abbrev pub IsAlone : List ℕ → List ℕ → Type 0
 IsAlone text word = words_of text ≡ word ∷ []
+
+-- the text says no edition that is read
+abbrev pub SaysNoEapi : List ℕ → Type 0
+SaysNoEapi text = (e : Eapi) → ¬ IsAlone text (eapi_text e)
 
 -- the text says no slot and subslot
 abbrev pub SaysNoSlots : List ℕ → Type 0

@@ -2,7 +2,7 @@
 //!
 //! **A contract sees** a text as its words.
 //!
-//! **Proved**: a text of EAPI, and one of SLOT, is told exactly for what it is; a text of flags is
+//! **Proved**: a text of EAPI, and one of SLOT, is read exactly where it says something that is read; a text of flags is
 //! read exactly where each word is one, as just that set, and else refused at its first bad word; a
 //! text of dependencies is read as its tree without the equals operators that are bound to nothing.
 //!
@@ -21,4 +21,4 @@ mod single;
 pub use fault::FlagFault;
 pub use flags::{read_flags, read_known};
 pub use needs::read_needs;
-pub use single::{is_eapi, read_slots};
+pub use single::{read_eapi, read_slots};

@@ -1,5 +1,6 @@
 ghost use Rattle.std.specs.Prelude.{◌≡◌, IfErr, IfOk, MatchResult};
-ghost use Rattle.vdb_law.specs.Fields.{all_bound, bound_alone, tree_bound, without_equals};
+ghost use Rattle.vdb_law.specs.Fields.{all_bound, bound_alone, bound_of, tree_bound};
+ghost use Rattle.vdb_law.specs.Fields.{without_equals};
 ghost use Rattle.dep_atom.specs.Values.{atom_value};
 ghost use Rattle.dep_tree.specs.Faults.{IsMemory};
 ghost use Rattle.dep_tree.specs.Texts.{Dependencies, Writes};
@@ -11,24 +12,25 @@ use dep_tree::{DepTree, Node, TreeTextFault};
 use std::alloc::{AllocError, Global};
 
 /// The dependencies of a class, as a record has them: an equals operator that is bound to no subslot
-/// is read as absent.
-pub fn read_needs(alloc: Global, text: &str) -> Result<DepTree, TreeTextFault>
-    ensures found { IfOk result (λ t. Needs text.now (trees t)) }
-    ensures only { (x : Dependencies) → Writes text.now x →
-        MatchResult result (λ t. trees t ≡ all_bound x) IsMemory }
+/// is read as absent. Whether an any-of group without members holds is not in the text.
+pub fn read_needs(alloc: Global, text: &str, empty_holds: bool) -> Result<DepTree, TreeTextFault>
+    ensures found { IfOk result (λ t. Needs empty_holds text.now (trees t)) }
+    ensures only { (x : Dependencies) → Writes empty_holds text.now x →
+        MatchResult result (λ t. trees t ≡ bound_of x) IsMemory }
     ensures fault { IfErr result (IsFirstFault text.now) }
 {
-    match DepTree::parse(alloc, text) {
+    match DepTree::parse(alloc, text, empty_holds) {
         Ok(tree) => bound(alloc, &tree),
         Err(fault) => Err(fault),
     }
 }
 
 fn bound(alloc: Global, tree: &DepTree) -> Result<DepTree, TreeTextFault>
-    ensures { MatchResult result (λ t. trees t ≡ all_bound (trees tree.now)) IsMemory }
+    ensures { MatchResult result (λ t. trees t ≡ bound_of (trees tree.now)) IsMemory }
 {
+    let empty_holds = tree.empty_holds;
     match bound_all(alloc, &tree.nodes) {
-        Ok(nodes) => Ok(DepTree { nodes }),
+        Ok(nodes) => Ok(DepTree { nodes, empty_holds }),
         Err(_) => Err(TreeTextFault::Memory),
     }
 }

@@ -1,19 +1,22 @@
-ghost use Rattle.std.specs.Prelude.{◌≡◌, ◌↔◌, ℕ, List, codes, [], ◌∷◌, IfOk, IsTrue, MatchOption};
+ghost use Rattle.std.specs.Prelude.{◌≡◌, ℕ, List, IfOk, MatchOption};
 ghost use Rattle.vdb_law.specs.Fields.{AreSlots};
 ghost use Rattle.dep_group.specs.Words.{words_of};
-ghost use Rattle.vdb_values.specs.Values.{IsAlone, SaysNoSlots};
+ghost use Rattle.pkg_state.specs.Eapis.{eapi_text};
+ghost use Rattle.vdb_values.specs.Values.{IsAlone, SaysNoEapi, SaysNoSlots};
 
 use dep_group::words;
+use pkg_state::Eapi;
 use pms_slot::SlotValue;
 use std::alloc::{AllocError, Global};
 
-/// Whether the text of EAPI says the one edition that is supported.
-pub fn is_eapi(alloc: Global, text: &str) -> Result<bool, AllocError>
-    ensures { IfOk result (λ b. IsTrue b ↔ (words_of text.now ≡ codes "8" ∷ [])) }
+/// The edition that the text of EAPI says, if it is one that is read.
+pub fn read_eapi(alloc: Global, text: &str) -> Result<Option<Eapi>, AllocError>
+    ensures { IfOk result (λ r. MatchOption r (SaysNoEapi text.now)
+        (λ e. IsAlone text.now (eapi_text e))) }
 {
     match only_word(alloc, text)? {
-        Some(word) => Ok(word == "8"),
-        None => Ok(false),
+        Some(word) => Ok(Eapi::from_text(word)),
+        None => Ok(None),
     }
 }
 

@@ -1,9 +1,8 @@
 -- The settings that may be chosen of a candidate's flags.
 use Rattle.std.specs.Prelude.{ℕ, zero, suc, ◌+◌, Bool, ◌||◌, not, List, [], ◌∷◌, ◌++◌, bytes_eq, filter, fold, if◌then◌else◌, map}
-use Rattle.dep_group.specs.Trees.{all_hold, is_met}
 use Rattle.pms_names.specs.Flags.{has}
-use Rattle.required_use.specs.Grammar.{kind}
 use Rattle.required_use.specs.Texts.{Expressions}
+use Rattle.required_use.specs.Truth.{all_fit}
 use Rattle.visible_flags.specs.declared.base.FlagRules.{FlagRules}
 
 -- whether each flag is on
@@ -27,7 +26,7 @@ lists_below (suc n) flags = lists_below n flags ++ lists_of n flags
 
 -- REQUIRED_USE holds where just the flags of the setting are on
 abbrev pub fits : Expressions → Setting → Bool
-fits required is = all_hold kind (λ a. is_met is a.flag a.on) is required
+fits required is = all_fit is required
 
 -- for each of the lists the setting in which its flags are flipped, where REQUIRED_USE holds
 abbrev pub settings : Expressions → Setting → List (List (List ℕ)) → List Setting

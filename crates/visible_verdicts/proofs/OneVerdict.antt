@@ -13,7 +13,7 @@ use Rattle.md5_cache.specs.declared.fault.CacheFault.TheVariants as faults
 use Rattle.md5_cache.specs.declared.fault.PairFault.{PairFault}
 use Rattle.md5_cache.specs.declared.fault.PairFault.TheVariants as pair_faults
 use Rattle.md5_cache.proofs.EntryLemmas.{not_outdated}
-use Rattle.md5_cache.proofs.FieldLemmas.{all_there, no_bad, no_other}
+use Rattle.md5_cache.proofs.FieldLemmas.{all_there, no_other, none_bad}
 use Rattle.md5_cache.proofs.Keys.{no_repeated}
 use Rattle.md5_cache.proofs.Lines.{no_line_fault}
 use Rattle.visible_verdicts.specs.Verdicts.{HasEntry, HasFault, IsKeptBack, IsReason, IsRefused, IsVisible, refusal_of}
@@ -66,7 +66,7 @@ means bytes ebuild (faults.Field key) f = record {
   no_other = λ t. f.1.0;
   no_fields = λ t fields. elim f.1.1 [
     | inl e ↦ absurd (let none : None ≡ Some key = sym (all_there (pairs_of bytes) fields) ∙ e in cc none)
-    | inr b ↦ no_bad (pairs_of bytes) key fields.each b.1
+    | inr b ↦ none_bad b.1.0 (pairs_of bytes) key fields b.1.1 b.1.2
   ];
 }
 means bytes ebuild (faults.Stale recorded found) f = record {

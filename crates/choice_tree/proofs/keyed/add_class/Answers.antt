@@ -4,8 +4,7 @@ use Rattle.std.specs.List.{list_any}
 use Rattle.pms_names.specs.Flags.{has}
 use Rattle.dep_atom.specs.Values.{AtomValue, atom_value}
 use Rattle.dep_atom.specs.declared.atom.Atom.{Atom}
-use Rattle.dep_group.specs.Trees.{all_leaves}
-use Rattle.dep_tree.specs.Truth.{kind}
+use Rattle.dep_tree.specs.Truth.{counted_leaves}
 use Rattle.dep_tree.specs.View.{trees}
 use Rattle.pkg_state.specs.Consistent.{leaves_in}
 use Rattle.pkg_state.specs.Package.{Package}
@@ -20,8 +19,8 @@ returns c text =
     let those : map (λ (a : Bor Atom). atom_value a.now) c.deref.result.now ≡ leaves_in c.args.class owner =
     ap (map (λ (a : Bor Atom). atom_value a.now)) c.deref.ensures.value
     ∙ (c.in_ok-leaves.ensures
-    ∙ (ap (λ (p : Package). all_leaves kind (has p.facts.enabled) (trees c.tree.result.now)) c.owner.view_is
-    ∙ ap (all_leaves kind (has owner.facts.enabled)) c.tree.ensures)) in
+    ∙ (ap (λ (p : Package). counted_leaves p.facts.enabled (trees c.tree.result.now)) c.owner.view_is
+    ∙ ap (counted_leaves owner.facts.enabled) c.tree.ensures)) in
     c.in_ok-add_leaves.ensures text
     ∙ ap (λ (b : Bool). last_if b c.args.line (lines_at c.args.lists.now text))
     (sym (any_map named (λ (a : Bor Atom). atom_value a.now) c.deref.result.now) ∙ ap (list_any named) those)

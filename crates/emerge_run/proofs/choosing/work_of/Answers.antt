@@ -1,8 +1,5 @@
-use Rattle.std.proofs.Common.{◌≡◌, ◌∙◌, List, [], ap, map, refl, subst, sym}
-use Rattle.std.specs.Prelude.{All}
-use Rattle.run_orders.specs.Orders.{HasRisingFlags}
-use Rattle.run_orders.proofs.InForm.{plan_rises}
-use Rattle.plan_text.specs.Plans.{addition_value, group_value}
+use Rattle.std.proofs.Common.{◌≡◌, ◌∙◌, List, [], ap, map, refl, sym}
+use Rattle.plan_text.specs.Plans.{group_value}
 use Rattle.plan_text.specs.declared.plan.Group.{Group as TextGroup}
 use Rattle.emerge_run.specs.Builds.{lines_from, orders_in}
 use Rattle.emerge_run.proofs.Jobs.{jobs_are, no_groups, no_jobs}
@@ -12,10 +9,6 @@ pub returns-then-is_empty : goal.returns-then-is_empty
 returns-then-is_empty c =
     let none : c.args.chosen.plan ≡ [] = sym c.groups.ensures.groups ∙ no_groups c.groups.result.now (sym c.is_empty.ensures ∙ c.if-is_empty.true) in
     record { work = (c.if-pretend.false, refl, none, no_jobs c.args.chosen c.requires.shape none) }
-
-pub jobs_of-requires-clause-rising : goal.jobs_of-requires-clause-rising
-jobs_of-requires-clause-rising c =
-    subst (λ (ts : List TextGroup). All (λ t. All HasRisingFlags (map addition_value t.additions.items)) ts) (sym c.deref.ensures.value) (plan_rises c.args.chosen.text.groups.items c.requires.shape.form)
 
 pub returns : goal.returns
 returns c =

@@ -1,21 +1,13 @@
-use Rattle.std.proofs.Common.{◌≡◌, ◌∙◌, ◌<◌, ℕ, ap, arith, length, map, subst, sym, take}
-use Rattle.std.specs.Prelude.{All}
+use Rattle.std.proofs.Common.{◌≡◌, ◌∙◌, ◌<◌, ℕ, ap, arith, length, map, subst, take}
 use Rattle.std.proofs.lemmas.List.{length-map}
 use Rattle.run_turns.specs.Plans.{bytes_of_job}
-use Rattle.run_orders.specs.Orders.{HasRisingFlags}
-use Rattle.plan_text.specs.Plans.{addition_value, group_value}
-use Rattle.plan_text.specs.declared.plan.Group.{Group as TextGroup}
+use Rattle.plan_text.specs.Plans.{group_value}
 use Rattle.emerge_run.specs.Builds.{ordered_of_job, orders_in}
 use Rattle.emerge_run.proofs.Jobs.{all_orders, line_more, orders_more, text_at, texts_long}
 use Rattle.emerge_run.proofs.prepare.jobs_of.Goals as goal
 
 pub bounds-texts-place : goal.bounds-texts-place
 bounds-texts-place c = omega (arith, c.loop-place-test.true, texts_long c.args.texts.now c.args.plan.now c.requires.alike)
-
-pub job_of-requires : goal.job_of-requires
-job_of-requires c =
-    let within : c.loop-place.place < length c.args.texts.now = omega (arith, c.loop-place-test.true, texts_long c.args.texts.now c.args.plan.now c.requires.alike) in
-    subst (λ (t : TextGroup). All HasRisingFlags (map addition_value t.additions.items)) (sym c.index-texts-place.is) (c.requires.rising c.loop-place.place c.index-texts-place.result within)
 
 pub loop-place-preserved : goal.loop-place-preserved
 loop-place-preserved c =

@@ -10,8 +10,8 @@ use Rattle.merge_groups.proofs.order.addition_text.Goals as goal
 pub returns : goal.returns
 returns c =
     let p = c.args.pkg.now in
-    let flags : c.deref.result.now ≡ enabled_of p = c.deref.ensures.value ∙ c.in_ok-flags.ensures in
+    let flags : c.in_ok-flags.flags ≡ enabled_of p = c.in_ok-flags.ensures in
     let front : string_bytes c.push_str-2.new.self ≡ (line_begun (codes "add") p ++ (47 ∷ [])) ++ p.facts.subslot = search rules in
     c.in_ok-push_flags.ensures
-    ∙ (ap (λ l. l ++ flat_map spaced c.deref.result.now) front
+    ∙ (ap (λ l. l ++ flat_map spaced c.in_ok-flags.flags) front
     ∙ (ap (λ fs. ((line_begun (codes "add") p ++ (47 ∷ [])) ++ p.facts.subslot) ++ flat_map spaced fs) flags ∙ addition_is p))

@@ -1,8 +1,8 @@
 use Rattle.std.proofs.Common.{◌++◌, List, arith, map, subst, take}
 use Rattle.std.specs.List.{AllZip}
+use Rattle.build_pool.specs.declared.orders.Order.{Order}
 use Rattle.pkg_state.specs.Package.{Package}
-use Rattle.plan_text.specs.Plans.{addition_value, group_value}
-use Rattle.plan_text.specs.declared.plan.Addition.{Addition}
+use Rattle.plan_text.specs.Plans.{group_value}
 use Rattle.plan_text.specs.declared.plan.Group.{Group}
 use Rattle.plan_check.specs.Asks.{all_asked}
 use Rattle.plan_model.specs.Asking.{AreAsked, IsAsked, additions_of}
@@ -15,7 +15,7 @@ loop-group-preserved c =
     let before = additions_of (map group_value (take c.loop-group.group-index c.deref-group-items.result.now)) in
     let new = all_asked c.push_asked.new.asks.items in
     group_asked offered c.deref-group-items.result.now c.loop-group.group-index c.group-item.result new (omega arith) c.group-item.is
-    (subst (λ (xs : List Addition). AllZip (IsAsked offered) (before ++ map addition_value xs) new) c.deref.ensures.value (c.in_ok-push_asked.ensures before c.loop-group.invariant))
+    (subst (λ (xs : List Order). AllZip (IsAsked offered) (before ++ xs) new) c.deref.ensures.value (c.in_ok-push_asked.ensures before c.loop-group.invariant))
 
 pub returns : goal.returns
 returns c =

@@ -1,6 +1,5 @@
-use Rattle.std.proofs.Common.{◌+◌, ◌++◌, List, arith, map, subst, sym, take}
+use Rattle.std.proofs.Common.{◌+◌, ◌++◌, List, arith, subst, sym, take}
 use Rattle.std.specs.List.{AllZip}
-use Rattle.plan_text.specs.Plans.{addition_value}
 use Rattle.plan_check.specs.Asks.{all_asked}
 use Rattle.plan_check.specs.declared.asked.Asked.{Asked}
 use Rattle.plan_model.specs.Asking.{IsAsked}
@@ -13,7 +12,7 @@ loop-addition-init c before h = asked_none c.args.offers.now.offered.now c.args.
 pub loop-addition-preserved : goal.loop-addition-preserved
 loop-addition-preserved c before h =
     let i = c.loop-addition.addition-index in
-    subst (λ (ys : List Asked). AllZip (IsAsked c.args.offers.now.offered.now) (before ++ map addition_value (take (i + 1) c.args.additions.now)) (all_asked ys)) (sym {A = List Asked} c.in_ok-push.ensures.items)
+    subst (λ (ys : List Asked). AllZip (IsAsked c.args.offers.now.offered.now) (before ++ take (i + 1) c.args.additions.now) (all_asked ys)) (sym {A = List Asked} c.in_ok-push.ensures.items)
     (asked_more c.args.offers.now.offered.now c.args.additions.now i c.addition-item.result c.loop-addition.asks.items c.in_ok-asked.field-0 before (omega arith) c.addition-item.is c.in_ok-asked.ensures (c.loop-addition.invariant before h))
 
 pub returns : goal.returns

@@ -1,11 +1,10 @@
 use Rattle.std.proofs.Common.{None, Some, arith}
-use Rattle.plan_text.specs.Plans.{addition_value}
 use Rattle.plan_model.proofs.Named.{first_under, found_at, none_left}
 use Rattle.plan_model.proofs.finding.find.Goals as goal
 
 pub returns-then-is_named : goal.returns-then-is_named
 returns-then-is_named c =
-    let a = addition_value c.args.addition.now in
+    let a = c.args.addition.now in
     let offers = c.args.offers.now in
     let items = c.get-pkg-items.result.now in
     let item = c.pkg-item.result in
@@ -14,7 +13,7 @@ returns-then-is_named c =
 
 pub returns : goal.returns
 returns c =
-    let a = addition_value c.args.addition.now in
+    let a = c.args.addition.now in
     let offers = c.args.offers.now in
     let items = c.get-pkg-items.result.now in
     first_under offers.offered.now offers.named.lists a c.text.result.now items None offers.are_named c.text.ensures.text c.get-pkg-items.ensures

@@ -14,4 +14,4 @@ returns-in_default-3 c = λ a is e.
     no_addition_slots c.in-Some.word.now c.in-Some-split_at_colon.id.now c.in-Some-split_at_colon.slots.now _ c.in-Some-split_at_colon.ensures (rw c.in_default-3.is at c.in_ok-slot.ensures) a is (sym c.in-Some.ensures ∙ e)
 
 pub returns-in_default-4 : goal.returns-in_default-4
-returns-in_default-4 c = λ a is e. no_addition_flags c.in-Some.word.now _ (rw c.in_default-4.is at c.in_ok-enabled.ensures) a is (sym c.in-Some.ensures ∙ e)
+returns-in_default-4 c = λ a is e. no_addition_flags c.in-Some.word.now _ (rw c.in_default-4.is at c.in_ok-flags.ensures) a is (sym c.in-Some.ensures ∙ e)

@@ -1,7 +1,8 @@
+use Rattle.std.proofs.Common.{refl}
 use Rattle.dep_group.specs.Tokens.{tree_words}
 use Rattle.dep_group.proofs.WordLemmas.{words_of-spaced}
 use Rattle.required_use.specs.Grammar.{grammar}
 use Rattle.required_use.proofs.required.printed_text_has_the_words.Goals as goal
 
 pub returns : goal.returns
-returns c = λ x form. (form, words_of-spaced (tree_words grammar x) form.words)
+returns c = λ x form. record { items = (form, words_of-spaced (tree_words grammar x.groups) form.words); flag = refl }

@@ -10,11 +10,11 @@ use Rattle.required_use.proofs.required.RequiredUse.first_broken.Goals as goal
 
 pub returns-clause-none : goal.returns-clause-none
 returns-clause-none c =
-    position-none (is_on c.args.enabled.now) (has c.args.enabled.now) c.args.self.now.nodes.items c.first_false.result
-    (c.first_false.ensures ∙ ap (position (λ r. not (holds kind (is_on c.args.enabled.now) (has c.args.enabled.now) (view r)))) c.deref.ensures.value)
+    position-none c.args.self.now.empty_holds (is_on (has c.args.enabled.now)) (has c.args.enabled.now) c.args.self.now.nodes.items c.first_false.result
+    (c.first_false.ensures ∙ ap (position (λ r. not (holds c.args.self.now.empty_holds kind (is_on (has c.args.enabled.now)) (has c.args.enabled.now) (view r)))) c.deref.ensures.value)
 
 pub returns-clause-first : goal.returns-clause-first
 returns-clause-first c =
     c.first_false.ensures
-    ∙ ap (position (λ r. not (holds kind (is_on c.args.enabled.now) (has c.args.enabled.now) (view r)))) c.deref.ensures.value
-    ∙ position-trees (λ t. not (holds kind (is_on c.args.enabled.now) (has c.args.enabled.now) t)) c.args.self.now.nodes.items
+    ∙ ap (position (λ r. not (holds c.args.self.now.empty_holds kind (is_on (has c.args.enabled.now)) (has c.args.enabled.now) (view r)))) c.deref.ensures.value
+    ∙ position-trees (λ t. not (holds c.args.self.now.empty_holds kind (is_on (has c.args.enabled.now)) (has c.args.enabled.now) t)) c.args.self.now.nodes.items

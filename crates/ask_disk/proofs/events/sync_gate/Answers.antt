@@ -1,0 +1,10 @@
+use Rattle.std.proofs.Common.{◌∙◌, sym}
+use Rattle.std.specs.Prelude.{is_ok}
+use Rattle.merge_core.specs.Event.{SyncGate}
+use Rattle.ask_disk.proofs.Within.{three_if}
+use Rattle.ask_disk.proofs.events.sync_gate.Goals as goal
+
+pub returns : goal.returns
+returns c = record {
+  three = λ is. three_if c.args.site.now c.sync_gate.new.self (SyncGate c.args.group) (is_ok c.sync_gate.result) c.requires.three tt c.sync_gate.ensures.event (sym c.is_ok.ensures.value ∙ is);
+}

@@ -1,2 +1,0 @@
-pub mod InForm
-mod Sets

@@ -1,6 +1,0 @@
-use Rattle.std.proofs.Common.{drop}
-use Rattle.run_orders.proofs.Sets.{IsGathered}
-use Rattle.run_orders.proofs.flags.set_of.Given as goal
-
-abbrev pub invariant-loop-flag : goal.invariant-loop-flag
-invariant-loop-flag l = IsGathered l.flags (drop l.flag-index l.flags) l.set
