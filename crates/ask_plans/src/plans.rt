@@ -1,12 +1,15 @@
 //! Texts of plans: read and printed, linked to the packages that are offered, and judged.
 
+ghost use Rattle.plan_text.specs.Plans.{plan_value};
+ghost use Rattle.plan_text.specs.Texts.{IsPlan};
+
 use crate::linked::{fault_text, plan_text};
 use crate::reading::packages;
 use crate::refused::refused_text;
 use ask_lines::{cut, unescaped};
 use pkg_state::Pkg;
 use plan_lives as lives;
-use plan_model::{LinkFault, PlanFault, judge_plan, link};
+use plan_model::{LinkFault, NotAccepted, accept, link};
 use plan_text::{Plan, PlanTextFault};
 use std::alloc::{AllocError, Global};
 
@@ -52,18 +55,27 @@ pub(crate) fn link_text(alloc: Global, parts: &str) -> Option<String> {
     link_over(alloc, &offered, text.as_str())
 }
 
-fn told_fault(alloc: Global, fault: PlanFault) -> Option<String> {
+fn told_fault(alloc: Global, fault: NotAccepted) -> Option<String> {
     match fault {
-        PlanFault::Text(fault) => text_fault(alloc, fault).ok(),
-        PlanFault::Link(fault) => fault_text(alloc, fault),
-        PlanFault::Refused(refused) => refused_text(alloc, refused),
+        NotAccepted::Unlinked(fault) => fault_text(alloc, fault),
+        NotAccepted::Refused(refused) => refused_text(alloc, refused),
+        NotAccepted::Memory => None,
+    }
+}
+
+fn told_plan(alloc: Global, start: &[Pkg], offered: &[Pkg], text: &Plan) -> Option<String>
+    requires { IsPlan (plan_value text.now) }
+{
+    match accept(alloc, start, offered, text) {
+        Ok(plan) => plan_text(alloc, plan),
+        Err(fault) => told_fault(alloc, fault),
     }
 }
 
 fn judge_over(alloc: Global, start: &[Pkg], offered: &[Pkg], text: &str) -> Option<String> {
-    match judge_plan(alloc, text, offered, start) {
-        Ok(plan) => plan_text(alloc, plan),
-        Err(fault) => told_fault(alloc, fault),
+    match Plan::parse(alloc, text) {
+        Ok(text) => told_plan(alloc, start, offered, &text),
+        Err(fault) => text_fault(alloc, fault).ok(),
     }
 }
 

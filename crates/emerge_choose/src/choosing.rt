@@ -14,7 +14,6 @@ ghost use Rattle.emerge_choose.specs.declared.reason.NotTaken.{NotTaken};
 
 use crate::chosen::Chosen;
 use crate::fault::NotChosen;
-use crate::planning::accepted;
 use crate::reason::NotTaken;
 use crate::reasons::reasons_of;
 use crate::serving::first_unserved;
@@ -24,6 +23,7 @@ use choice_universe::{Candidate, make_universe};
 use dep_atom::Atom;
 use merge_groups::single_plan;
 use pkg_state::Pkg;
+use plan_model::accept;
 use resolver::{ResolveFault, resolve};
 use std::alloc::{AllocError, Global};
 
@@ -89,7 +89,7 @@ fn planned(
         Tells installed.now offered.now hidden update limit (universe_of universe.now) e) }
 {
     let text = single_plan(alloc, universe, choice)?;
-    let plan = accepted(alloc, installed, offered, &text)?;
+    let plan = accept(alloc, installed, offered, &text)?;
     Ok(Chosen { text, plan })
 }
 

@@ -1,7 +1,7 @@
 use crate::reason::NotTaken;
 use choice_tree::Choice;
 use dep_atom::Atom;
-use plan_model::LinkFault;
+use plan_model::{LinkFault, NotAccepted};
 use plan_rules::PlanRefused;
 use std::alloc::AllocError;
 use thiserror::Error;
@@ -35,5 +35,20 @@ impl From<AllocError> for NotChosen {
 
     fn from(_e: AllocError) -> NotChosen {
         NotChosen::Memory
+    }
+}
+
+impl From<NotAccepted> for NotChosen {
+    ghost use Rattle.std.specs.Prelude.{◌≡◌};
+    ghost use Rattle.emerge_choose.specs.Answers.{not_chosen};
+
+    ghost from_gives = { λ fault e. e ≡ not_chosen fault };
+
+    fn from(fault: NotAccepted) -> NotChosen {
+        match fault {
+            NotAccepted::Unlinked(fault) => NotChosen::Unlinked(fault),
+            NotAccepted::Refused(refused) => NotChosen::Refused(refused),
+            NotAccepted::Memory => NotChosen::Memory,
+        }
     }
 }

@@ -31,7 +31,6 @@
 mod choosing;
 mod chosen;
 mod fault;
-mod planning;
 mod reason;
 mod reasons;
 mod serving;
@@ -40,7 +39,6 @@ mod wish;
 pub use choosing::choose_plan;
 pub use chosen::Chosen;
 pub use fault::NotChosen;
-pub use planning::told_of;
 pub use reason::{NotTaken, Reason};
 pub use reasons::reasons_of;
 pub use wish::Wish;

@@ -15,7 +15,7 @@ use Rattle.emerge_choose.specs.declared.chosen.Chosen.{Chosen}
 use Rattle.emerge_find.specs.Choices.{Choices, IsAimed, flips_of, installed_of, offered_of}
 use Rattle.emerge_find.specs.Laws.{CanBeKept, FoundPlansAreFit}
 use Rattle.emerge_find.specs.declared.asked.Aim.{Aim}
-use Rattle.emerge_find.specs.declared.asked.Aim.TheVariants.{Atoms, File}
+use Rattle.emerge_find.specs.declared.asked.Aim.TheVariants.{Atoms, File, Unmerge}
 use Rattle.emerge_find.proofs.Formed.{offered_formed}
 use Rattle.emerge_find.proofs.Recorded.{recorded_again}
 use Rattle.emerge_find.proofs.Shaped.{in_order}
@@ -34,6 +34,11 @@ right m k (Atoms wanted update limit flips) chosen is = record {
 }
 right m k (File path) chosen is = record {
   form = is.text.form;
+  linked = is.good.stands.linked;
+  accepted = is.good.accepted;
+}
+right m k (Unmerge atoms) chosen is = record {
+  form = is.is.form;
   linked = is.good.stands.linked;
   accepted = is.good.accepted;
 }

@@ -1,29 +1,24 @@
--- What is told of a plan that isn't linked, or that the check refuses.
-use Rattle.std.proofs.Common.{◌≡◌, ◌≢◌, ◌⊎◌, ℕ, List, Some, inl, inr, refl, subst, sym}
-use Rattle.std.specs.Prelude.{IfSome, IsSome}
+-- What is told of the plan of a file that isn't accepted, and of one in which packages go.
+use Rattle.std.proofs.Common.{◌≡◌, ◌≢◌, ℕ, List, [], ◌∷◌, Some, inl, inr, map, subst, sym}
+use Rattle.dep_atom.specs.Values.{AtomValue}
 use Rattle.dep_atom.specs.declared.package.PackageId.{PackageId}
 use Rattle.pkg_state.specs.Package.{Package}
-use Rattle.plan_law.specs.Plans.{Group}
 use Rattle.plan_text.specs.Plans.{GroupValue}
-use Rattle.plan_check.specs.Asks.{AskedValue}
-use Rattle.plan_check.specs.PackageRules.{plan_rule}
-use Rattle.plan_rules.specs.Refusals.{told}
-use Rattle.plan_rules.specs.declared.refusal.PlanRefused.{PlanRefused}
+use Rattle.plan_text.specs.declared.plan.Removal.{Removal}
+use Rattle.plan_model.specs.Accepting.{Breaks}
 use Rattle.plan_model.specs.Faults.{link_rule}
 use Rattle.plan_model.specs.declared.fault.LinkFault.{LinkFault}
 use Rattle.plan_model.specs.declared.fault.LinkFault.TheVariants as links
-use Rattle.emerge_choose.specs.Plans.{StandsFor}
-use Rattle.emerge_choose.specs.declared.fault.NotChosen.TheVariants as choosing
+use Rattle.plan_model.specs.declared.fault.NotAccepted.{NotAccepted}
+use Rattle.plan_model.specs.declared.fault.NotAccepted.TheVariants as accepting
+use Rattle.merge_groups.specs.Order.{removal_of}
+use Rattle.merge_groups.specs.Single.{groups_of}
 use Rattle.emerge_choose.specs.declared.reason.NotTaken.{NotTaken}
-use Rattle.emerge_choose.proofs.Told.{refused_breaks}
 use Rattle.emerge_find.specs.Filing.{IsOfLink, IsUnfiled, IsUnoffered}
+use Rattle.emerge_find.specs.Unmerges.{BarsUnmerge, IsOfNoAddition, IsToldOf, IsUnmergeOf}
 use Rattle.emerge_find.specs.declared.unfiled.Unfiled.{Unfiled}
 use Rattle.emerge_find.specs.declared.unfiled.Unfiled.TheVariants.{BadFlag, Memory, NoCandidate, Refused}
-
-module _ (installed offered : List Package) (hidden : List NotTaken) (groups : List GroupValue) (plan : List Group) (asks : List AskedValue) (stands : StandsFor offered groups plan asks) (refused : PlanRefused) where
-  pub refused_tells : (result : Unfiled) → (result ≡ Memory) ⊎ ((result ≡ Refused refused) × IsSome (told refused)) → IfSome (told refused) (λ refusal. plan_rule plan installed asks (Some refusal)) → IsUnfiled installed offered hidden groups result
-  refused_tells result (inl e) rule = subst (λ (r : Unfiled). IsUnfiled installed offered hidden groups r) (sym e) tt
-  refused_tells result (inr is) rule = subst (λ (r : Unfiled). IsUnfiled installed offered hidden groups r) (sym is.0) (refused_breaks installed offered groups plan asks stands refused (choosing.Refused refused) (inr (refl, is.1)) rule)
+use Rattle.emerge_find.specs.declared.unmerge.NotUnmerged.{NotUnmerged}
 
 -- what the first fault of the additions says of a file
 module _ (installed offered : List Package) (hidden : List NotTaken) (groups : List GroupValue) where
@@ -37,3 +32,20 @@ module _ (installed offered : List Package) (hidden : List NotTaken) (groups : L
   of_link (links.NoCandidate group id) e is rule = lacks group id e is (rule (λ same. cc same))
   of_link (links.BadFlag group id flag) e is rule = subst (IsUnfiled installed offered hidden groups) (sym is) (group, id, flag, rule (λ same. cc same))
   of_link links.Memory e is rule = subst (IsUnfiled installed offered hidden groups) (sym is) tt
+
+-- where nothing comes, no addition is at fault
+none_comes : (offered : List Package) (rs : List Removal) (f : LinkFault) → link_rule offered (groups_of rs []) (Some f) → ⊥
+none_comes offered [] f rule = rule
+none_comes offered (r ∷ rs) f (inl first) = first
+none_comes offered (r ∷ rs) f (inr later) = later.1
+
+module _ (installed offered : List Package) (atoms : List AtomValue) (groups : List GroupValue) (is : IsUnmergeOf installed atoms groups) where
+  pub no_addition : (f : NotAccepted) → Breaks installed offered groups f → IsOfNoAddition f
+  no_addition (accepting.Unlinked fault) breaks = none_comes offered (map removal_of is.unmerge.going) fault (subst (λ (gs : List GroupValue). link_rule offered gs (Some fault)) is.unmerge.is breaks)
+  no_addition (accepting.Refused fault) breaks = tt
+  no_addition accepting.Memory breaks = tt
+
+  pub bars : (f : NotAccepted) (e : NotUnmerged) → Breaks installed offered groups f → IsToldOf f e → BarsUnmerge installed offered atoms e
+  bars (accepting.Unlinked fault) e breaks told = absurd told
+  bars (accepting.Refused fault) e breaks told = subst (BarsUnmerge installed offered atoms) (sym told) (groups, is, breaks)
+  bars accepting.Memory e breaks told = subst (BarsUnmerge installed offered atoms) (sym told) tt

@@ -1,7 +1,7 @@
 -- What a run has to choose from, and the plan that is found over it.
 use Rattle.std.specs.Prelude.{◌≡◌, ℕ, Bool, List, Vec, map}
 use Rattle.std.specs.Global.{Global}
-use Rattle.dep_atom.specs.Values.{atom_value}
+use Rattle.dep_atom.specs.Values.{AtomValue, atom_value}
 use Rattle.dep_atom.specs.declared.atom.Atom.{Atom}
 use Rattle.file_tree.specs.Disk.{Map}
 use Rattle.pms_names.specs.Flags.{IsRising}
@@ -22,7 +22,7 @@ use Rattle.choice_universe.specs.Offers.{variants_of}
 use Rattle.choice_universe.specs.declared.candidate.Candidate.{Candidate as Tried}
 use Rattle.plan_text.specs.Plans.{plan_value}
 use Rattle.emerge_choose.specs.Answers.{IsChosenPlan, Tells}
-use Rattle.emerge_choose.specs.Plans.{IsGood}
+use Rattle.plan_model.specs.Accepting.{IsGood}
 use Rattle.emerge_choose.specs.Wishes.{Over, WishValue}
 use Rattle.emerge_choose.specs.declared.chosen.Chosen.{Chosen}
 use Rattle.emerge_choose.specs.declared.fault.NotChosen.{NotChosen}
@@ -30,8 +30,9 @@ use Rattle.emerge_choose.specs.declared.reason.NotTaken.{NotTaken}
 use Rattle.emerge_choose.specs.declared.reason.Reason.{Reason}
 use Rattle.emerge_choose.specs.declared.reason.Reason.TheVariants.{BadEntry, Eapi, Keyword, Masked, NoEbuild, RequiredUse, Stale}
 use Rattle.emerge_find.specs.Files.{HoldsPlan}
+use Rattle.emerge_find.specs.Unmerges.{IsUnmerged}
 use Rattle.emerge_find.specs.declared.asked.Aim.{Aim}
-use Rattle.emerge_find.specs.declared.asked.Aim.TheVariants.{Atoms, File}
+use Rattle.emerge_find.specs.declared.asked.Aim.TheVariants.{Atoms, File, Unmerge}
 use Rattle.emerge_find.specs.declared.asked.Asked.{Asked}
 use Rattle.emerge_find.specs.declared.found.Found.{Found}
 
@@ -111,16 +112,22 @@ pub record IsFiled (m : Map) (k : Choices) (path : List ℕ) (chosen : Chosen) :
   pub text : HoldsPlan m path (plan_value chosen.text)
   pub good : IsGood (installed_of k) (offered_of k) (plan_value chosen.text) chosen.plan
 
+-- the plan takes away what the atoms match of the installed packages
+abbrev pub IsUnmergedOf : Choices → List AtomValue → Chosen → Type 0
+IsUnmergedOf k atoms chosen = IsUnmerged (installed_of k) (offered_of k) atoms chosen
+
 -- the plan is the one that is aimed at
 abbrev pub IsAimed : Map → Choices → Aim → Chosen → Type 0
 IsAimed m k (Atoms wanted update limit flips) chosen =
     IsChosenOf k (wish_of wanted update limit) chosen
 IsAimed m k (File path) chosen = IsFiled m k path chosen
+IsAimed m k (Unmerge atoms) chosen = IsUnmergedOf k (map atom_value atoms.items) chosen
 
--- so many flags of a candidate are flipped at most; for the plan of a file none is
+-- so many flags of a candidate are flipped at most; where no atoms are to be served none is
 abbrev pub flips_of : Aim → ℕ
 flips_of (Atoms wanted update limit flips) = flips
 flips_of (File path) = 0
+flips_of (Unmerge atoms) = 0
 
 -- the candidates are those of the map's offers; the packages are installed in it, within the
 -- limits, go together with the flags on, and no other list tells them

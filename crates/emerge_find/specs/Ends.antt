@@ -13,6 +13,8 @@ use Rattle.emerge_find.specs.declared.ends.NoPlan.{NoPlan}
 use Rattle.emerge_find.specs.declared.ends.NoPlan.TheVariants.{BacktrackLimit, Limit, NoCandidate, NoSolution, NotPlanned, Offers, Opening, Refused, Text, Tree}
 use Rattle.emerge_find.specs.declared.unfiled.Unfiled.{Unfiled}
 use Rattle.emerge_find.specs.declared.unfiled.Unfiled.TheVariants as filing
+use Rattle.emerge_find.specs.declared.unmerge.NotUnmerged.{NotUnmerged}
+use Rattle.emerge_find.specs.declared.unmerge.NotUnmerged.TheVariants as going
 use Rattle.emerge_find.specs.declared.unmade.Unmade.{Unmade}
 use Rattle.emerge_find.specs.declared.unmade.Unmade.TheVariants as making
 
@@ -50,7 +52,14 @@ end_of_file filing.BadFlag path packages = Text path 0
 end_of_file (filing.Refused fault) path packages = Refused fault packages
 end_of_file filing.Memory path packages = Tree trees.Memory
 
+-- why nothing goes, over these packages
+abbrev pub end_of_unmerge : NotUnmerged → Vec Installed Global → NoPlan
+end_of_unmerge (going.NoCandidate atom reasons) packages = NoCandidate atom reasons packages
+end_of_unmerge (going.Refused fault) packages = Refused fault packages
+end_of_unmerge going.Memory packages = Tree trees.Memory
+
 -- why no plan is made of a source, over these packages
 abbrev pub end_of : Unmade → Vec Installed Global → NoPlan
 end_of (making.Wished fault) packages = end_with fault packages
 end_of (making.Filed path fault) packages = end_of_file fault path packages
+end_of (making.Unmerged fault) packages = end_of_unmerge fault packages

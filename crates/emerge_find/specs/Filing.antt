@@ -6,7 +6,7 @@ use Rattle.pkg_state.specs.Package.{Package}
 use Rattle.plan_model.specs.declared.fault.LinkFault.{LinkFault}
 use Rattle.plan_model.specs.declared.fault.LinkFault.TheVariants as links
 use Rattle.plan_text.specs.Plans.{GroupValue}
-use Rattle.emerge_choose.specs.Answers.{IsRefused}
+use Rattle.plan_model.specs.Accepting.{IsRefused}
 use Rattle.emerge_choose.specs.Reasons.{AreReasons}
 use Rattle.emerge_choose.specs.declared.reason.NotTaken.{NotTaken}
 use Rattle.emerge_find.specs.Lacking.{HasBadFlag, LacksAddition, exact_atom}

@@ -1,5 +1,5 @@
 -- Why there is no plan over what there is to choose from.
-use Rattle.std.specs.Prelude.{◌≡◌, ℕ, false, List, [], Some, ⊤}
+use Rattle.std.specs.Prelude.{◌≡◌, ℕ, false, List, [], Some, ⊤, map}
 use Rattle.dep_atom.specs.Values.{AtomValue, atom_value}
 use Rattle.dep_atom.specs.declared.atom.Atom.{Atom}
 use Rattle.dep_atom.specs.declared.atom.Block.TheVariants as blocks
@@ -13,7 +13,7 @@ use Rattle.vdb_law.specs.Packages.{Installed}
 use Rattle.plan_text.specs.Plans.{GroupValue}
 use Rattle.plan_model.specs.Faults.{link_rule}
 use Rattle.plan_model.specs.declared.fault.LinkFault.TheVariants as links
-use Rattle.emerge_choose.specs.Answers.{IsRefused}
+use Rattle.plan_model.specs.Accepting.{IsRefused}
 use Rattle.emerge_choose.specs.Reasons.{AreReasons}
 use Rattle.emerge_choose.specs.Wishes.{WishValue}
 use Rattle.emerge_choose.specs.declared.fault.NotChosen.{NotChosen}
@@ -21,9 +21,11 @@ use Rattle.emerge_choose.specs.declared.fault.NotChosen.TheVariants as choosing
 use Rattle.emerge_choose.specs.declared.reason.NotTaken.{NotTaken}
 use Rattle.emerge_find.specs.Choices.{Choices, IsUnchosen, hidden_of, installed_of, offered_of, wish_of}
 use Rattle.emerge_find.specs.Files.{HoldsPlan}
+use Rattle.emerge_find.specs.Unmerges.{BarsUnmerge}
 use Rattle.emerge_find.specs.declared.asked.Aim.{Aim}
-use Rattle.emerge_find.specs.declared.asked.Aim.TheVariants.{Atoms, File}
+use Rattle.emerge_find.specs.declared.asked.Aim.TheVariants.{Atoms, File, Unmerge}
 use Rattle.emerge_find.specs.declared.ends.NoPlan.{NoPlan}
+use Rattle.emerge_find.specs.declared.unmerge.NotUnmerged.TheVariants as going
 use Rattle.emerge_find.specs.declared.ends.NoPlan.TheVariants.{BacktrackLimit, NoCandidate, NoSolution, NotPlanned, Refused, Text, Tree}
 
 -- the fault is one of a plan: what is chosen isn't offered, or the plan isn't accepted
@@ -85,11 +87,22 @@ GroupsLack k path groups (Refused fault packages) =
 GroupsLack k path groups (Tree trees.Memory) = ⊤
 GroupsLack k path groups e = ⊥
 
+-- nothing that the atoms match goes, for this reason: the first atom that matches nothing
+-- installed, with no candidates, or else the first rule of the check that the plan breaks
+abbrev pub UnmergeLacks : Choices → List AtomValue → NoPlan → Type 0
+UnmergeLacks k atoms (NoCandidate atom reasons packages) =
+    BarsUnmerge (installed_of k) (offered_of k) atoms (going.NoCandidate atom reasons)
+UnmergeLacks k atoms (Refused fault packages) =
+    BarsUnmerge (installed_of k) (offered_of k) atoms (going.Refused fault)
+UnmergeLacks k atoms (Tree trees.Memory) = ⊤
+UnmergeLacks k atoms e = ⊥
+
 -- what is aimed at has no plan, for this reason
 abbrev pub Lacks : Map → Choices → Aim → NoPlan → Type 0
 Lacks m k (Atoms wanted update limit flips) e = WishLacks k (wish_of wanted update limit) e
 Lacks m k (File path) e =
     (groups : List GroupValue) × HoldsPlan m path groups × GroupsLack k path groups e
+Lacks m k (Unmerge atoms) e = UnmergeLacks k (map atom_value atoms.items) e
 
 -- the packages that are given back are these
 abbrev pub GivesBack : List Installed → NoPlan → Type 0

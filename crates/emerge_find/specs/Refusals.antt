@@ -15,7 +15,7 @@ use Rattle.emerge_find.specs.Choices.{AreChoices, Choices, flips_of}
 use Rattle.emerge_find.specs.Files.{FailsAt, HoldsPlan, IsTooLong}
 use Rattle.emerge_find.specs.Lacking.{Lacks}
 use Rattle.emerge_find.specs.declared.asked.Aim.{Aim}
-use Rattle.emerge_find.specs.declared.asked.Aim.TheVariants.{Atoms, File}
+use Rattle.emerge_find.specs.declared.asked.Aim.TheVariants.{Atoms, File, Unmerge}
 use Rattle.emerge_find.specs.declared.asked.Asked.{Asked}
 use Rattle.emerge_find.specs.declared.ends.NoPlan.{NoPlan}
 use Rattle.emerge_find.specs.declared.ends.NoPlan.TheVariants.{BacktrackLimit, Limit, NoCandidate, NoSolution, NotPlanned, Offers, Opening, Refused, Text, Tree}
@@ -32,16 +32,19 @@ abbrev pub HasBadFile : Map → Aim → List ℕ → ℕ → Type 0
 HasBadFile m (Atoms wanted update limit flips) path line = ⊥
 HasBadFile m (File file) path line =
     HasOffers m 0 × (path ≡ file) × FailsAt (text_of (m file)) line
+HasBadFile m (Unmerge atoms) path line = ⊥
 
 -- the map has offers, and the file that is aimed at has a group too many
 abbrev pub HasLongFile : Map → Aim → Type 0
 HasLongFile m (Atoms wanted update limit flips) = ⊥
 HasLongFile m (File file) = HasOffers m 0 × IsTooLong (text_of (m file))
+HasLongFile m (Unmerge atoms) = ⊥
 
 -- a file that is aimed at has a plan
 abbrev pub CanAim : Map → Aim → Type 0
 CanAim m (Atoms wanted update limit flips) = ⊤
 CanAim m (File path) = (groups : List GroupValue) × HoldsPlan m path groups
+CanAim m (Unmerge atoms) = ⊤
 
 -- the map has offers and what is aimed at, and for this reason no run begins with its installed
 -- packages; if they go together, there is too much of them, or the machine failed

@@ -3,19 +3,20 @@ use Rattle.std.specs.Prelude.{◌≡◌, Bool, false}
 use Rattle.emerge_words.specs.declared.request.Command.{Command}
 use Rattle.emerge_words.specs.declared.request.Command.TheVariants.{Load, Merge, PlanFile, Unmerge}
 use Rattle.emerge_words.specs.declared.request.Request.{Request}
-use Rattle.emerge_find.specs.declared.asked.Aim.TheVariants.{Atoms, File}
+use Rattle.emerge_find.specs.declared.asked.Aim.TheVariants as aims
 use Rattle.emerge_find.specs.declared.asked.Asked.{Asked}
 
 -- the command merges what its atoms match, without the world and without a repair, or does the plan
--- of a file, and asks this
+-- of a file, or unmerges what its atoms match, and asks this
 abbrev pub IsOfMerge : Command → Bool → Asked → Type 0
 IsOfMerge (Merge atoms world update repair backtrack flips) pretend asked =
     (world ≡ false) × (repair ≡ false) × (asked ≡ record {
-      aim = Atoms atoms update backtrack flips;
+      aim = aims.Atoms atoms update backtrack flips;
       pretend = pretend;
     })
-IsOfMerge (PlanFile path) pretend asked = asked ≡ record { aim = File path; pretend = pretend }
-IsOfMerge (Unmerge atoms) pretend asked = ⊥
+IsOfMerge (PlanFile path) pretend asked = asked ≡ record { aim = aims.File path; pretend = pretend }
+IsOfMerge (Unmerge atoms) pretend asked =
+    asked ≡ record { aim = aims.Unmerge atoms; pretend = pretend }
 IsOfMerge (Load n) pretend asked = ⊥
 
 -- the request is such a command, and asks this

@@ -25,6 +25,10 @@ pub enum Aim {
     File {
         path: Path,
     },
+    /// It takes away what is installed and matched by one of these.
+    Unmerge {
+        atoms: Vec<Atom>,
+    },
 }
 
 /// What a command asks of a run that merges.
@@ -36,7 +40,7 @@ pub struct Asked {
 }
 
 /// What the request asks, if it merges what its atoms match, without the world and without a
-/// repair, or does the plan of a file.
+/// repair, or does the plan of a file, or unmerges what its atoms match.
 pub fn asked_of(request: Request) -> Option<Asked>
     ensures { MatchOption result ((a : AskedValue) → ¬ IsAsked request a) (IsAsked request) }
 {
@@ -72,16 +76,20 @@ fn asked_by(command: Command, pretend: bool) -> Option<Asked>
             aim: Aim::File { path },
             pretend,
         }),
-        _ => None,
+        Command::Unmerge { atoms } => Some(Asked {
+            aim: Aim::Unmerge { atoms },
+            pretend,
+        }),
+        Command::Load { .. } => None,
     }
 }
 
-/// So many flags of a candidate are flipped at most; for the plan of a file none is.
+/// So many flags of a candidate are flipped at most; where no atoms are to be served none is.
 pub(crate) fn flips_of(aim: &Aim) -> u32
     ensures { result ≡ flips_of aim.now }
 {
     match aim {
         Aim::Atoms { flips, .. } => *flips,
-        Aim::File { .. } => 0,
+        Aim::File { .. } | Aim::Unmerge { .. } => 0,
     }
 }

@@ -5,7 +5,7 @@ ghost use Rattle.pkg_state.specs.Consistent.{AreApart, AreConsistent};
 ghost use Rattle.plan_text.specs.Plans.{plan_value};
 ghost use Rattle.plan_text.specs.Texts.{IsPlan};
 ghost use Rattle.emerge_choose.specs.Answers.{IsChosenPlan, Tells};
-ghost use Rattle.emerge_choose.specs.Plans.{IsGood};
+ghost use Rattle.plan_model.specs.Accepting.{IsGood};
 ghost use Rattle.emerge_choose.specs.Wishes.{Over, wish_value};
 ghost use Rattle.emerge_choose.specs.declared.fault.NotChosen.TheVariants.{Memory};
 ghost use Rattle.choice_universe.specs.Offers.{variants_of};
@@ -13,6 +13,8 @@ ghost use Rattle.emerge_find.specs.Choices.{IsChosenOf, IsUnchosen, bare_of, cho
 ghost use Rattle.emerge_find.specs.Choices.{tried_of};
 ghost use Rattle.emerge_find.specs.Filing.{IsUnfiled};
 ghost use Rattle.emerge_find.specs.Shapes.{IsInShape};
+ghost use Rattle.dep_atom.specs.Values.{atom_value};
+ghost use Rattle.emerge_find.specs.Unmerges.{BarsUnmerge, IsUnmerged};
 ghost use Rattle.emerge_find.specs.Sources.{Ends, IsFormed, IsMade, IsMadeOf, IsUnmade};
 
 use crate::ends::{NoPlan, end_of};
@@ -22,6 +24,8 @@ use crate::offered::{Parted, all_lit, not_taken, parts_of};
 use crate::source::Source;
 use crate::unfiled::Unfiled;
 use crate::unmade::Unmade;
+use crate::unmerge::{NotUnmerged, unmerged};
+use dep_atom::Atom;
 use emerge_choose::{Chosen, NotChosen, NotTaken, Wish, choose_plan};
 use pkg_state::Pkg;
 use plan_text::Plan;
@@ -104,6 +108,12 @@ fn made_over(
                 Err(fault) => Err(Unmade::Filed { path, fault }),
             }
         }
+        Source::Unmerged(atoms) => {
+            match unmerged_over(alloc, packages, implicit, candidates, &atoms) {
+                Ok(chosen) => Ok(chosen),
+                Err(fault) => Err(Unmade::Unmerged(fault)),
+            }
+        }
     }
 }
 
@@ -170,4 +180,23 @@ fn chosen_among(
 {
     let Parted { offered, tried } = parts_of(alloc, candidates)?;
     choose_plan(alloc, installed, &offered, hidden, tried, wish)
+}
+
+/// What the atoms match goes of these packages, with the implicit flags on.
+fn unmerged_over(
+    alloc: Global,
+    packages: &[Installed],
+    implicit: &Flags,
+    candidates: Vec<Candidate>,
+    atoms: &[Atom],
+) -> Result<Chosen, NotUnmerged>
+    requires { AreConsistent (packages_of implicit.now packages.now) }
+    ensures chosen { IfOk result (IsUnmerged (packages_of implicit.now packages.now)
+        (map bare_of candidates.items) (map atom_value atoms.now)) }
+    ensures fault { IfErr result (BarsUnmerge (packages_of implicit.now packages.now)
+        (map bare_of candidates.items) (map atom_value atoms.now)) }
+{
+    let installed = all_lit(alloc, packages, implicit)?;
+    let Parted { offered, .. } = parts_of(alloc, candidates)?;
+    unmerged(alloc, &installed, &offered, atoms)
 }

@@ -1,8 +1,10 @@
 ghost use Rattle.std.specs.Prelude.{◌≡◌};
-ghost use Rattle.emerge_find.specs.Ends.{end_of, end_of_file, end_with, unplanned};
+ghost use Rattle.emerge_find.specs.Ends.{end_of, end_of_file, end_of_unmerge, end_with};
+ghost use Rattle.emerge_find.specs.Ends.{unplanned};
 
 use crate::unfiled::Unfiled;
 use crate::unmade::Unmade;
+use crate::unmerge::NotUnmerged;
 use choice_tree::Choice;
 use dep_atom::Atom;
 use emerge_choose::{NotChosen, NotTaken};
@@ -33,7 +35,8 @@ pub enum NoPlan {
     #[error("a plan's file has too many groups")]
     Limit,
     /// The first wanted atom that matches nothing, or that of the first addition of the plan's file
-    /// that isn't offered, and the candidates of its name.
+    /// that isn't offered, and the candidates of its name; or the first atom that matches nothing
+    /// that is installed, and no candidates.
     #[error("an atom matches nothing that may be installed")]
     NoCandidate {
         atom: Atom,
@@ -55,7 +58,7 @@ pub enum NoPlan {
     NotPlanned {
         packages: Vec<Installed>,
     },
-    /// The plan of the file breaks a rule of the check.
+    /// The plan of the file, or of what is to go, breaks a rule of the check.
     #[error("the plan is not accepted")]
     Refused {
         fault: PlanRefused,
@@ -105,6 +108,7 @@ pub(crate) fn end_of(fault: Unmade, packages: Vec<Installed>) -> NoPlan
     match fault {
         Unmade::Wished(fault) => end_with(fault, packages),
         Unmade::Filed { path, fault } => end_of_file(fault, path, packages),
+        Unmade::Unmerged(fault) => end_of_unmerge(fault, packages),
     }
 }
 
@@ -150,5 +154,20 @@ fn end_of_file(fault: Unfiled, path: Path, packages: Vec<Installed>) -> NoPlan
         Unfiled::BadFlag => NoPlan::Text { path, line: 0 },
         Unfiled::Refused(fault) => NoPlan::Refused { fault, packages },
         Unfiled::Memory => NoPlan::Tree(TreeFault::Memory),
+    }
+}
+
+/// The same where nothing goes.
+fn end_of_unmerge(fault: NotUnmerged, packages: Vec<Installed>) -> NoPlan
+    ensures { result ≡ end_of_unmerge fault packages }
+{
+    match fault {
+        NotUnmerged::NoCandidate { atom, reasons } => NoPlan::NoCandidate {
+            atom,
+            reasons,
+            packages,
+        },
+        NotUnmerged::Refused(fault) => NoPlan::Refused { fault, packages },
+        NotUnmerged::Memory => NoPlan::Tree(TreeFault::Memory),
     }
 }

@@ -1,23 +1,18 @@
-ghost use Rattle.std.specs.Prelude.{◌≡◌, ◌⊎◌, IfErr, IfOk, IsSome, List};
+ghost use Rattle.std.specs.Prelude.{◌≡◌, IfErr, IfOk, List};
 ghost use Rattle.dep_atom.specs.Values.{atom_value};
 ghost use Rattle.pkg_state.specs.Package.{Package};
-ghost use Rattle.plan_rules.specs.Refusals.{told};
-ghost use Rattle.plan_model.specs.Linked.{IsLinked};
-ghost use Rattle.plan_text.specs.Plans.{plan_value};
+ghost use Rattle.plan_text.specs.Plans.{GroupValue, plan_value};
 ghost use Rattle.plan_text.specs.Texts.{IsPlan};
-ghost use Rattle.emerge_choose.specs.Plans.{IsGood};
+ghost use Rattle.plan_model.specs.Accepting.{Breaks, IsGood};
 ghost use Rattle.emerge_find.specs.Filing.{IsOfLink, IsUnfiled, IsUnoffered};
 ghost use Rattle.emerge_find.specs.Lacking.{exact_atom};
-ghost use Rattle.emerge_find.specs.declared.unfiled.Unfiled.TheVariants.{Memory, Refused};
 
 use crate::unfiled::Unfiled;
 use dep_atom::{Atom, Block, Op, PackageId, SlotPart};
-use emerge_choose::{NotTaken, reasons_of, told_of};
+use emerge_choose::{NotTaken, reasons_of};
 use pkg_state::Pkg;
-use plan_check as check;
 use plan_lives as lives;
-use plan_model::{LinkFault, asks_of, link};
-use plan_rules::PlanRefused;
+use plan_model::{LinkFault, NotAccepted, accept};
 use plan_text::Plan;
 use std::alloc::{AllocError, Global};
 
@@ -68,30 +63,21 @@ fn of_link(
     }
 }
 
-/// The plan that the text stands for, over the packages that are offered.
-fn linked(
+/// What it is called that the plan of a file isn't accepted.
+fn of_unaccepted(
     alloc: Global,
-    text: &Plan,
+    fault: NotAccepted,
     offered: &[Pkg],
     hidden: &[NotTaken],
-) -> Result<lives::Plan, Unfiled>
-    requires { IsPlan (plan_value text.now) }
-    ensures linked { IfOk result (λ plan. IsLinked offered.now (plan_value text.now) plan) }
-    ensures fault { IfErr result (λ e. (installed : List Package) →
-        IsUnfiled installed offered.now hidden.now (plan_value text.now) e) }
+) -> Result<Unfiled, AllocError>
+    ensures { IfOk result (λ e. (installed : List Package) (groups : List GroupValue) →
+        Breaks installed offered.now groups fault →
+        IsUnfiled installed offered.now hidden.now groups e) }
 {
-    match link(alloc, text, offered) {
-        Ok(plan) => Ok(plan),
-        Err(fault) => Err(of_link(alloc, fault, offered, hidden)?),
-    }
-}
-
-fn of_refused(refused: PlanRefused) -> Unfiled
-    ensures { (result ≡ Memory) ⊎ ((result ≡ Refused refused) × IsSome (told refused)) }
-{
-    match told_of(refused) {
-        Some(refused) => Unfiled::Refused(refused),
-        None => Unfiled::Memory,
+    match fault {
+        NotAccepted::Unlinked(fault) => of_link(alloc, fault, offered, hidden),
+        NotAccepted::Refused(refused) => Ok(Unfiled::Refused(refused)),
+        NotAccepted::Memory => Ok(Unfiled::Memory),
     }
 }
 
@@ -108,10 +94,8 @@ pub(crate) fn judged(
     ensures fault { IfErr result
         (IsUnfiled installed.now offered.now hidden.now (plan_value text.now)) }
 {
-    let plan = linked(alloc, text, offered, hidden)?;
-    let asks = asks_of(alloc, text, offered)?;
-    match check::check(alloc, installed, &plan, &asks) {
-        Ok(()) => Ok(plan),
-        Err(refused) => Err(of_refused(refused)),
+    match accept(alloc, installed, offered, text) {
+        Ok(plan) => Ok(plan),
+        Err(fault) => Err(of_unaccepted(alloc, fault, offered, hidden)?),
     }
 }

@@ -4,19 +4,21 @@
 //! The configuration, the profile and the repository's cache of the tree give the offers, its
 //! database the installed packages; of both the plan is chosen, linked and checked. Or the plan
 //! stands in a file of the tree, and is linked to the same offers and checked over the same
-//! packages.
+//! packages; or it takes away the installed packages that atoms match, and is checked so too.
 //!
 //! **A contract sees** the tree as its story, and what there is to choose from as a record
 //! ([`Found`] and `Choices` of `specs/Choices.antt`).
 //!
 //! **Proved**: [`asked_of`] takes just the requests that merge what their atoms match, without the
-//! world and without a repair, and those that do the plan of a file. [`find_plan`] answers with the
-//! installed packages, who owns what among them, and the plan that is chosen of the tree's offers
-//! over them, or that the file has (`IsFound` of `specs/Choices.antt`). Any other answer but a
+//! world and without a repair, those that do the plan of a file, and those that unmerge what their
+//! atoms match. [`find_plan`] answers with the installed packages, who owns what among them, and the
+//! plan that is chosen of the tree's offers over them, or that the file has, or in which just what
+//! the atoms match goes (`IsFound` of `specs/Choices.antt`). Any other answer but a
 //! failure and want of memory tells why there is none (`Refuses` of `specs/Refusals.antt`), in this
 //! order: the first fault of the configuration, too many candidates, the first fault of the text of
 //! the file (`specs/Files.antt`), that no run can begin with the installed packages, and then that
-//! nothing is chosen of what is offered, or what the file's plan has wrong (`specs/Lacking.antt`).
+//! nothing is chosen of what is offered, or what the file's plan has wrong, or which atom matches
+//! nothing that is installed, or why that may not go (`specs/Lacking.antt`).
 //! The tree is only read. A law says that the plan is accepted over the installed packages, and
 //! that what comes with it can be recorded (`specs/Laws.antt`).
 //!
@@ -40,6 +42,7 @@ mod offered;
 mod source;
 mod unfiled;
 mod unmade;
+mod unmerge;
 
 pub use asked::{Aim, Asked, asked_of};
 pub use ends::NoPlan;

@@ -11,6 +11,7 @@ ghost use Rattle.emerge_find.specs.declared.asked.Aim.TheVariants.{File};
 
 use crate::asked::Aim;
 use crate::ends::NoPlan;
+use dep_atom::Atom;
 use emerge_choose::Wish;
 use file_tree::{Kind, Object, Path, Tree, TreeFault};
 use plan_text::{Plan, PlanTextFault};
@@ -23,6 +24,8 @@ pub(crate) enum Source {
     Wished(Wish),
     /// The plan that stands in a file.
     Filed { path: Path, text: Plan },
+    /// What these match is to go.
+    Unmerged(Vec<Atom>),
 }
 
 /// What is aimed at: of a file the plan that stands in it.
@@ -47,6 +50,7 @@ pub(crate) fn source_of<T: Tree>(alloc: Global, tree: &mut T, aim: Aim) -> Resul
             limit,
         })),
         Aim::File { path } => read_plan(alloc, tree, path),
+        Aim::Unmerge { atoms } => Ok(Source::Unmerged(atoms)),
     }
 }
 

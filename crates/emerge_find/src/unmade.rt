@@ -1,4 +1,5 @@
 use crate::unfiled::Unfiled;
+use crate::unmerge::NotUnmerged;
 use emerge_choose::NotChosen;
 use file_tree::Path;
 
@@ -9,4 +10,6 @@ pub(crate) enum Unmade {
     Wished(NotChosen),
     /// The plan that stands in the file at the path may not be merged.
     Filed { path: Path, fault: Unfiled },
+    /// Nothing is to go.
+    Unmerged(NotUnmerged),
 }

@@ -4,3 +4,4 @@ pub mod Order
 pub mod Lined
 pub mod Binds
 pub mod Single
+pub mod Unmerge

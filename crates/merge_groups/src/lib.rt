@@ -1,4 +1,4 @@
-//! All changes of a choice, as a plan of one group.
+//! All changes of a choice, or packages that go, as a plan of one group.
 //!
 //! What is installed on a line goes, unless it is kept, and a variant that is chosen comes; a line
 //! that isn't decided stays as it is. An addition has those of its own flags that are on, and a bind
@@ -8,9 +8,11 @@
 //! **A contract sees** a universe and a choice as `choice_tree` has them, and a plan's text as the
 //! list of its groups, as `plan_text` has it.
 //!
-//! **Proved**: [`merge_groups`] takes away and brings just what the choice changes, each once, in the
+//! **Proved**: [`single_plan`] takes away and brings just what the choice changes, each once, in the
 //! order that the text of a plan has (`IsSingle` of `specs/Single.antt`), in one group, or in none
 //! where nothing changes; so the plan is in form. The binds are those of `specs/Binds.antt`.
+//! [`unmerge_plan`] takes away just the packages that it is given (`IsUnmerge` of
+//! `specs/Unmerge.antt`), in the same way.
 //!
 //! **Only tested**: that with ample memory it answers.
 //!
@@ -31,5 +33,7 @@ mod named;
 mod order;
 mod part;
 mod single;
+mod unmerge;
 
 pub use single::single_plan;
+pub use unmerge::unmerge_plan;

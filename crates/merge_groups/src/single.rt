@@ -31,7 +31,7 @@ fn removal_of(pkg: &Pkg) -> Result<Removal, AllocError>
     Ok(Removal { id, slot })
 }
 
-fn removals_of(alloc: Global, lined: &[Lined<'_>]) -> Result<Vec<Removal>, AllocError>
+pub(crate) fn removals_of(alloc: Global, lined: &[Lined<'_>]) -> Result<Vec<Removal>, AllocError>
     ensures are { IfOk result (λ v. v.items ≡
         map removal_of (map (λ l. l.pkg.now) lined.now)) }
     ensures form { IfOk result (λ v. AllByRecursion IsRemoval v.items) }
@@ -82,7 +82,7 @@ fn additions_of(
 }
 
 /// The one group of these changes, or none where there are none.
-fn groups_of(
+pub(crate) fn groups_of(
     alloc: Global,
     removals: Vec<Removal>,
     additions: Vec<Order>,

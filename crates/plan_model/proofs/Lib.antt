@@ -1,6 +1,7 @@
 pub mod Enter
 pub mod Coming
 pub mod Pairs
+pub mod Refusing
 pub mod Ruling
 pub mod Forming
 pub mod Named

@@ -51,8 +51,3 @@ all_known g a p passed flag there = true_from_ne_false (has p.facts.iuse flag) (
 pub says_found : {T : Type 0} (offered : List Package) (g : ℕ) (a : Order) (p : Package) (r : Result T LinkFault) → IsFirst a offered (Some p) → Says (each a.enabled (flag_rule g a p)) r → Says (addition_rule offered g a) r
 says_found offered g a p (Ok x) first says = (Some p, first, says)
 says_found offered g a p (Err e) first says = λ other. (Some p, first, says other)
-
--- what is told of a refusal
-pub told_so : {A : Type 0} (o : Option A) (P Q : A → Type 0) → ((x : A) → P x → Q x) → IfSome o P → IfSome o Q
-told_so None P Q more h = tt
-told_so (Some x) P Q more h = more x h

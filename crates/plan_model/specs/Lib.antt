@@ -3,5 +3,5 @@ pub mod Offers
 pub mod Faults
 pub mod Linked
 pub mod Asking
-pub mod Judged
+pub mod Accepting
 pub mod Laws

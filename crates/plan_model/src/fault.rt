@@ -1,6 +1,5 @@
 use dep_atom::PackageId;
 use plan_rules::PlanRefused;
-use plan_text::PlanTextFault;
 use pms_names::Flag;
 use std::alloc::{AllocError, AllocFailed};
 use thiserror::Error;
@@ -23,15 +22,16 @@ pub enum LinkFault {
     Memory,
 }
 
-/// Why a text is no plan that is accepted.
+/// Why the text of a plan isn't accepted.
 #[derive(Debug, Drop, Error)]
-pub enum PlanFault {
-    #[error("it is not the text of a plan")]
-    Text(PlanTextFault),
+pub enum NotAccepted {
+    /// An addition isn't offered as it is written.
     #[error("the plan is none over the packages that are offered")]
-    Link(LinkFault),
-    #[error("the plan is not accepted")]
+    Unlinked(LinkFault),
+    #[error("the plan breaks a rule of the check")]
     Refused(PlanRefused),
+    #[error("out of memory")]
+    Memory,
 }
 
 impl From<AllocError> for LinkFault {
@@ -53,5 +53,16 @@ impl<T: Drop> From<AllocFailed<T>> for LinkFault {
 
     fn from(_e: AllocFailed<T>) -> LinkFault {
         LinkFault::Memory
+    }
+}
+
+impl From<AllocError> for NotAccepted {
+    ghost use Rattle.std.specs.Prelude.{◌≡◌};
+    ghost use Rattle.plan_model.specs.declared.fault.NotAccepted.TheVariants.{Memory};
+
+    ghost from_gives = { λ _ e. e ≡ Memory };
+
+    fn from(_e: AllocError) -> NotAccepted {
+        NotAccepted::Memory
     }
 }

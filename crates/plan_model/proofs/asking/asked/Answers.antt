@@ -6,5 +6,5 @@ returns c = record {
   found = option_map (λ p. p.now) c.find-found.result;
   first = c.find-found.ensures;
   leaves = c.in_ok-leaves.ensures;
-  binds = c.deref.ensures.value;
+  binds = c.list.ensures;
 }

@@ -20,8 +20,8 @@ loop-newcomer-preserved c =
     let f = c.in_ok-bring.field-0 in
     let files = c.loop-newcomer.all.items in
     let old = holdings_of c.args.held.now in
-    let long : c.into_iter-newcomer-iterator.result.rest.len ≡ length all = cc in
-    let known = YieldsList-from_vec all c.into_iter-newcomer-iterator.ensures.into_iter_gives.0 long in
+    let gives = c.into_iter-newcomer-iterator.ensures.into_iter_gives in
+    let known = YieldsList-from_vec all gives.0 (gives.1 ∙ c.args.newcomers.ok.0) in
     let y = YieldsList-turn known done _ c.loop-newcomer.yielded_by c.next.result c.next.new.self n c.in-Some.is c.next.ensures.steps in (
       (λ ps coming are.
           subst (λ (l : List Files). AllZip (AreFilesFor ps coming) (done ++ n ∷ []) l) (sym c.in_ok-push.ensures.items)
