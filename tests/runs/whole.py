@@ -72,12 +72,12 @@ def words_and_what_they_come_to():
         ("--backtrack 1 c/p", DONE),
         ("--pretend c/p", "0 plan 1\ngroup 1\nadd c/p-1:0/0\nemerge: ok 0\n"),
         ("--plan p", "3 emerge: BadText: p 0\n"),
-        ("--unmerge c/p", not_built),
+        ("--unmerge c/p", "7 emerge: NoCandidate: c/p\n"),
         ("--load 2", not_built),
         ("--repair", not_built),
         ("--repair c/p", not_built),
-        ("@world", not_built),
-        ("@world c/p", not_built),
+        ("@world", "3 emerge: BadText: var/lib/portage/world 0\n"),
+        ("@world c/p", "3 emerge: BadText: var/lib/portage/world 0\n"),
     )
     came = told_each([case(words, sample_tree(), ONE) for words, _ in table])
     for (words, wanted), it in zip(table, came):

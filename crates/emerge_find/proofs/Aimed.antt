@@ -1,5 +1,5 @@
 -- What is made of a source, or why nothing is, for what is aimed at.
-use Rattle.std.proofs.Common.{◌≡◌, ℕ, List, Result, Ok, Err, inl, inr, map, refl, subst, sym}
+use Rattle.std.proofs.Common.{◌≡◌, ℕ, Bool, true, false, List, Result, Ok, Err, inl, inr, map, refl, subst, sym}
 use Rattle.std.specs.Prelude.{IfErr, IsErrAnd, Vec}
 use Rattle.std.specs.Global.{Global}
 use Rattle.dep_atom.specs.Values.{AtomValue, atom_value}
@@ -10,11 +10,12 @@ use Rattle.vdb_law.specs.Packages.{Installed}
 use Rattle.plan_text.specs.Plans.{GroupValue, plan_value}
 use Rattle.plan_text.specs.declared.plan.Plan.{Plan}
 use Rattle.plan_model.specs.Accepting.{IsGood}
-use Rattle.emerge_choose.specs.Wishes.{WishValue}
+use Rattle.emerge_choose.specs.Wishes.{WishValue, wish_value}
 use Rattle.emerge_choose.specs.declared.chosen.Chosen.{Chosen}
-use Rattle.emerge_find.specs.Choices.{AreChoices, Choices, IsAimed, IsChosenOf, IsFound, IsUnmergedOf, flips_of, installed_of, offered_of}
+use Rattle.emerge_find.specs.Choices.{AreChoices, Choices, IsAimed, IsFound, IsUnmergedOf, flips_of, installed_of, offered_of}
 use Rattle.emerge_find.specs.Ends.{IsDeviceFailure}
 use Rattle.emerge_find.specs.Files.{HoldsPlan}
+use Rattle.emerge_find.specs.Worlds.{MissesWanted, MissesWorld}
 use Rattle.emerge_find.specs.Lacking.{GroupsLack, Lacks, UnmergeLacks, WishLacks}
 use Rattle.emerge_find.specs.Refusals.{CanAim, HasBadFile, HasLongFile, HasNoPlan, HasOffers, IsRead, Refuses}
 use Rattle.emerge_find.specs.Sources.{Ends, HasNoSource, IsMade, IsMadeOf, IsSource, MissesFile, SourceLacks}
@@ -28,7 +29,9 @@ use Rattle.emerge_find.specs.declared.source.Source.{Source}
 use Rattle.emerge_find.specs.declared.source.Source.TheVariants.{Filed, Unmerged, Wished}
 
 pub can_aim : (m : Map) (aim : Aim) (s : Source) → IsSource m aim s → CanAim m aim
-can_aim m (Atoms wanted update limit flips) s is = tt
+can_aim m (Atoms wanted world update limit flips) (Wished wish) is = (wish_value wish, is)
+can_aim m (Atoms wanted world update limit flips) (Filed path text) is = absurd is
+can_aim m (Atoms wanted world update limit flips) (Unmerged named) is = absurd is
 can_aim m (File file) (Wished wish) is = absurd is
 can_aim m (File file) (Filed path text) is = (plan_value text, is.1)
 can_aim m (File file) (Unmerged named) is = absurd is
@@ -37,9 +40,9 @@ can_aim m (Unmerge atoms) s is = tt
 -- ---- what is found
 
 aimed_at : (m : Map) (k : Choices) (aim : Aim) (s : Source) (chosen : Chosen) → IsSource m aim s → IsMadeOf k s chosen → IsAimed m k aim chosen
-aimed_at m k (Atoms wanted update limit flips) (Wished wish) chosen is made = subst (λ (w : WishValue). IsChosenOf k w chosen) is made
-aimed_at m k (Atoms wanted update limit flips) (Filed path text) chosen is made = absurd is
-aimed_at m k (Atoms wanted update limit flips) (Unmerged named) chosen is made = absurd is
+aimed_at m k (Atoms wanted world update limit flips) (Wished wish) chosen is made = (wish_value wish, is, made)
+aimed_at m k (Atoms wanted world update limit flips) (Filed path text) chosen is made = absurd is
+aimed_at m k (Atoms wanted world update limit flips) (Unmerged named) chosen is made = absurd is
 aimed_at m k (File file) (Wished wish) chosen is made = absurd is
 aimed_at m k (File file) (Unmerged named) chosen is made = absurd is
 aimed_at m k (Unmerge atoms) (Wished wish) chosen is made = absurd is
@@ -66,9 +69,9 @@ module _ (m : Map) (asked : Asked) (k : Choices) (are : AreChoices m (flips_of a
 -- ---- why nothing is
 
 lacks_of : (m : Map) (k : Choices) (aim : Aim) (s : Source) (e : NoPlan) → IsSource m aim s → SourceLacks k s e → Lacks m k aim e
-lacks_of m k (Atoms wanted update limit flips) (Wished wish) e is lacks = subst (λ (w : WishValue). WishLacks k w e) is lacks
-lacks_of m k (Atoms wanted update limit flips) (Filed path text) e is lacks = absurd is
-lacks_of m k (Atoms wanted update limit flips) (Unmerged named) e is lacks = absurd is
+lacks_of m k (Atoms wanted world update limit flips) (Wished wish) e is lacks = (wish_value wish, is, lacks)
+lacks_of m k (Atoms wanted world update limit flips) (Filed path text) e is lacks = absurd is
+lacks_of m k (Atoms wanted world update limit flips) (Unmerged named) e is lacks = absurd is
 lacks_of m k (File file) (Wished wish) e is lacks = absurd is
 lacks_of m k (File file) (Unmerged named) e is lacks = absurd is
 lacks_of m k (Unmerge atoms) (Wished wish) e is lacks = absurd is
@@ -113,27 +116,32 @@ no_failure k s (Err e) of fails = fails_not k s e of.0 fails
 
 -- ---- why there is no source
 
+-- the world file is missed where it counts alone
+not_wanted : (m : Map) (world : Bool) (e : NoPlan) → (MissesWorld m e → ⊥) → MissesWanted m world e → ⊥
+not_wanted m false e never none = none
+not_wanted m true e never none = never none
+
 source_bad : (m : Map) (aim : Aim) (path : List ℕ) (line : ℕ) → HasOffers m (flips_of aim) → HasNoSource m aim (ends.Text path line) → HasBadFile m aim path line
-source_bad m (Atoms wanted update limit flips) path line has none = none
+source_bad m (Atoms wanted world update limit flips) path line has none = (has, none)
 source_bad m (File file) path line has none = (has, none.0, none.1)
 source_bad m (Unmerge atoms) path line has none = none
 
 source_long : (m : Map) (aim : Aim) → HasOffers m (flips_of aim) → HasNoSource m aim ends.Limit → HasLongFile m aim
-source_long m (Atoms wanted update limit flips) has none = none
+source_long m (Atoms wanted world update limit flips) has none = absurd (not_wanted m world ends.Limit (λ n. n) none)
 source_long m (File file) has none = (has, none)
 source_long m (Unmerge atoms) has none = none
 
-no_fault : (m : Map) (aim : Aim) (e : NoPlan) → ((file : List ℕ) → MissesFile m file e → ⊥) → HasNoSource m aim e → ⊥
-no_fault m (Atoms wanted update limit flips) e never none = none
-no_fault m (File file) e never none = never file none
-no_fault m (Unmerge atoms) e never none = none
+no_fault : (m : Map) (aim : Aim) (e : NoPlan) → (MissesWorld m e → ⊥) → ((file : List ℕ) → MissesFile m file e → ⊥) → HasNoSource m aim e → ⊥
+no_fault m (Atoms wanted world update limit flips) e unmissed never none = not_wanted m world e unmissed none
+no_fault m (File file) e unmissed never none = never file none
+no_fault m (Unmerge atoms) e unmissed never none = none
 
 pub of_source : (m : Map) (asked : Asked) → HasOffers m (flips_of asked.aim) → (e : NoPlan) → HasNoSource m asked.aim e → Refuses m asked e
 of_source m asked has (ends.Text path line) none = inl (source_bad m asked.aim path line has none)
 of_source m asked has ends.Limit none = source_long m asked.aim has none
 of_source m asked has (ends.Tree fault) none = tt
-of_source m asked has e none = absurd (no_fault m asked.aim e (λ file n. n) none)
+of_source m asked has e none = absurd (no_fault m asked.aim e (λ n. n) (λ file n. n) none)
 
 pub read_of_source : (m n : Map) (aim : Aim) (e : NoPlan) → HasNoSource n aim e → IsRead m e
-read_of_source m n aim (ends.Offers fault) none = absurd (no_fault n aim (ends.Offers fault) (λ file n. n) none)
+read_of_source m n aim (ends.Offers fault) none = absurd (no_fault n aim (ends.Offers fault) (λ n. n) (λ file n. n) none)
 read_of_source m n aim e none = tt

@@ -27,10 +27,10 @@ record IsRight (k : Choices) (chosen : Chosen) : Type 0 where
   accepted : IsAccepted chosen.plan (installed_of k)
 
 right : (m : Map) (k : Choices) (aim : Aim) (chosen : Chosen) → IsAimed m k aim chosen → IsRight k chosen
-right m k (Atoms wanted update limit flips) chosen is = record {
-  form = is.holds.of_universe.form;
-  linked = is.holds.good.stands.linked;
-  accepted = is.holds.good.accepted;
+right m k (Atoms wanted world update limit flips) chosen is = record {
+  form = is.2.holds.of_universe.form;
+  linked = is.2.holds.good.stands.linked;
+  accepted = is.2.holds.good.accepted;
 }
 right m k (File path) chosen is = record {
   form = is.text.form;

@@ -31,6 +31,7 @@ use Rattle.emerge_choose.specs.declared.reason.Reason.{Reason}
 use Rattle.emerge_choose.specs.declared.reason.Reason.TheVariants.{BadEntry, Eapi, Keyword, Masked, NoEbuild, RequiredUse, Stale}
 use Rattle.emerge_find.specs.Files.{HoldsPlan}
 use Rattle.emerge_find.specs.Unmerges.{IsUnmerged}
+use Rattle.emerge_find.specs.Worlds.{IsWish}
 use Rattle.emerge_find.specs.declared.asked.Aim.{Aim}
 use Rattle.emerge_find.specs.declared.asked.Aim.TheVariants.{Atoms, File, Unmerge}
 use Rattle.emerge_find.specs.declared.asked.Asked.{Asked}
@@ -87,10 +88,6 @@ offered_of k = map bare_of k.candidates
 abbrev pub hidden_of : Choices → List NotTaken
 hidden_of k = map not_taken k.hidden
 
-abbrev pub wish_of : Vec Atom Global → Bool → ℕ → WishValue
-wish_of wanted update limit =
-    record { wanted = map atom_value wanted.items; update = update; limit = limit }
-
 -- something holds of the universe of a wish
 abbrev pub OfUniverse : Choices → WishValue → (Universe → Type 0) → Type 0
 OfUniverse k wish Holds =
@@ -118,14 +115,14 @@ IsUnmergedOf k atoms chosen = IsUnmerged (installed_of k) (offered_of k) atoms c
 
 -- the plan is the one that is aimed at
 abbrev pub IsAimed : Map → Choices → Aim → Chosen → Type 0
-IsAimed m k (Atoms wanted update limit flips) chosen =
-    IsChosenOf k (wish_of wanted update limit) chosen
+IsAimed m k (Atoms wanted world update limit flips) chosen =
+    (wish : WishValue) × IsWish m wanted world update limit wish × IsChosenOf k wish chosen
 IsAimed m k (File path) chosen = IsFiled m k path chosen
 IsAimed m k (Unmerge atoms) chosen = IsUnmergedOf k (map atom_value atoms.items) chosen
 
 -- so many flags of a candidate are flipped at most; where no atoms are to be served none is
 abbrev pub flips_of : Aim → ℕ
-flips_of (Atoms wanted update limit flips) = flips
+flips_of (Atoms wanted world update limit flips) = flips
 flips_of (File path) = 0
 flips_of (Unmerge atoms) = 0
 

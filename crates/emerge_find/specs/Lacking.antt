@@ -19,9 +19,10 @@ use Rattle.emerge_choose.specs.Wishes.{WishValue}
 use Rattle.emerge_choose.specs.declared.fault.NotChosen.{NotChosen}
 use Rattle.emerge_choose.specs.declared.fault.NotChosen.TheVariants as choosing
 use Rattle.emerge_choose.specs.declared.reason.NotTaken.{NotTaken}
-use Rattle.emerge_find.specs.Choices.{Choices, IsUnchosen, hidden_of, installed_of, offered_of, wish_of}
+use Rattle.emerge_find.specs.Choices.{Choices, IsUnchosen, hidden_of, installed_of, offered_of}
 use Rattle.emerge_find.specs.Files.{HoldsPlan}
 use Rattle.emerge_find.specs.Unmerges.{BarsUnmerge}
+use Rattle.emerge_find.specs.Worlds.{IsWish}
 use Rattle.emerge_find.specs.declared.asked.Aim.{Aim}
 use Rattle.emerge_find.specs.declared.asked.Aim.TheVariants.{Atoms, File, Unmerge}
 use Rattle.emerge_find.specs.declared.ends.NoPlan.{NoPlan}
@@ -99,7 +100,8 @@ UnmergeLacks k atoms e = ⊥
 
 -- what is aimed at has no plan, for this reason
 abbrev pub Lacks : Map → Choices → Aim → NoPlan → Type 0
-Lacks m k (Atoms wanted update limit flips) e = WishLacks k (wish_of wanted update limit) e
+Lacks m k (Atoms wanted world update limit flips) e =
+    (wish : WishValue) × IsWish m wanted world update limit wish × WishLacks k wish e
 Lacks m k (File path) e =
     (groups : List GroupValue) × HoldsPlan m path groups × GroupsLack k path groups e
 Lacks m k (Unmerge atoms) e = UnmergeLacks k (map atom_value atoms.items) e

@@ -1,6 +1,7 @@
 pub mod Requests
 pub mod Ends
 pub mod Files
+pub mod Worlds
 pub mod Unmerges
 pub mod Choices
 pub mod Lacking

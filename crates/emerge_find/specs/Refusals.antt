@@ -11,9 +11,11 @@ use Rattle.visible_set.specs.declared.offers.Hidden.{Hidden}
 use Rattle.run_opening.specs.Faults as opens
 use Rattle.run_opening.specs.declared.fault.OpeningFault.{OpeningFault}
 use Rattle.plan_text.specs.Plans.{GroupValue}
+use Rattle.emerge_choose.specs.Wishes.{WishValue}
 use Rattle.emerge_find.specs.Choices.{AreChoices, Choices, flips_of}
 use Rattle.emerge_find.specs.Files.{FailsAt, HoldsPlan, IsTooLong}
 use Rattle.emerge_find.specs.Lacking.{Lacks}
+use Rattle.emerge_find.specs.Worlds.{IsWish, MissesWanted}
 use Rattle.emerge_find.specs.declared.asked.Aim.{Aim}
 use Rattle.emerge_find.specs.declared.asked.Aim.TheVariants.{Atoms, File, Unmerge}
 use Rattle.emerge_find.specs.declared.asked.Asked.{Asked}
@@ -27,22 +29,25 @@ pub record HasOffers (m : Map) (flips : ℕ) : Type 0 where
   pub hidden : List Hidden
   pub are : AreOffers m flips implicit candidates hidden
 
--- the map has offers, and the file that is aimed at is bad at the line; a missing one has line 0
+-- the map has offers, and the file that is aimed at is bad at the line, or the world file where it
+-- counts; a missing one has line 0
 abbrev pub HasBadFile : Map → Aim → List ℕ → ℕ → Type 0
-HasBadFile m (Atoms wanted update limit flips) path line = ⊥
+HasBadFile m (Atoms wanted world update limit flips) path line =
+    HasOffers m flips × MissesWanted m world (Text path line)
 HasBadFile m (File file) path line =
     HasOffers m 0 × (path ≡ file) × FailsAt (text_of (m file)) line
 HasBadFile m (Unmerge atoms) path line = ⊥
 
 -- the map has offers, and the file that is aimed at has a group too many
 abbrev pub HasLongFile : Map → Aim → Type 0
-HasLongFile m (Atoms wanted update limit flips) = ⊥
+HasLongFile m (Atoms wanted world update limit flips) = ⊥
 HasLongFile m (File file) = HasOffers m 0 × IsTooLong (text_of (m file))
 HasLongFile m (Unmerge atoms) = ⊥
 
--- a file that is aimed at has a plan
+-- a file that is aimed at has a plan, and the world file has atoms where it counts
 abbrev pub CanAim : Map → Aim → Type 0
-CanAim m (Atoms wanted update limit flips) = ⊤
+CanAim m (Atoms wanted world update limit flips) =
+    (wish : WishValue) × IsWish m wanted world update limit wish
 CanAim m (File path) = (groups : List GroupValue) × HoldsPlan m path groups
 CanAim m (Unmerge atoms) = ⊤
 

@@ -6,12 +6,12 @@ use Rattle.emerge_words.specs.declared.request.Request.{Request}
 use Rattle.emerge_find.specs.declared.asked.Aim.TheVariants as aims
 use Rattle.emerge_find.specs.declared.asked.Asked.{Asked}
 
--- the command merges what its atoms match, without the world and without a repair, or does the plan
--- of a file, or unmerges what its atoms match, and asks this
+-- the command merges what its atoms match, without a repair, or does the plan of a file, or
+-- unmerges what its atoms match, and asks this
 abbrev pub IsOfMerge : Command → Bool → Asked → Type 0
 IsOfMerge (Merge atoms world update repair backtrack flips) pretend asked =
-    (world ≡ false) × (repair ≡ false) × (asked ≡ record {
-      aim = aims.Atoms atoms update backtrack flips;
+    (repair ≡ false) × (asked ≡ record {
+      aim = aims.Atoms atoms world update backtrack flips;
       pretend = pretend;
     })
 IsOfMerge (PlanFile path) pretend asked = asked ≡ record { aim = aims.File path; pretend = pretend }

@@ -10,11 +10,12 @@ use Rattle.plan_model.specs.Accepting.{IsGood}
 use Rattle.emerge_choose.specs.Wishes.{wish_value}
 use Rattle.emerge_choose.specs.declared.chosen.Chosen.{Chosen}
 use Rattle.emerge_choose.specs.declared.fault.NotChosen.TheVariants as choosing
-use Rattle.emerge_find.specs.Choices.{Choices, IsChosenOf, IsUnchosen, IsUnmergedOf, hidden_of, installed_of, offered_of, wish_of}
+use Rattle.emerge_find.specs.Choices.{Choices, IsChosenOf, IsUnchosen, IsUnmergedOf, hidden_of, installed_of, offered_of}
 use Rattle.emerge_find.specs.Files.{FailsAt, HoldsPlan, IsTooLong}
 use Rattle.emerge_find.specs.Filing.{IsUnfiled}
 use Rattle.emerge_find.specs.Lacking.{GivesBack, GroupsLack, UnmergeLacks, WishLacks}
 use Rattle.emerge_find.specs.Unmerges.{BarsUnmerge}
+use Rattle.emerge_find.specs.Worlds.{IsWish, MissesWanted}
 use Rattle.emerge_find.specs.declared.asked.Aim.{Aim}
 use Rattle.emerge_find.specs.declared.asked.Aim.TheVariants.{Atoms, File, Unmerge}
 use Rattle.emerge_find.specs.declared.ends.NoPlan.{NoPlan}
@@ -28,9 +29,9 @@ use Rattle.emerge_find.specs.declared.unmade.Unmade.TheVariants as making
 -- the source is what is aimed at: the wish, the plan that the file has, or the atoms of what is to
 -- go
 abbrev pub IsSource : Map → Aim → Source → Type 0
-IsSource m (Atoms wanted update limit flips) (Wished wish) =
-    wish_value wish ≡ wish_of wanted update limit
-IsSource m (Atoms wanted update limit flips) s = ⊥
+IsSource m (Atoms wanted world update limit flips) (Wished wish) =
+    IsWish m wanted world update limit (wish_value wish)
+IsSource m (Atoms wanted world update limit flips) s = ⊥
 IsSource m (File file) (Filed path text) =
     (path ≡ file) × HoldsPlan m file (plan_value text)
 IsSource m (File file) s = ⊥
@@ -52,7 +53,7 @@ MissesFile m file e = ⊥
 
 -- there is no source, for this reason
 abbrev pub HasNoSource : Map → Aim → NoPlan → Type 0
-HasNoSource m (Atoms wanted update limit flips) e = ⊥
+HasNoSource m (Atoms wanted world update limit flips) e = MissesWanted m world e
 HasNoSource m (File file) e = MissesFile m file e
 HasNoSource m (Unmerge atoms) e = ⊥
 

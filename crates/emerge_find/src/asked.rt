@@ -14,6 +14,8 @@ pub enum Aim {
     Atoms {
         /// Each of these is to match a package.
         wanted: Vec<Atom>,
+        /// So is each of the world file.
+        world: bool,
         /// A greater version goes before what is installed.
         update: bool,
         /// So many choices that were tried in vain are too many.
@@ -39,8 +41,8 @@ pub struct Asked {
     pub pretend: bool,
 }
 
-/// What the request asks, if it merges what its atoms match, without the world and without a
-/// repair, or does the plan of a file, or unmerges what its atoms match.
+/// What the request asks, if it merges what its atoms match, without a repair, or does the plan of
+/// a file, or unmerges what its atoms match.
 pub fn asked_of(request: Request) -> Option<Asked>
     ensures { MatchOption result ((a : AskedValue) → ¬ IsAsked request a) (IsAsked request) }
 {
@@ -61,11 +63,12 @@ fn asked_by(command: Command, pretend: bool) -> Option<Asked>
             backtrack,
             flips,
         } => {
-            if world || repair {
+            if repair {
                 return None;
             }
             let aim = Aim::Atoms {
                 wanted,
+                world,
                 update,
                 limit: backtrack as usize,
                 flips,

@@ -11,6 +11,7 @@ use emerge_choose::{NotChosen, NotTaken};
 use file_tree::{Path, TreeFault};
 use plan_rules::PlanRefused;
 use run_opening::OpeningFault;
+use std::alloc::AllocError;
 use thiserror::Error;
 use vdb_record::Installed;
 use visible_set::OffersFault;
@@ -98,6 +99,18 @@ impl From<TreeFault> for NoPlan {
 
     fn from(fault: TreeFault) -> NoPlan {
         NoPlan::Tree(fault)
+    }
+}
+
+impl From<AllocError> for NoPlan {
+    ghost use Rattle.std.specs.Prelude.{◌≡◌};
+    ghost use Rattle.file_tree.specs.declared.fault.TreeFault.TheVariants as trees;
+    ghost use Rattle.emerge_find.specs.declared.ends.NoPlan.TheVariants as ends;
+
+    ghost from_gives = { λ _ e. e ≡ ends.Tree trees.Memory };
+
+    fn from(_: AllocError) -> NoPlan {
+        NoPlan::Tree(TreeFault::Memory)
     }
 }
 

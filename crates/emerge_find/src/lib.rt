@@ -9,9 +9,9 @@
 //! **A contract sees** the tree as its story, and what there is to choose from as a record
 //! ([`Found`] and `Choices` of `specs/Choices.antt`).
 //!
-//! **Proved**: [`asked_of`] takes just the requests that merge what their atoms match, without the
-//! world and without a repair, those that do the plan of a file, and those that unmerge what their
-//! atoms match. [`find_plan`] answers with the installed packages, who owns what among them, and the
+//! **Proved**: [`asked_of`] takes just the requests that merge what their atoms match, and those of
+//! the world file where it is named, without a repair, those that do the plan of a file, and those
+//! that unmerge what their atoms match. [`find_plan`] answers with the installed packages, who owns what among them, and the
 //! plan that is chosen of the tree's offers over them, or that the file has, or in which just what
 //! the atoms match goes (`IsFound` of `specs/Choices.antt`). Any other answer but a
 //! failure and want of memory tells why there is none (`Refuses` of `specs/Refusals.antt`), in this
@@ -43,6 +43,7 @@ mod source;
 mod unfiled;
 mod unmade;
 mod unmerge;
+mod world;
 
 pub use asked::{Aim, Asked, asked_of};
 pub use ends::NoPlan;

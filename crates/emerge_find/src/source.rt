@@ -1,4 +1,4 @@
-ghost use Rattle.std.specs.Prelude.{◌≡◌, IfErr, IfOk, IsErrAnd, IsTrue, Some};
+ghost use Rattle.std.specs.Prelude.{◌≡◌, IfErr, IfOk, IsErrAnd, IsTrue, Some, map};
 ghost use Rattle.std.specs.Option.{option_map};
 ghost use Rattle.vdb_law.specs.Fields.{text_of};
 ghost use Rattle.file_tree.specs.Disk.{CountsFault};
@@ -6,11 +6,14 @@ ghost use Rattle.plan_text.specs.Plans.{plan_value};
 ghost use Rattle.plan_text.specs.Texts.{IsPlan, plan_text};
 ghost use Rattle.emerge_find.specs.Ends.{IsDeviceFailure, unread};
 ghost use Rattle.emerge_find.specs.Files.{IsRefusal};
+ghost use Rattle.dep_atom.specs.Values.{atom_value};
+ghost use Rattle.emerge_find.specs.Worlds.{AreWanted, MissesWanted};
 ghost use Rattle.emerge_find.specs.Sources.{HasNoSource, IsFormed, IsSource};
 ghost use Rattle.emerge_find.specs.declared.asked.Aim.TheVariants.{File};
 
 use crate::asked::Aim;
 use crate::ends::NoPlan;
+use crate::world::with_world;
 use dep_atom::Atom;
 use emerge_choose::Wish;
 use file_tree::{Kind, Object, Path, Tree, TreeFault};
@@ -41,17 +44,42 @@ pub(crate) fn source_of<T: Tree>(alloc: Global, tree: &mut T, aim: Aim) -> Resul
     match aim {
         Aim::Atoms {
             wanted,
+            world,
             update,
             limit,
             ..
-        } => Ok(Source::Wished(Wish {
-            wanted,
-            update,
-            limit,
-        })),
+        } => {
+            let wanted = wanted_of(alloc, tree, wanted, world)?;
+            Ok(Source::Wished(Wish {
+                wanted,
+                update,
+                limit,
+            }))
+        }
         Aim::File { path } => read_plan(alloc, tree, path),
         Aim::Unmerge { atoms } => Ok(Source::Unmerged(atoms)),
     }
+}
+
+/// The atoms that are wanted: these, and behind them those of the world file where it counts.
+fn wanted_of<T: Tree>(
+    alloc: Global,
+    tree: &mut T,
+    atoms: Vec<Atom>,
+    world: bool,
+) -> Result<Vec<Atom>, NoPlan>
+    ensures found { IsTrue T.tells → IfOk result (λ v.
+        AreWanted (T.story tree.old).now.holds atoms.items world (map atom_value v.items)) }
+    ensures refused { IsTrue T.tells →
+        IfErr result (MissesWanted (T.story tree.old).now.holds world) }
+    ensures same { IsTrue T.tells → T.story tree.new ≡ T.story tree.old }
+    ensures faults { CountsFault (IsErrAnd result IsDeviceFailure) (T.faults tree.old)
+        (T.faults tree.new) }
+{
+    if world {
+        return with_world(alloc, tree, atoms);
+    }
+    Ok(atoms)
 }
 
 /// The plan that stands in the file at the path.
@@ -85,7 +113,7 @@ fn plan_of(alloc: Global, object: Option<Object>) -> Result<Plan, PlanTextFault>
 }
 
 /// The bytes of a file. A link in its place counts as missing.
-fn bytes_of(object: Option<Object>) -> Option<Vec<u8>>
+pub(crate) fn bytes_of(object: Option<Object>) -> Option<Vec<u8>>
     ensures { option_map (λ v. v.items) result ≡ text_of object }
 {
     match object {

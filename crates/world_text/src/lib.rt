@@ -20,4 +20,4 @@ mod fault;
 mod world;
 
 pub use fault::WorldFault;
-pub use world::read_world;
+pub use world::{WORLD, read_world};

@@ -10,6 +10,9 @@ use dep_atom::{Atom, AtomFault, Block};
 use dep_group::words;
 use std::alloc::{AllocError, Global};
 
+/// The place of the world file.
+pub const WORLD: &str = "var/lib/portage/world";
+
 fn is_unblocked(atom: &Atom) -> bool
     ensures { IsTrue result ↔ (atom.now.block ≡ No) }
 {
