@@ -22,7 +22,9 @@ use std::alloc::{AllocError, Global};
 use std::env;
 use std::process::ExitCode;
 use std::rt::Env;
-use telling::{refuse, refused_line, tell_no_memory, tell_why};
+use telling::{
+    is_watched, refuse, refused_line, shown_table, tell_no_memory, tell_table, tell_why,
+};
 use tree_mem::MemTree;
 
 /// The status of a run that found no memory before it began.
@@ -101,7 +103,8 @@ fn run_with<T: Tree + Send + Drop, B: Builder + Send>(
 {
     let pool = BuildPool::new(alloc, builders)?;
     let out = HostSink::stdout(rt);
-    let end = end_of(alloc, words, tree, out, pool);
+    let is_watched = is_watched(&rt);
+    let end = end_of(alloc, words, tree, out, pool, is_watched);
     Ok(told(&rt, alloc, words, end))
 }
 
@@ -111,30 +114,48 @@ struct End {
     status: Status,
     /// The line that a text of the tree was refused for.
     line: Option<String>,
+    /// What a plan that was only shown would do, where a person looks on.
+    table: Option<String>,
 }
 
-/// The end of a run.
+/// The end of a run; `is_watched` says whether a person looks on.
 fn end_of<T: Tree + Send + Drop, S: Sink + Send + Drop, B: Builder + Send>(
     alloc: Global,
     words: &[String],
     tree: T,
     out: S,
     pool: BuildPool<B>,
+    is_watched: bool,
 ) -> End
     requires resting { 0 < length pool.resting }
 {
     let Ended {
         status,
         mut tree,
+        opening,
+        plan,
         ..
     } = emerge(alloc, words, tree, out, pool);
     let line = refused_line(alloc, &mut tree, &status);
-    End { status, line }
+    let table = match is_watched {
+        true => shown_table(alloc, &status, plan.as_ref(), &opening),
+        false => None,
+    };
+    End {
+        status,
+        line,
+        table,
+    }
 }
 
 /// Tells why a run was refused, and answers the status's number.
 fn told(rt: &HostRuntime, alloc: Global, words: &[String], end: End) -> u8 {
-    let End { status, line } = end;
+    let End {
+        status,
+        line,
+        table,
+    } = end;
+    tell_table(rt, table.as_deref());
     tell_why(rt, alloc, words, &status, line.as_deref());
     number_of(status)
 }

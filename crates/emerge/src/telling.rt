@@ -1,10 +1,14 @@
+use emerge_table::table_of;
 use emerge_why::{why_locked, why_refused, why_unopened};
 use file_tree::{Path, Tree};
 use host_side::OpenFault;
 use merge_report::Status;
+use plan_lives::Plan;
 use std::alloc::{AllocError, Global};
+use std::io::IsTerminal;
 use std::rt::Env;
 use std::{env, str};
+use vdb_record::Installed;
 
 /// The status of a run whose tree another run holds.
 const LOCKED: u8 = 21;
@@ -42,6 +46,35 @@ pub fn tell_why(
         return;
     }
     tell(rt, why_refused(alloc, words, status, line));
+}
+
+/// Whether a person looks at standard error, and wants to be told.
+pub fn is_watched(rt: &HostRuntime) -> bool {
+    rt.stderr().is_terminal() && !is_quiet(rt)
+}
+
+/// The table of a plan that is only shown, where it changes anything.
+pub fn shown_table(
+    alloc: Global,
+    status: &Status,
+    plan: Option<&Plan>,
+    opening: &[Installed],
+) -> Option<String> {
+    let Status::Ok { groups: 0 } = status else {
+        return None;
+    };
+    let groups = plan?.groups();
+    if groups.is_empty() {
+        return None;
+    }
+    table_of(alloc, groups, opening).ok()
+}
+
+/// Prints a table on standard error.
+pub fn tell_table(rt: &HostRuntime, table: Option<&str>) {
+    if let Some(text) = table {
+        print_error(rt, text);
+    }
 }
 
 /// Says why there is no tree, and answers the status's number.

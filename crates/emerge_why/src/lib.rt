@@ -30,5 +30,6 @@ mod usage;
 mod why;
 mod words;
 
+pub use telling::told;
 pub use telling_host::{why_locked, why_unopened};
 pub use why::why_refused;

@@ -5,9 +5,9 @@ ghost use Rattle.emerge_why.specs.Told.{IsTold, told_line};
 use merge_report::shown;
 use std::alloc::{AllocError, Global};
 
-/// The lines as a text for a person: each behind the program's name, with what would drive a
-/// terminal escaped.
-pub(crate) fn told(alloc: Global, lines: &[String]) -> Result<String, AllocError>
+/// Lines as a text for a person: each behind the program's name, with each control character
+/// escaped.
+pub fn told(alloc: Global, lines: &[String]) -> Result<String, AllocError>
     ensures { IfOk result (λ t. IsTold (string_bytes t)) }
 {
     let mut text = String::new(alloc);
