@@ -4,8 +4,10 @@
 //! that `--tree` names, and the root of the host where it names none; the images are folders below
 //! that of `--images`, and `--build-with CMD` has a program prepare each of them first. There are as
 //! many builders as `--jobs` says, all over the same images. Words that are no command are answered over
-//! an empty tree in memory.
+//! an empty tree in memory. Behind a run that was refused, standard error tells why in plain words.
 #![tactic(auto)]
+
+mod telling;
 
 ghost use Rattle.std.specs.Prelude.{◌<◌, length};
 ghost use Rattle.build_pool.specs.Pool.{AreOnce};
@@ -14,27 +16,27 @@ use build_pool::{BuildPool, Builder, numbered_builders};
 use emerge_run::{Ended, emerge};
 use emerge_words::{Host, host_of};
 use file_tree::{Sink, Tree};
-use host_side::{CommandBuilder, FolderBuilder, HostSink, HostTree, OpenFault};
+use host_side::{CommandBuilder, FolderBuilder, HostSink, HostTree};
 use merge_report::Status;
 use std::alloc::{AllocError, Global};
 use std::env;
 use std::process::ExitCode;
 use std::rt::Env;
+use telling::{
+    is_watched, refuse, refused_line, shown_table, tell_no_memory, tell_table, tell_why,
+};
 use tree_mem::MemTree;
 
 /// The status of a run that found no memory before it began.
 const NO_MEMORY: u8 = 19;
 
-/// The status of a run whose tree another run holds.
-const LOCKED: u8 = 21;
-
-/// The status of a run whose tree can't be opened.
-const NO_TREE: u8 = 22;
-
 fn main(rt: HostRuntime) -> ExitCode {
     match run(rt, rt.alloc()) {
         Ok(code) => ExitCode::from(code),
-        Err(_) => ExitCode::from(NO_MEMORY),
+        Err(_) => {
+            tell_no_memory(&rt);
+            ExitCode::from(NO_MEMORY)
+        }
     }
 }
 
@@ -59,7 +61,7 @@ fn run_on_host(
     let name = host.tree.as_str();
     match HostTree::open(rt, name) {
         Ok(tree) => run_with_images(rt, alloc, words, host, tree),
-        Err(fault) => Ok(refuse(&rt, name, fault)),
+        Err(fault) => Ok(refuse(&rt, alloc, name, fault)),
     }
 }
 
@@ -101,38 +103,61 @@ fn run_with<T: Tree + Send + Drop, B: Builder + Send>(
 {
     let pool = BuildPool::new(alloc, builders)?;
     let out = HostSink::stdout(rt);
-    Ok(number_of(status_of(alloc, words, tree, out, pool)))
+    let is_watched = is_watched(&rt);
+    let end = end_of(alloc, words, tree, out, pool, is_watched);
+    Ok(told(&rt, alloc, words, end))
 }
 
-/// The status of a run.
-fn status_of<T: Tree + Send + Drop, S: Sink + Send + Drop, B: Builder + Send>(
+/// How a run ended, as far as the program tells of it.
+#[derive(Drop)]
+struct End {
+    status: Status,
+    /// The line that a text of the tree was refused for.
+    line: Option<String>,
+    /// What a plan that was only shown would do, where a person looks on.
+    table: Option<String>,
+}
+
+/// The end of a run; `is_watched` says whether a person looks on.
+fn end_of<T: Tree + Send + Drop, S: Sink + Send + Drop, B: Builder + Send>(
     alloc: Global,
     words: &[String],
     tree: T,
     out: S,
     pool: BuildPool<B>,
-) -> Status
+    is_watched: bool,
+) -> End
     requires resting { 0 < length pool.resting }
 {
-    let Ended { status, .. } = emerge(alloc, words, tree, out, pool);
-    status
+    let Ended {
+        status,
+        mut tree,
+        opening,
+        plan,
+        ..
+    } = emerge(alloc, words, tree, out, pool);
+    let line = refused_line(alloc, &mut tree, &status);
+    let table = match is_watched {
+        true => shown_table(alloc, &status, plan.as_ref(), &opening),
+        false => None,
+    };
+    End {
+        status,
+        line,
+        table,
+    }
 }
 
-/// Says why there is no tree, and answers the status's number.
-fn refuse(rt: &HostRuntime, name: &str, fault: OpenFault) -> u8 {
-    let (told, code) = match fault {
-        OpenFault::Locked => (
-            eprintln!(rt; "emerge: another run holds the tree {name}"),
-            LOCKED,
-        ),
-        OpenFault::Failed(error) => (
-            eprintln!(rt; "emerge: the tree {name} can't be opened: {error}"),
-            NO_TREE,
-        ),
-    };
-    match told {
-        Ok(()) | Err(_) => code,
-    }
+/// Tells why a run was refused, and answers the status's number.
+fn told(rt: &HostRuntime, alloc: Global, words: &[String], end: End) -> u8 {
+    let End {
+        status,
+        line,
+        table,
+    } = end;
+    tell_table(rt, table.as_deref());
+    tell_why(rt, alloc, words, &status, line.as_deref());
+    number_of(status)
 }
 
 /// Runs words that name no folder over an empty tree in memory.

@@ -1,1 +1,2 @@
 mod Last
+pub mod Plain

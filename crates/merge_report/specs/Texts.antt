@@ -23,6 +23,7 @@ use Rattle.emerge_words.specs.declared.request.WordFault.{WordFault}
 use Rattle.emerge_words.specs.declared.request.WordFault.TheVariants as words
 use Rattle.merge_report.specs.declared.collision.Collision.{Collision}
 use Rattle.merge_report.specs.declared.collision.Collision.TheVariants as collisions
+use Rattle.merge_report.specs.Shown.{shown}
 use Rattle.merge_report.specs.declared.status.Part.{Part}
 use Rattle.merge_report.specs.declared.status.Part.TheVariants.{Command, Result}
 use Rattle.file_tree.specs.declared.limits.Quantity.{Quantity}
@@ -69,8 +70,8 @@ reason_text r = codes " (" ++ (id_text r.id ++ (32 ∷ (reason_word r.reason ++ 
 -- the word, or the text of an option, that the words are refused for
 abbrev pub usage_word : WordFault → List ℕ
 usage_word words.Usage = codes "Usage"
-usage_word (words.BadAtom word) = codes "Usage: bad atom " ++ string_bytes word
-usage_word (words.BadNumber word) = codes "Usage: bad number " ++ string_bytes word
+usage_word (words.BadAtom word) = codes "Usage: bad atom " ++ shown (string_bytes word)
+usage_word (words.BadNumber word) = codes "Usage: bad number " ++ shown (string_bytes word)
 usage_word words.Memory = codes "Usage"
 
 -- the path at which the database is at fault; of a path above another that path
@@ -116,17 +117,17 @@ broken_text fault = []
 
 -- the rule by which a path can't be placed, with what it names
 abbrev pub collision_text : Collision → List ℕ
-collision_text (collisions.Owned p id) = codes "Owned " ++ (p ++ (32 ∷ id_text id))
-collision_text (collisions.Claimed p g) = codes "Claimed " ++ (p ++ (32 ∷ decimal g))
-collision_text (collisions.Ancestor p other) = codes "Ancestor " ++ (p ++ (32 ∷ other))
-collision_text (collisions.Unowned p) = codes "Unowned " ++ p
+collision_text (collisions.Owned p id) = codes "Owned " ++ (shown p ++ (32 ∷ id_text id))
+collision_text (collisions.Claimed p g) = codes "Claimed " ++ (shown p ++ (32 ∷ decimal g))
+collision_text (collisions.Ancestor p other) = codes "Ancestor " ++ (shown p ++ (32 ∷ shown other))
+collision_text (collisions.Unowned p) = codes "Unowned " ++ shown p
 
 -- what is wrong with an image, and at which path
 abbrev pub bad_text : ImageBad → List ℕ
-bad_text (bad.Reserved p) = codes "Reserved " ++ p
-bad_text (bad.Twice p) = codes "Twice " ++ p
-bad_text (bad.Large p) = codes "Large " ++ p
-bad_text (bad.Link p) = codes "Link " ++ p
+bad_text (bad.Reserved p) = codes "Reserved " ++ shown p
+bad_text (bad.Twice p) = codes "Twice " ++ shown p
+bad_text (bad.Large p) = codes "Large " ++ shown p
+bad_text (bad.Link p) = codes "Link " ++ shown p
 
 abbrev pub quantity_word : Quantity → List ℕ
 quantity_word Groups = codes "Groups"
@@ -138,8 +139,8 @@ quantity_word RecordBytes = codes "RecordBytes"
 abbrev pub last_word : Status → List ℕ
 last_word (status.Ok groups) = codes "ok " ++ decimal groups
 last_word (status.Usage fault) = usage_word fault
-last_word (status.BadText path line) = codes "BadText: " ++ (path ++ (32 ∷ decimal line))
-last_word (status.BadDatabase fault) = codes "BadDatabase: " ++ place_of_fault fault
+last_word (status.BadText path line) = codes "BadText: " ++ (shown path ++ (32 ∷ decimal line))
+last_word (status.BadDatabase fault) = codes "BadDatabase: " ++ shown (place_of_fault fault)
 last_word (status.Inconsistent fault) = codes "Inconsistent: " ++ inconsistent_text fault
 last_word (status.BadJournal fault) = codes "BadJournal: " ++ broken_text fault
 last_word (status.NoCandidate atom reasons) =

@@ -5,7 +5,8 @@
 //! **Proved**: the number and the last line of each status; the line of a group names just what went
 //! and what came. Where the last line can't be written the status is the output's fault, but a
 //! device's fault stays, and then some beginning of it stands there; where there is no memory for it
-//! the status is want of memory, and its line says so.
+//! the status is want of memory, and its line says so. What comes from outside stands in a line with
+//! each control character as `\xNN` ([`shown`]).
 //!
 //! **Only tested**, within whole runs: that with ample memory a line is made.
 //!
@@ -17,11 +18,13 @@
 
 mod collision;
 mod ending;
+mod escapes;
 mod faults;
 mod status;
 mod texts;
 
 pub use collision::Collision;
 pub use ending::finish;
+pub use escapes::shown;
 pub use status::{Part, Status};
 pub use texts::line_of_group;

@@ -4,12 +4,14 @@ ghost use Rattle.std.specs.List.{flat_map};
 ghost use Rattle.dep_atom.specs.Ids.{id_text};
 ghost use Rattle.dep_atom.specs.Text.{atom_text};
 ghost use Rattle.plan_rules.specs.Refusals.{told};
+ghost use Rattle.merge_report.specs.Shown.{shown};
 ghost use Rattle.merge_report.specs.Texts.{bad_text, broken_text, collision_text, come_text};
 ghost use Rattle.merge_report.specs.Texts.{done_line, gone_text, inconsistent_text, last_line};
 ghost use Rattle.merge_report.specs.Texts.{leaf_text, pair_text, place_of_fault, reason_text};
 ghost use Rattle.merge_report.specs.Texts.{reason_word, refused_text};
 
 use crate::collision::Collision;
+use crate::escapes::shown;
 use crate::status::{Part, Status};
 use choice_tree::Choice;
 use dep_atom::{Atom, PackageId};
@@ -120,8 +122,14 @@ fn usage_line(alloc: Global, fault: &WordFault) -> Result<String, AllocError>
 {
     match fault {
         WordFault::Usage => String::from_str(alloc, "emerge: Usage\n"),
-        WordFault::BadAtom { word } => format!(in alloc; "emerge: Usage: bad atom {word}\n"),
-        WordFault::BadNumber { word } => format!(in alloc; "emerge: Usage: bad number {word}\n"),
+        WordFault::BadAtom { word } => {
+            let word = shown(alloc, word)?;
+            format!(in alloc; "emerge: Usage: bad atom {word}\n")
+        }
+        WordFault::BadNumber { word } => {
+            let word = shown(alloc, word)?;
+            format!(in alloc; "emerge: Usage: bad number {word}\n")
+        }
         WordFault::Memory => Err(AllocError),
     }
 }
@@ -165,18 +173,18 @@ pub fn line_of_status(alloc: Global, status: &Status) -> Result<String, AllocErr
 /// The file of the configuration that isn't in form, and the line.
 fn text_line(alloc: Global, path: &Path, line: u32) -> Result<String, AllocError>
     ensures { IfOk result (λ t. string_bytes t ≡
-        codes "emerge: BadText: " ++ (path.now ++ (32 ∷ (decimal line ++ 10 ∷ [])))) }
+        codes "emerge: BadText: " ++ (shown path.now ++ (32 ∷ (decimal line ++ 10 ∷ [])))) }
 {
-    let path = path.text();
+    let path = shown(alloc, path.text())?;
     format!(in alloc; "emerge: BadText: {path} {line}\n")
 }
 
 /// The path at which the database is at fault.
 fn database_line(alloc: Global, fault: &DatabaseFault) -> Result<String, AllocError>
     ensures { IfOk result (λ t. string_bytes t ≡
-        codes "emerge: BadDatabase: " ++ (place_of_fault fault.now ++ 10 ∷ [])) }
+        codes "emerge: BadDatabase: " ++ (shown (place_of_fault fault.now) ++ 10 ∷ [])) }
 {
-    let place = place_of_fault(fault);
+    let place = shown(alloc, place_of_fault(fault))?;
     format!(in alloc; "emerge: BadDatabase: {place}\n")
 }
 
@@ -300,21 +308,21 @@ fn collision_part(alloc: Global, collision: &Collision) -> Result<String, AllocE
 {
     match collision {
         Collision::Owned { path, owner } => {
-            let path = path.text();
+            let path = shown(alloc, path.text())?;
             let owner = owner.print(alloc)?;
             format!(in alloc; "Owned {path} {owner}")
         }
         Collision::Claimed { path, group } => {
-            let path = path.text();
+            let path = shown(alloc, path.text())?;
             format!(in alloc; "Claimed {path} {group}")
         }
         Collision::Ancestor { path, other } => {
-            let path = path.text();
-            let other = other.text();
+            let path = shown(alloc, path.text())?;
+            let other = shown(alloc, other.text())?;
             format!(in alloc; "Ancestor {path} {other}")
         }
         Collision::Unowned { path } => {
-            let path = path.text();
+            let path = shown(alloc, path.text())?;
             format!(in alloc; "Unowned {path}")
         }
     }
@@ -327,19 +335,19 @@ fn bad_line(alloc: Global, bad: &ImageBad) -> Result<String, AllocError>
 {
     match bad {
         ImageBad::Reserved { path } => {
-            let path = path.text();
+            let path = shown(alloc, path.text())?;
             format!(in alloc; "emerge: BadImage: Reserved {path}\n")
         }
         ImageBad::Twice { path } => {
-            let path = path.text();
+            let path = shown(alloc, path.text())?;
             format!(in alloc; "emerge: BadImage: Twice {path}\n")
         }
         ImageBad::Large { path } => {
-            let path = path.text();
+            let path = shown(alloc, path.text())?;
             format!(in alloc; "emerge: BadImage: Large {path}\n")
         }
         ImageBad::Link { path } => {
-            let path = path.text();
+            let path = shown(alloc, path.text())?;
             format!(in alloc; "emerge: BadImage: Link {path}\n")
         }
     }
