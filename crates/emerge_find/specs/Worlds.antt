@@ -22,7 +22,7 @@ HasWorld (Some text) atoms = IsWorld text atoms
 
 -- the world file, plain or executable, has these atoms
 abbrev pub HoldsWorld : Map → List Atom → Type 0
-HoldsWorld m atoms = HasWorld (text_of (m WORLD)) atoms
+HoldsWorld m atoms = HasWorld (text_of (m WORLD.now)) atoms
 
 -- what is wanted of these atoms: they alone, or behind them those of the world file
 abbrev pub AreWanted : Map → List Atom → Bool → List AtomValue → Type 0
@@ -55,7 +55,7 @@ without_world path lacking.Memory = Tree trees.Memory
 
 -- there is no plan since the world file says nothing; a failure and want of memory say nothing
 abbrev pub MissesWorld : Map → NoPlan → Type 0
-MissesWorld m (Text path line) = (path ≡ WORLD) × FailsWorld (text_of (m WORLD)) line
+MissesWorld m (Text path line) = (path ≡ WORLD.now) × FailsWorld (text_of (m WORLD.now)) line
 MissesWorld m (Tree fault) = ⊤
 MissesWorld m e = ⊥
 

@@ -53,12 +53,12 @@ fn matches_any(atom: &Atom, packages: &[Pkg], nobody: &Flags) -> bool
     false
 }
 
-fn is_matched(package: &Pkg, atoms: &[Atom], nobody: &Flags) -> bool
+fn is_matched(pkg: &Pkg, atoms: &[Atom], nobody: &Flags) -> bool
     requires { nobody.now ≡ [] }
-    ensures { result ≡ is_matched (map atom_value atoms.now) package.now }
+    ensures { result ≡ is_matched (map atom_value atoms.now) pkg.now }
 {
     for atom in atoms {
-        if atom.matches(&package.facts, nobody) {
+        if atom.matches(&pkg.facts, nobody) {
             return true;
         }
     }

@@ -62,7 +62,7 @@ fn without_world(path: Path, fault: NoWorld) -> NoPlan
 /// The place of the world file, as a path.
 #[tactic(auto, unfolding(file_tree::specs::Paths::is_path))]
 fn world_path(alloc: Global) -> Result<Path, AllocError>
-    ensures { IfOk result (λ path. path ≡ WORLD) }
+    ensures { IfOk result (λ path. path ≡ WORLD.now) }
 {
     Path::of(alloc, WORLD)
 }

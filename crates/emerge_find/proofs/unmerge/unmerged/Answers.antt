@@ -1,8 +1,14 @@
 use Rattle.std.proofs.Common.{map}
+use Rattle.std.proofs.lemmas.Result.{err_from_is_err_and}
 use Rattle.dep_atom.specs.Values.{atom_value}
 use Rattle.plan_text.specs.Plans.{plan_value}
 use Rattle.emerge_find.proofs.Told.{bars, no_addition}
 use Rattle.emerge_find.proofs.unmerge.unmerged.Goals as goal
+
+pub returns-in_err-text-clause-fault : goal.returns-in_err-text-clause-fault
+returns-in_err-text-clause-fault c =
+    let p = err_from_is_err_and c.from_residual.result c.from_residual.ensures.1 in
+    rw (p.1, p.2) (c.in_err-text.ensures.fault c.args.offered.now)
 
 pub of_unaccepted-requires : goal.of_unaccepted-requires
 of_unaccepted-requires c =
