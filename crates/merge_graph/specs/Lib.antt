@@ -1,0 +1,5 @@
+pub mod Certified
+pub mod Edges
+pub mod Levels
+pub mod Numbering
+pub mod Rows
