@@ -1,3 +1,5 @@
+pub mod Building
 pub mod Checking
 pub mod RowLemmas
 pub mod Sweeping
+pub mod Together

@@ -1,8 +1,8 @@
 -- What is checked of numbers before they are taken for those of the components.
-use Rattle.std.specs.Prelude.{◌≡◌, ◌<◌, ◌≤◌, ◌≢◌, ℕ, List, false, slice_index, slice_index_or, length, true}
-use Rattle.std.specs.Prelude.{Bool}
+use Rattle.std.specs.Prelude.{◌≡◌, ◌<◌, ◌≤◌, ◌≢◌, ℕ, Bool, List, None, Option, Some, IsTrue, false, length, map, min, slice_index, slice_index_or, true}
 use Rattle.basics.specs.Members.{Has}
-use Rattle.merge_graph.specs.Edges.{Reaches}
+use Rattle.merge_graph.specs.Edges.{Reaches, turned}
+use Rattle.merge_graph.specs.Numbering.{IsNumbering}
 use Rattle.merge_graph.specs.declared.edge.Edge.{Edge}
 
 -- the first of those that have the node's number
@@ -52,3 +52,36 @@ AreFirst firsts opened = (j k : ℕ) → k < length firsts → j < k → slice_i
 abbrev pub AreApart : List ℕ → Type 0
 AreApart firsts = (j k : ℕ) → j < length firsts → k < length firsts →
     slice_index firsts j ≡ slice_index firsts k → j ≡ k
+
+-- each number came as soon as it might, as the smallest one
+abbrev pub ComeInOrder : List ℕ → List ℕ → List Edge → Type 0
+ComeInOrder numbers firsts es =
+    (opened : List ℕ) × AreOpened numbers es opened × AreFirst firsts opened
+
+-- nodes with one number reach each other by way of the first one, and other numbers fall
+pub record AreComponents (numbers firsts : List ℕ) (es : List Edge) : Type 0 where
+  pub fall : AllFall numbers es
+  pub reached : AreReached numbers firsts es
+  pub reaching : AreReached numbers firsts (map turned es)
+
+-- numbers that passed all checks, with their first nodes
+pub record AreCertified (nodes : ℕ) (es : List Edge) (numbers firsts : List ℕ) : Type 0 where
+  pub numbering : IsNumbering nodes es (length firsts) numbers
+  pub first_nodes : HaveFirsts numbers firsts
+  pub named : HaveNumbers numbers firsts
+
+-- an edge to build on inside a component
+abbrev pub IsInside : List ℕ → Edge → Type 0
+IsInside numbers e = IsTrue e.builds × (slice_index numbers e.from ≡ slice_index numbers e.to)
+
+-- the first node of a component with such an edge that comes before those of the others
+abbrev pub IsFirstInside : List ℕ → List ℕ → List Edge → Option ℕ → Type 0
+IsFirstInside numbers firsts es None = (e : Edge) → Has es e → IsInside numbers e → ⊥
+IsFirstInside numbers firsts es (Some x) =
+    ((e : Edge) × Has es e × IsInside numbers e × (first_of numbers firsts e.from ≡ x))
+    × ((e : Edge) → Has es e → IsInside numbers e → x ≤ first_of numbers firsts e.from)
+
+-- the smaller one, if there is one
+abbrev pub smaller : Option ℕ → ℕ → ℕ
+smaller None x = x
+smaller (Some y) x = min y x

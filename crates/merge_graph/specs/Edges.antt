@@ -1,5 +1,6 @@
 -- Changes that wait for each other: nodes, edges between them, and what is reached along edges.
-use Rattle.std.specs.Prelude.{◌≡◌, ◌<◌, ℕ, List, IsTrue}
+use Rattle.std.specs.Prelude.{◌≡◌, ◌&&◌, ℕ, Bool, List, IsTrue, nat_lt}
+use Rattle.std.specs.List.{list_all}
 use Rattle.basics.specs.Members.{Has}
 use Rattle.merge_graph.specs.declared.edge.Edge.{Edge}
 
@@ -21,6 +22,12 @@ abbrev pub AreTogether : List Edge → ℕ → ℕ → Type 0
 AreTogether es x y = Reaches es x y × Reaches es y x
 
 -- the edges are between so many nodes
-pub record AreBetween (nodes : ℕ) (es : List Edge) : Type 0 where
-  pub from_node : (e : Edge) → Has es e → e.from < nodes
-  pub to_node : (e : Edge) → Has es e → e.to < nodes
+abbrev pub is_between : ℕ → Edge → Bool
+is_between nodes e = nat_lt e.from nodes && nat_lt e.to nodes
+
+abbrev pub AreBetween : ℕ → List Edge → Type 0
+AreBetween nodes es = IsTrue (list_all (is_between nodes) es)
+
+-- an edge the other way round
+abbrev pub turned : Edge → Edge
+turned e = record { from = e.to; to = e.from; builds = e.builds }

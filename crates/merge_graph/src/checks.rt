@@ -117,7 +117,8 @@ pub(crate) fn opened(
     count: usize,
     edges: &[Edge],
 ) -> Result<Vec<usize>, AllocError>
-    ensures { IfOk result (λ v. AreOpened numbers.now edges.now v.items) }
+    ensures all { IfOk result (λ v. length v.items ≡ count) }
+    ensures opened { IfOk result (λ v. AreOpened numbers.now edges.now v.items) }
 {
     let mut opened = vec![in alloc; 0; count]?;
     for edge in edges {
@@ -128,6 +129,7 @@ pub(crate) fn opened(
 
 /// One number waits for another one.
 fn raise(opened: &mut Vec<usize>, from: usize, to: usize)
+    ensures all { length opened.new.items ≡ length opened.old.items }
     ensures others { (k : ℕ) → k ≢ from →
         slice_index opened.new.items k ≡ slice_index opened.old.items k }
     ensures bound { (bound : ℕ) → (from ≢ to → to < bound) →

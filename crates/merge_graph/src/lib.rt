@@ -1,9 +1,12 @@
 //! The changes of a command as a graph.
 #![tactic(auto)]
 
+mod certify;
 mod checks;
 mod components;
+mod cycle;
 mod edge;
+mod numbering;
 mod places;
 mod ordering;
 mod slots;
@@ -11,4 +14,5 @@ mod sweep;
 mod ways;
 
 pub use edge::Edge;
+pub use numbering::{Numbering, number};
 pub use places::rows;

@@ -1,5 +1,4 @@
 use crate::edge::Edge;
-use crate::ordering::Guess;
 use crate::slots::{is_marked, mark, number_at};
 use std::alloc::{AllocError, Global};
 
@@ -7,14 +6,15 @@ use std::alloc::{AllocError, Global};
 /// as can be trusted: they are tried afterwards.
 pub(crate) fn way_from_firsts(
     alloc: Global,
-    guess: &Guess,
+    numbers: &[usize],
+    firsts: &[usize],
     edges: &[Edge],
     leaving: &[Vec<usize>],
 ) -> Result<Vec<usize>, AllocError> {
-    let mut reached = vec![in alloc; false; guess.numbers.len()]?;
+    let mut reached = vec![in alloc; false; numbers.len()]?;
     let mut nodes = Vec::new(alloc);
     let mut way = Vec::new(alloc);
-    for first in &guess.firsts {
+    for first in firsts {
         mark(&mut reached, *first);
         nodes.push(*first)?;
     }
@@ -25,7 +25,7 @@ pub(crate) fn way_from_firsts(
         };
         if let Some(row) = leaving.get(node) {
             for place in row {
-                if let Some(to) = next_node(&guess.numbers, edges, &reached, *place) {
+                if let Some(to) = next_node(numbers, edges, &reached, *place) {
                     mark(&mut reached, to);
                     nodes.push(to)?;
                     way.push(*place)?;
