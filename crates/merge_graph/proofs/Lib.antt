@@ -3,3 +3,4 @@ pub mod Checking
 pub mod RowLemmas
 pub mod Sweeping
 pub mod Together
+pub mod Waited

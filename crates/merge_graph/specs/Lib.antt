@@ -1,3 +1,4 @@
+pub mod After
 pub mod Answer
 pub mod Certified
 pub mod Edges

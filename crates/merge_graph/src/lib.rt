@@ -11,8 +11,10 @@ mod places;
 mod ordering;
 mod slots;
 mod sweep;
+mod waiting;
 mod ways;
 
+pub use waiting::after;
 pub use edge::Edge;
 pub use numbering::{Numbering, number};
 pub use places::rows;
