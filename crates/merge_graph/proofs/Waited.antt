@@ -119,7 +119,7 @@ slice_get_map f es i e at =
     let within = slice_get_within es i e at in
     (omega (arith, within, length-map es f), get_or-map f es i e 0 within ∙ ap f (get_or_from_slice_get es i e e at))
 
-has_slice : {A : Type 0} (es : List A) (e : A) → Has es e → (i : ℕ) × (slice_get es i ≡ Some e)
+pub has_slice : {A : Type 0} (es : List A) (e : A) → Has es e → (i : ℕ) × (slice_get es i ≡ Some e)
 has_slice [] e h = absurd h
 has_slice (f ∷ es) e (inl same) = (0, ap Some same)
 has_slice (f ∷ es) e (inr h) = let r = has_slice es e h in (suc r.0, r.1)

@@ -1,6 +1,7 @@
 -- Levels: how far a component has to stand behind those that it builds on.
-use Rattle.std.specs.Prelude.{◌≡◌, ◌<◌, ◌≤◌, ℕ, List, slice_index, length}
-use Rattle.merge_graph.specs.Edges.{Builds, Goes}
+use Rattle.std.specs.Prelude.{◌≡◌, ◌+◌, ◌<◌, ◌≤◌, ℕ, List, None, Option, Some, slice_index, length, if◌then◌else◌}
+use Rattle.merge_graph.specs.Edges.{AreBetween, Builds, Goes}
+use Rattle.merge_graph.specs.Numbering.{HasNoBuildInside, IsNumbering}
 use Rattle.merge_graph.specs.declared.edge.Edge.{Edge}
 
 -- the level of each of so many components is at least 1, at least that of what it waits for, and
@@ -18,3 +19,17 @@ pub record AreLevels (es : List Edge) (numbers : List ℕ) (count : ℕ) (levels
   pub high : AreHigh es numbers count (slice_index levels)
   pub lowest : (level : ℕ → ℕ) → AreHigh es numbers count level → (k : ℕ) → k < count →
       slice_index levels k ≤ level k
+
+-- the numbers are those of the components of some nodes, and no component has a build inside
+abbrev pub IsNumbered : List Edge → ℕ → List ℕ → Type 0
+IsNumbered es count numbers =
+    (nodes : ℕ) × AreBetween nodes es × HasNoBuildInside es × IsNumbering nodes es count numbers
+
+-- by how much the first node of the edge has to stand above the second one
+abbrev pub step_of : Edge → ℕ
+step_of e = if e.builds then 1 else 0
+
+-- the level that the edge asks for, over these levels
+abbrev pub asked : List ℕ → List ℕ → Option Edge → ℕ
+asked numbers levels None = 0
+asked numbers levels (Some e) = slice_index levels (slice_index numbers e.to) + step_of e

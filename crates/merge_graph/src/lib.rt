@@ -6,6 +6,7 @@ mod checks;
 mod components;
 mod cycle;
 mod edge;
+mod leveling;
 mod numbering;
 mod places;
 mod ordering;
@@ -16,5 +17,6 @@ mod ways;
 
 pub use waiting::after;
 pub use edge::Edge;
+pub use leveling::levels;
 pub use numbering::{Numbering, number};
 pub use places::rows;
