@@ -1,7 +1,9 @@
 -- Levels: how far a component has to stand behind those that it builds on.
-use Rattle.std.specs.Prelude.{◌≡◌, ◌+◌, ◌<◌, ◌≤◌, ℕ, List, None, Option, Some, slice_index, length, if◌then◌else◌}
+use Rattle.std.specs.Prelude.{◌≡◌, ◌+◌, ◌<◌, ◌≤◌, ◌↔◌, ℕ, List, [], None, Option, Some, get_or, slice_index, length, if◌then◌else◌}
+use Rattle.basics.specs.Members.{Has}
 use Rattle.merge_graph.specs.Edges.{AreBetween, Builds, Goes}
 use Rattle.merge_graph.specs.Numbering.{HasNoBuildInside, IsNumbering}
+use Rattle.merge_graph.specs.Rows.{AreRising}
 use Rattle.merge_graph.specs.declared.edge.Edge.{Edge}
 
 -- the level of each of so many components is at least 1, at least that of what it waits for, and
@@ -33,3 +35,14 @@ step_of e = if e.builds then 1 else 0
 abbrev pub asked : List ℕ → List ℕ → Option Edge → ℕ
 asked numbers levels None = 0
 asked numbers levels (Some e) = slice_index levels (slice_index numbers e.to) + step_of e
+
+-- The nodes by level: those of each level from 1 on, rising. Each level has some, and each node is
+-- among them.
+pub record AreLevelRows (es : List Edge) (numbers : List ℕ) (count : ℕ) (rows : List (List ℕ)) : Type 0 where
+  pub levels : List ℕ
+  pub are_levels : AreLevels es numbers count levels
+  pub rising : (k : ℕ) → k < length rows → AreRising (get_or rows k [])
+  pub members : (k : ℕ) → k < length rows → (x : ℕ) → Has (get_or rows k []) x
+      ↔ ((x < length numbers) × (slice_index levels (slice_index numbers x) ≡ k + 1))
+  pub all : (x : ℕ) → x < length numbers → slice_index levels (slice_index numbers x) ≤ length rows
+  pub no_gap : (k : ℕ) → k < length rows → (x : ℕ) × Has (get_or rows k []) x

@@ -1,6 +1,6 @@
-ghost use Rattle.std.specs.Prelude.{◌≡◌, ◌⊎◌, ◌<◌, ◌≤◌, ◌^◌, ℕ, IfOk, map, slice_get, slice_index};
+ghost use Rattle.std.specs.Prelude.{◌≡◌, ◌⊎◌, ◌-◌, ◌<◌, ◌≤◌, ◌^◌, ℕ, IfOk, length, map, slice_get, slice_index};
 ghost use Rattle.basics.specs.Members.{Has};
-ghost use Rattle.merge_graph.specs.Levels.{AreLevels, IsNumbered, asked};
+ghost use Rattle.merge_graph.specs.Levels.{AreLevelRows, AreLevels, IsNumbered, asked};
 
 use crate::edge::Edge;
 use crate::places::{row_at, rows};
@@ -27,6 +27,50 @@ pub fn levels(
         levels.push(level)?;
     }
     Ok(levels)
+}
+
+/// The nodes by level, those of level 1 first. Levels have no gaps.
+pub fn level_rows(
+    alloc: Global,
+    numbers: &[usize],
+    count: usize,
+    edges: &[Edge],
+) -> Result<Vec<Vec<usize>>, AllocError>
+    requires { IsNumbered edges.now count numbers.now }
+    ensures { IfOk result
+        (λ v. AreLevelRows edges.now numbers.now count (map (λ r. r.items) v.items)) }
+{
+    let levels = levels(alloc, numbers, count, edges)?;
+    let places = row_numbers(alloc, numbers, &levels)?;
+    let rows = rows(alloc, &places, highest(&levels))?;
+    Ok(rows)
+}
+
+/// For each node the number of the row of its level.
+fn row_numbers(
+    alloc: Global,
+    numbers: &[usize],
+    levels: &[usize],
+) -> Result<Vec<usize>, AllocError>
+    ensures { IfOk result (λ v. v.items ≡ map (λ k. slice_index levels.now k - 1) numbers.now) }
+{
+    let mut places = Vec::new(alloc);
+    for number in numbers {
+        places.push(number_at(levels, *number).saturating_sub(1))?;
+    }
+    Ok(places)
+}
+
+fn highest(levels: &[usize]) -> usize
+    ensures above { (k : ℕ) → slice_index levels.now k ≤ result }
+    ensures found { 0 < result → (k : ℕ) × (k < length levels.now)
+        × (slice_index levels.now k ≡ result) }
+{
+    let mut highest = 0;
+    for level in levels {
+        highest = higher(highest, *level);
+    }
+    highest
 }
 
 /// The least level that the edges at these places allow, over levels of what they go to.

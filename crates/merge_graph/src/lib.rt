@@ -17,6 +17,6 @@ mod ways;
 
 pub use waiting::after;
 pub use edge::Edge;
-pub use leveling::levels;
+pub use leveling::{level_rows, levels};
 pub use numbering::{Numbering, number};
 pub use places::rows;
