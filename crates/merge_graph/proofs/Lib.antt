@@ -1,5 +1,6 @@
 pub mod Building
 pub mod Checking
+pub mod Closing
 pub mod Gapless
 pub mod Leveled
 pub mod RowLemmas

@@ -3,6 +3,7 @@
 
 mod certify;
 mod checks;
+mod closure;
 mod components;
 mod cycle;
 mod edge;
