@@ -1,7 +1,10 @@
 pub mod Building
 pub mod Checking
 pub mod Closing
+pub mod Counted
 pub mod Gapless
+pub mod GivenBelow
+pub mod Greedy
 pub mod Leveled
 pub mod RowLemmas
 pub mod Sweeping

@@ -6,6 +6,7 @@ ghost use Rattle.merge_graph.specs.Edges.{AreBetween, turned};
 use crate::checks::{all_fall, are_reached, have_firsts, have_numbers, opened};
 use crate::components::label_nodes;
 use crate::edge::Edge;
+use crate::giving::give_all;
 use crate::ordering::{Guess, put_in_order};
 use crate::places::rows;
 use crate::sweep::are_first;
@@ -26,7 +27,8 @@ pub(crate) fn certified(
     if are_numbers(alloc, nodes, edges, &guess.numbers, &guess.firsts)? {
         return Ok(guess);
     }
-    Err(AllocError)
+    let slow = give_all(alloc, nodes, edges)?;
+    Ok(slow)
 }
 
 fn guess(alloc: Global, nodes: usize, edges: &[Edge]) -> Result<Guess, AllocError> {

@@ -7,6 +7,7 @@ mod closure;
 mod components;
 mod cycle;
 mod edge;
+mod giving;
 mod leveling;
 mod numbering;
 mod places;
