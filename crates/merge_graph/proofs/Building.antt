@@ -46,8 +46,7 @@ module _ (numbers firsts : List ℕ) (es : List Edge) (i : ℕ) (d : Edge) (less
     ],
   )
   inside_more (Some x) is inside =
-      let new = first_of numbers firsts (get_or es i d).from in
-      (
+      let new = first_of numbers firsts (get_or es i d).from in (
         elim (min_cases x new) as (λ _. (e : Edge) × Has (take (i + 1) es) e × IsInside numbers e × (first_of numbers firsts e.from ≡ min x new)) [
           | inl old ↦ (is.0.0, has_before es i d is.0.0 less is.0.1, is.0.2, is.0.3 ∙ sym old)
           | inr fresh ↦ (get_or es i d, has_last es i d less, inside, sym fresh)
@@ -119,9 +118,9 @@ module _ (nodes : ℕ) (es : List Edge) (numbers firsts : List ℕ) (within : Ar
         rising = places_rise numbers (slice_index numbers x);
         members = λ y. (
           (λ has.
-          let held = place_holds numbers (slice_index numbers x) y has in
-          let y_in : y < nodes = omega (arith, held.0, long) in
-          (y_in, (are.numbering.components x y x_in y_in).1 (sym held.1))),
+              let held = place_holds numbers (slice_index numbers x) y has in
+              let y_in : y < nodes = omega (arith, held.0, long) in
+              (y_in, (are.numbering.components x y x_in y_in).1 (sym held.1))),
           (λ both. has_place numbers (slice_index numbers x) y (omega (arith, both.0, long)) (sym ((are.numbering.components x y x_in both.0).0 both.1))),
         );
       }

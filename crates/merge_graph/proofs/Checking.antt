@@ -81,13 +81,13 @@ inside_reached numbers firsts es e has same r =
 pub raised : (opened : List ℕ) (from to v : ℕ) → v ≤ to + 1 → (bound : ℕ) → to < bound → slice_index opened from ≤ bound → slice_index (set opened from v) from ≤ bound
 raised opened from to v high bound below before = elim (cases_lt from (length opened)) [
   | inl within ↦ (
-    let at : slice_index (set opened from v) from ≡ v = get_or-set_same opened from v 0 within in
-    omega (arith, at, below, high)
-  )
+      let at : slice_index (set opened from v) from ≡ v = get_or-set_same opened from v 0 within in
+      omega (arith, at, below, high)
+      )
   | inr past ↦ (
-    let at : slice_index (set opened from v) from ≡ slice_index opened from = ap (λ (l : List ℕ). slice_index l from) (set_past opened from v past) in
-    omega (arith, at, before)
-  )
+      let at : slice_index (set opened from v) from ≡ slice_index opened from = ap (λ (l : List ℕ). slice_index l from) (set_past opened from v past) in
+      omega (arith, at, before)
+      )
 ]
 
 -- one edge more that opens a number
@@ -100,9 +100,9 @@ opened_more numbers es i d old new from to less are is_from is_to others high k 
     let before : slice_index old k ≤ bound = are k bound (λ f h. waits f (has_before es i d f less h)) in
     elim (cases_eq k from) [
       | inl same ↦ subst (λ (n : ℕ). slice_index new n ≤ bound) (sym same)
-        (high bound
-        (λ apart. subst (λ (n : ℕ). n < bound) (sym is_to) (waits (get_or es i d) (has_last es i d less) (sym is_from ∙ sym same) (λ t. apart (sym same ∙ (sym t ∙ sym is_to)))))
-        (subst (λ (n : ℕ). slice_index old n ≤ bound) same before))
+          (high bound
+          (λ apart. subst (λ (n : ℕ). n < bound) (sym is_to) (waits (get_or es i d) (has_last es i d less) (sym is_from ∙ sym same) (λ t. apart (sym same ∙ (sym t ∙ sym is_to)))))
+          (subst (λ (n : ℕ). slice_index old n ≤ bound) same before))
       | inr other ↦ subst (λ (n : ℕ). n ≤ bound) (sym (others k other)) before
     ]
 

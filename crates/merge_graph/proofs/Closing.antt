@@ -51,14 +51,14 @@ along es fs e each {y = z} (goes g r) = elim (each g.0 g.1) [
     | inr both ↦ inr (goes (g.0, old, g.2, g.3) both.0, both.1)
   ])
   | inr new ↦ (
-    let from = ap (λ (f : Edge). f.from) new ∙ g.2 in
-    let to = ap (λ (f : Edge). f.to) new ∙ g.3 in
-    let start = subst (λ (n : ℕ). Reaches es n e.from) from stays in
-    elim (along es fs e each r) [
-      | inl later ↦ inr (start, subst (λ (n : ℕ). Reaches es n z) (sym to) later)
-      | inr both ↦ inr (start, both.1)
-    ]
-  )
+      let from = ap (λ (f : Edge). f.from) new ∙ g.2 in
+      let to = ap (λ (f : Edge). f.to) new ∙ g.3 in
+      let start = subst (λ (n : ℕ). Reaches es n e.from) from stays in
+      elim (along es fs e each r) [
+        | inl later ↦ inr (start, subst (λ (n : ℕ). Reaches es n z) (sym to) later)
+        | inr both ↦ inr (start, both.1)
+      ]
+      )
 ]
 
 nowhere : {x y : ℕ} → Reaches [] x y → x ≡ y
@@ -89,18 +89,18 @@ closed_more nodes es i d from to old read new within less is_from is_to was same
       sound = λ x y x_in y_in on. elim (or_cases (reached old x y) (reached old x from && reached old to y) (sym ((is.row x x_in).is y y_in) ∙ on)) [
         | inl before ↦ wider (take i es) (take (i + 1) es) more (was.sound x y x_in y_in before)
         | inr both ↦ (
-          let parts = and_parts (reached old x from) (reached old to y) both in
-          let first = wider (take i es) (take (i + 1) es) more (was.sound x from x_in from_in parts.0) in
-          let second = wider (take i es) (take (i + 1) es) more (was.sound to y to_in y_in parts.1) in
-          joined (take (i + 1) es) first (goes step second)
-        )
+            let parts = and_parts (reached old x from) (reached old to y) both in
+            let first = wider (take i es) (take (i + 1) es) more (was.sound x from x_in from_in parts.0) in
+            let second = wider (take i es) (take (i + 1) es) more (was.sound to y to_in y_in parts.1) in
+            joined (take (i + 1) es) first (goes step second)
+            )
       ];
       complete = λ x y x_in y_in r. (is.row x x_in).is y y_in ∙ elim (along (take i es) (take (i + 1) es) e (λ f h. has_more es i d f less h) r) [
         | inl before ↦ or_left (reached old x y) (reached old x from && reached old to y) (was.complete x y x_in y_in before)
         | inr both ↦ or_right (reached old x y) (reached old x from && reached old to y)
-          (and_from (reached old x from) (reached old to y)
-          (was.complete x from x_in from_in (subst (λ (n : ℕ). Reaches (take i es) x n) (sym is_from) both.0))
-          (was.complete to y to_in y_in (subst (λ (n : ℕ). Reaches (take i es) n y) (sym is_to) both.1)))
+            (and_from (reached old x from) (reached old to y)
+            (was.complete x from x_in from_in (subst (λ (n : ℕ). Reaches (take i es) x n) (sym is_from) both.0))
+            (was.complete to y to_in y_in (subst (λ (n : ℕ). Reaches (take i es) n y) (sym is_to) both.1)))
       ];
     }
 

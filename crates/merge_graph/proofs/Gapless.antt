@@ -36,9 +36,9 @@ greatest_more levels i old new less is above_old above_one either = record {
 pub greatest_above : (levels : List ℕ) (i high : ℕ) → length levels ≤ i → IsGreatest (take i levels) high → (k : ℕ) → slice_index levels k ≤ high
 greatest_above levels i high past is k = elim (cases_lt k (length levels)) [
   | inl within ↦ (
-    let all : IsGreatest levels high = subst (λ (l : List ℕ). IsGreatest l high) (take_all i levels past) is in
-    all.above (slice_index levels k) (has-from_contains levels (slice_index levels k) (k, within, get_or_default levels k _ 0 within))
-  )
+      let all : IsGreatest levels high = subst (λ (l : List ℕ). IsGreatest l high) (take_all i levels past) is in
+      all.above (slice_index levels k) (has-from_contains levels (slice_index levels k) (k, within, get_or_default levels k _ 0 within))
+      )
   | inr over ↦ (let none : slice_index levels k ≡ 0 = get_or_past levels k 0 over in omega (arith, none))
 ]
 
@@ -119,7 +119,7 @@ module _ (es : List Edge) (numbers : List ℕ) (count : ℕ) (given : IsNumbered
       ((λ e. omega (arith, at, least, e)), (λ e. omega (arith, at, e)))
 
   module _ (high : ℕ) (rows : List (List ℕ)) (rows_are : AreRows (map (λ j. slice_index levels j - 1) numbers) high rows) (above : (k : ℕ) → slice_index levels k ≤ high)
-    (found : 0 < high → (k : ℕ) × (k < length levels) × (slice_index levels k ≡ high)) where
+      (found : 0 < high → (k : ℕ) × (k < length levels) × (slice_index levels k ≡ high)) where
     long : length (map (λ j. slice_index levels j - 1) numbers) ≡ length numbers
     long = length-map numbers (λ j. slice_index levels j - 1)
 

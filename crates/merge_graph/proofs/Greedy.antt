@@ -158,25 +158,25 @@ module _ (nodes : ℕ) (es : List Edge) (within : AreBetween nodes es) (rows : L
       elim (and_cases (is_none (given_to given x)) (list_all (lets_come rows given x) es) stuck) [
         | inl some ↦ absurd (false≢true (sym some ∙ ap is_none is))
         | inr not_all ↦ (
-          let f = all_not (lets_come rows given x) es not_all in
-          let e = f.0 in
-          let ends = between nodes es within e f.1 in
-          let parts = or_parts (not (in_one rows x e.from)) (in_one rows x e.to || is_some (given_to given e.to)) f.2 in
-          let more = or_parts (in_one rows x e.to) (is_some (given_to given e.to)) parts.1 in
-          let mine : AreTogether es x e.from = elim (cases_Bool (in_one rows x e.from)) [
-            | inl on ↦ tog x e.from x_in ends.0 on
-            | inr off ↦ absurd (false≢true (sym parts.0 ∙ not_from_false (in_one rows x e.from) off))
-          ] in
-          let out : AreTogether es x e.to → ⊥ = λ t. false≢true (sym more.0 ∙ in_from x e.to x_in ends.1 t) in
-          let less_there = fewer x e x_in f.1 mine out in
-          let later = all_given given long none fuel e.to ends.1 (omega (arith, less, less_there)) (given_to given e.to) refl in
-          absurd (none_some (given_to given e.to) later.0 (none_if (given_to given e.to) more.1) later.1)
-        )
+            let f = all_not (lets_come rows given x) es not_all in
+            let e = f.0 in
+            let ends = between nodes es within e f.1 in
+            let parts = or_parts (not (in_one rows x e.from)) (in_one rows x e.to || is_some (given_to given e.to)) f.2 in
+            let more = or_parts (in_one rows x e.to) (is_some (given_to given e.to)) parts.1 in
+            let mine : AreTogether es x e.from = elim (cases_Bool (in_one rows x e.from)) [
+              | inl on ↦ tog x e.from x_in ends.0 on
+              | inr off ↦ absurd (false≢true (sym parts.0 ∙ not_from_false (in_one rows x e.from) off))
+            ] in
+            let out : AreTogether es x e.to → ⊥ = λ t. false≢true (sym more.0 ∙ in_from x e.to x_in ends.1 t) in
+            let less_there = fewer x e x_in f.1 mine out in
+            let later = all_given given long none fuel e.to ends.1 (omega (arith, less, less_there)) (given_to given e.to) refl in
+            absurd (none_some (given_to given e.to) later.0 (none_if (given_to given e.to) more.1) later.1)
+            )
       ]
 
   module _ (old new : List (Option ℕ)) (firsts : List ℕ) (first : ℕ) (was : AreGiven nodes es old firsts) (first_in : first < length old) (comes : may_come rows es old first ≡ true)
-    (leasts : (y : ℕ) → y < first → may_come rows es old y ≡ false) (long : length new ≡ length old)
-    (gives : (y : ℕ) → y < length old → given_to new y ≡ cond (in_one rows first y) (Some (length firsts)) (given_to old y)) where
+      (leasts : (y : ℕ) → y < first → may_come rows es old y ≡ false) (long : length new ≡ length old)
+      (gives : (y : ℕ) → y < length old → given_to new y ≡ cond (in_one rows first y) (Some (length firsts)) (given_to old y)) where
     node_in : first < nodes
     node_in = omega (arith, first_in, was.all)
 
@@ -219,13 +219,13 @@ module _ (nodes : ℕ) (es : List Edge) (within : AreBetween nodes es) (rows : L
     not_before : (x : ℕ) → x < nodes → AreTogether es first x → first ≤ x
     not_before x x_in t = elim (cases_lt x first) [
       | inl less ↦ (
-        let ready : ReadyNow es old x = λ y z u g.
-        elim (ready_from old first node_in comes y z (link es first x y t u) g) [
-          | inl inside ↦ inl (link es x first z (turn es first x t) inside)
-          | inr some ↦ inr some
-        ] in
-        absurd (false≢true (sym (leasts x less) ∙ may_from old x x_in (old_none x x_in t) ready))
-      )
+          let ready : ReadyNow es old x = λ y z u g.
+          elim (ready_from old first node_in comes y z (link es first x y t u) g) [
+            | inl inside ↦ inl (link es x first z (turn es first x t) inside)
+            | inr some ↦ inr some
+          ] in
+          absurd (false≢true (sym (leasts x less) ∙ may_from old x x_in (old_none x x_in t) ready))
+          )
       | inr from ↦ from
     ]
 
@@ -245,30 +245,30 @@ module _ (nodes : ℕ) (es : List Edge) (within : AreBetween nodes es) (rows : L
           ];
           first = λ j less. elim (cases_order j k) [
             | inl now ↦ (
-              let at : slice_index (firsts ++ first ∷ []) j ≡ first = ap (slice_index (firsts ++ first ∷ [])) now ∙ first_new in
-              (subst (λ (n : ℕ). n < nodes) (sym at) node_in, ap (given_to new) at ∙ (new_in first node_in (stays, stays) ∙ ap Some (sym now)))
-            )
+                let at : slice_index (firsts ++ first ∷ []) j ≡ first = ap (slice_index (firsts ++ first ∷ [])) now ∙ first_new in
+                (subst (λ (n : ℕ). n < nodes) (sym at) node_in, ap (given_to new) at ∙ (new_in first node_in (stays, stays) ∙ ap Some (sym now)))
+                )
             | inr (inl prior) ↦ (
-              let f = was.first j prior in
-              let at = first_old j prior in
-              (subst (λ (n : ℕ). n < nodes) (sym at) f.0, ap (given_to new) at ∙ still (slice_index firsts j) j f.0 f.1)
-            )
+                let f = was.first j prior in
+                let at = first_old j prior in
+                (subst (λ (n : ℕ). n < nodes) (sym at) f.0, ap (given_to new) at ∙ still (slice_index firsts j) j f.0 f.1)
+                )
             | inr (inr after) ↦ absurd (omega (arith, less, more, after))
           ];
           known = λ x j x_in some. elim (cases_in x x_in) [
             | inl in_x ↦ (
-              let now : j ≡ k = some_one j k (sym some ∙ new_in x x_in in_x) in
-              let at : slice_index (firsts ++ first ∷ []) j ≡ first = ap (slice_index (firsts ++ first ∷ [])) now ∙ first_new in
-              let low = not_before x x_in in_x in
-              let less : j < length (firsts ++ first ∷ []) = omega (arith, now, more) in
-              (less, subst (λ (n : ℕ). AreTogether es n x) (sym at) in_x, subst (λ (n : ℕ). n ≤ x) (sym at) low)
-            )
+                let now : j ≡ k = some_one j k (sym some ∙ new_in x x_in in_x) in
+                let at : slice_index (firsts ++ first ∷ []) j ≡ first = ap (slice_index (firsts ++ first ∷ [])) now ∙ first_new in
+                let low = not_before x x_in in_x in
+                let less : j < length (firsts ++ first ∷ []) = omega (arith, now, more) in
+                (less, subst (λ (n : ℕ). AreTogether es n x) (sym at) in_x, subst (λ (n : ℕ). n ≤ x) (sym at) low)
+                )
             | inr out_x ↦ (
-              let w = was.known x j x_in (sym out_x.1 ∙ some) in
-              let at = first_old j w.0 in
-              let less : j < length (firsts ++ first ∷ []) = omega (arith, w.0, more) in
-              (less, subst (λ (n : ℕ). AreTogether es n x) (sym at) w.1, subst (λ (n : ℕ). n ≤ x) (sym at) w.2)
-            )
+                let w = was.known x j x_in (sym out_x.1 ∙ some) in
+                let at = first_old j w.0 in
+                let less : j < length (firsts ++ first ∷ []) = omega (arith, w.0, more) in
+                (less, subst (λ (n : ℕ). AreTogether es n x) (sym at) w.1, subst (λ (n : ℕ). n ≤ x) (sym at) w.2)
+                )
           ];
           falls = λ x y j g some.
               (let ends = between nodes es within g.0 g.1 in
@@ -276,60 +276,60 @@ module _ (nodes : ℕ) (es : List Edge) (within : AreBetween nodes es) (rows : L
               let y_in : y < nodes = subst (λ (n : ℕ). n < nodes) g.3 ends.1 in
               elim (cases_in x x_in) [
                 | inl in_x ↦ (
-                  let now : j ≡ k = some_one j k (sym some ∙ new_in x x_in in_x) in
-                  elim (ready_from old first node_in comes x y in_x g) [
-                    | inl inside ↦ (let le : k ≤ j = omega (arith, now) in (k, new_in y y_in inside, le))
-                    | inr has ↦ (let w = was.known y has.0 y_in has.1 in let le : has.0 ≤ j = omega (arith, w.0, now) in (has.0, still y has.0 y_in has.1, le))
-                  ]
-                )
+                    let now : j ≡ k = some_one j k (sym some ∙ new_in x x_in in_x) in
+                    elim (ready_from old first node_in comes x y in_x g) [
+                      | inl inside ↦ (let le : k ≤ j = omega (arith, now) in (k, new_in y y_in inside, le))
+                      | inr has ↦ (let w = was.known y has.0 y_in has.1 in let le : has.0 ≤ j = omega (arith, w.0, now) in (has.0, still y has.0 y_in has.1, le))
+                    ]
+                    )
                 | inr out_x ↦ (let f = was.falls x y j g (sym out_x.1 ∙ some) in (f.0, still y f.0 y_in f.1, f.2))
               ]);
           least = λ x j x_in less later ready. elim (cases_order j k) [
             | inl now ↦ (
-              let at : slice_index (firsts ++ first ∷ []) j ≡ first = ap (slice_index (firsts ++ first ∷ [])) now ∙ first_new in
-              elim (cases_in x x_in) [
-                | inl in_x ↦ (elim later [
-                  | inl none ↦ absurd (none_some (given_to new x) k none (new_in x x_in in_x))
-                  | inr past ↦ absurd (let e = some_one past.0 k (sym past.1 ∙ new_in x x_in in_x) in omega (arith, e, past.2, now))
-                ])
-                | inr out_x ↦ (
-                  let none : given_to old x ≡ None = elim later [
-                    | inl empty ↦ sym out_x.1 ∙ empty
-                    | inr past ↦ absurd (let w = was.known x past.0 x_in (sym out_x.1 ∙ past.1) in omega (arith, w.0, past.2, now))
-                  ] in
-                  let ready_now : ReadyNow es old x = λ y z t g.
-                  (let ends = between nodes es within g.0 g.1 in
-                  let z_in : z < nodes = subst (λ (n : ℕ). n < nodes) g.3 ends.1 in
-                  elim (ready y z t g) [
-                    | inl inside ↦ inl inside
-                    | inr some ↦ inr (some.0, before z some.0 z_in some.1 (omega (arith, some.2, now)))
-                  ]) in
-                  let may = may_from old x x_in none ready_now in
-                  let apart : x ≢ first = λ e. out_x.0 (subst (λ (n : ℕ). AreTogether es first n) (sym e) (stays, stays)) in
-                  subst (λ (n : ℕ). n < x) (sym at) (elim (cases_lt x first) [
-                    | inl low ↦ absurd (false≢true (sym (leasts x low) ∙ may))
-                    | inr from ↦ omega (arith, from, apart)
+                let at : slice_index (firsts ++ first ∷ []) j ≡ first = ap (slice_index (firsts ++ first ∷ [])) now ∙ first_new in
+                elim (cases_in x x_in) [
+                  | inl in_x ↦ (elim later [
+                    | inl none ↦ absurd (none_some (given_to new x) k none (new_in x x_in in_x))
+                    | inr past ↦ absurd (let e = some_one past.0 k (sym past.1 ∙ new_in x x_in in_x) in omega (arith, e, past.2, now))
                   ])
+                  | inr out_x ↦ (
+                      let none : given_to old x ≡ None = elim later [
+                        | inl empty ↦ sym out_x.1 ∙ empty
+                        | inr past ↦ absurd (let w = was.known x past.0 x_in (sym out_x.1 ∙ past.1) in omega (arith, w.0, past.2, now))
+                      ] in
+                      let ready_now : ReadyNow es old x = λ y z t g.
+                      (let ends = between nodes es within g.0 g.1 in
+                      let z_in : z < nodes = subst (λ (n : ℕ). n < nodes) g.3 ends.1 in
+                      elim (ready y z t g) [
+                        | inl inside ↦ inl inside
+                        | inr some ↦ inr (some.0, before z some.0 z_in some.1 (omega (arith, some.2, now)))
+                      ]) in
+                      let may = may_from old x x_in none ready_now in
+                      let apart : x ≢ first = λ e. out_x.0 (subst (λ (n : ℕ). AreTogether es first n) (sym e) (stays, stays)) in
+                      subst (λ (n : ℕ). n < x) (sym at) (elim (cases_lt x first) [
+                        | inl low ↦ absurd (false≢true (sym (leasts x low) ∙ may))
+                        | inr from ↦ omega (arith, from, apart)
+                      ])
+                      )
+                ]
                 )
-              ]
-            )
             | inr (inl prior) ↦ (
-              let later_old : IsLater j (given_to old x) = elim (cases_in x x_in) [
-                | inl in_x ↦ inl (old_none x x_in in_x)
-                | inr out_x ↦ (elim later [
-                  | inl none ↦ inl (sym out_x.1 ∙ none)
-                  | inr past ↦ inr (past.0, sym out_x.1 ∙ past.1, past.2)
-                ])
-              ] in
-              let ready_old : ReadyAt es old j x = λ y z t g.
-              (let ends = between nodes es within g.0 g.1 in
-              let z_in : z < nodes = subst (λ (n : ℕ). n < nodes) g.3 ends.1 in
-              elim (ready y z t g) [
-                | inl inside ↦ inl inside
-                | inr some ↦ inr (some.0, before z some.0 z_in some.1 (omega (arith, some.2, prior)), some.2)
-              ]) in
-              subst (λ (n : ℕ). n < x) (sym (first_old j prior)) (was.least x j x_in prior later_old ready_old)
-            )
+                let later_old : IsLater j (given_to old x) = elim (cases_in x x_in) [
+                  | inl in_x ↦ inl (old_none x x_in in_x)
+                  | inr out_x ↦ (elim later [
+                    | inl none ↦ inl (sym out_x.1 ∙ none)
+                    | inr past ↦ inr (past.0, sym out_x.1 ∙ past.1, past.2)
+                  ])
+                ] in
+                let ready_old : ReadyAt es old j x = λ y z t g.
+                (let ends = between nodes es within g.0 g.1 in
+                let z_in : z < nodes = subst (λ (n : ℕ). n < nodes) g.3 ends.1 in
+                elim (ready y z t g) [
+                  | inl inside ↦ inl inside
+                  | inr some ↦ inr (some.0, before z some.0 z_in some.1 (omega (arith, some.2, prior)), some.2)
+                ]) in
+                subst (λ (n : ℕ). n < x) (sym (first_old j prior)) (was.least x j x_in prior later_old ready_old)
+                )
             | inr (inr after) ↦ absurd (omega (arith, less, more, after))
           ];
         }
@@ -362,9 +362,9 @@ module _ (nodes : ℕ) (es : List Edge) (within : AreBetween nodes es) (rows : L
           components = λ x y x_in y_in. (
             (λ t. some_one (slice_index numbers x) (slice_index numbers y) (sym (number x x_in) ∙ (are.same x y x_in y_in t ∙ number y y_in))),
             (λ same.
-            let a = (are.known x (slice_index numbers x) x_in (number x x_in)).1 in
-            let b = (are.known y (slice_index numbers y) y_in (number y y_in)).1 in
-            link es x (slice_index firsts (slice_index numbers x)) y (turn es (slice_index firsts (slice_index numbers x)) x a) (subst (λ (n : ℕ). AreTogether es (slice_index firsts n) y) (sym same) b)),
+                let a = (are.known x (slice_index numbers x) x_in (number x x_in)).1 in
+                let b = (are.known y (slice_index numbers y) y_in (number y y_in)).1 in
+                link es x (slice_index firsts (slice_index numbers x)) y (turn es (slice_index firsts (slice_index numbers x)) x a) (subst (λ (n : ℕ). AreTogether es (slice_index firsts n) y) (sym same) b)),
           );
           falls = λ x y g.
               (let ends = between nodes es within g.0 g.1 in

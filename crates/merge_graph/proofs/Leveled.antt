@@ -85,10 +85,10 @@ module _ (es : List Edge) (numbers : List ℕ) (count : ℕ) (given : IsNumbered
     least = λ k less. omega arith;
     waits = λ x y g. (let f = given.3.falls x y g in omega (arith, f));
     builds = λ x y b. (
-    let f = falls_more b.0 b.1 b.2 in
-    let from : slice_index numbers b.0.from ≡ slice_index numbers x = ap (slice_index numbers) b.3 in
-    let to : slice_index numbers b.0.to ≡ slice_index numbers y = ap (slice_index numbers) b.4 in
-    omega (arith, f, from, to));
+        let f = falls_more b.0 b.1 b.2 in
+        let from : slice_index numbers b.0.from ≡ slice_index numbers x = ap (slice_index numbers) b.3 in
+        let to : slice_index numbers b.0.to ≡ slice_index numbers y = ap (slice_index numbers) b.4 in
+        omega (arith, f, from, to));
   }
 
   module _ (n : ℕ) (levels : List ℕ) (less : n < count) (are : AreSoFar es numbers count n levels) where
@@ -102,9 +102,9 @@ module _ (es : List Edge) (numbers : List ℕ) (count : ℕ) (given : IsNumbered
         elim (cases_lt to n) [
           | inl below ↦ (let low = are.lowest level high to below in omega (arith, low, asks_e, at_n))
           | inr past ↦ (
-            let none : slice_index levels to ≡ 0 = get_or_past levels to 0 (omega (arith, past, are.all)) in
-            omega (arith, none, asks_e, at_n)
-          )
+              let none : slice_index levels to ≡ 0 = get_or_past levels to 0 (omega (arith, past, are.all)) in
+              omega (arith, none, asks_e, at_n)
+              )
         ]
 
     asked_edge : (level : ℕ → ℕ) → AreHigh es numbers count level → (i : ℕ) → Has (places_of (map (λ e. slice_index numbers e.from) es) n) i → (o : Option Edge) → slice_get es i ≡ o → asked numbers levels o ≤ level n
@@ -144,40 +144,40 @@ module _ (es : List Edge) (numbers : List ℕ) (count : ℕ) (given : IsNumbered
               let down = falls e h in
               elim (cases_order from n) [
                 | inl same ↦ (
-                  let r = has_slice es e h in
-                  let at = slice_get_map (λ (f : Edge). slice_index numbers f.from) es r.0 e r.1 in
-                  let has = has_place (map (λ (f : Edge). slice_index numbers f.from) es) n r.0 at.0 (at.1 ∙ same) in
-                  let each : asked numbers levels (Some e) ≤ level = subst (λ (o : Option Edge). asked numbers levels o ≤ level) r.1 (highest.each r.0 has) in
-                  let at_from : slice_index new from ≡ level = ap (slice_index new) same ∙ here in
-                  elim (cases_lt to n) [
-                    | inl before ↦ (let at_to = before_same level to before in omega (arith, each, at_from, at_to))
-                    | inr past ↦ (
-                      let to_same : to ≡ n = omega (arith, past, down, same) in
-                      let at_to : slice_index new to ≡ level = ap (slice_index new) to_same ∙ here in
-                      elim (cases_Bool e.builds) [
-                        | inl on ↦ absurd (let f = falls_more e h on in omega (arith, f, to_same, same))
-                        | inr off ↦ (let s = step_waited e off in omega (arith, s, at_from, at_to))
-                      ]
+                    let r = has_slice es e h in
+                    let at = slice_get_map (λ (f : Edge). slice_index numbers f.from) es r.0 e r.1 in
+                    let has = has_place (map (λ (f : Edge). slice_index numbers f.from) es) n r.0 at.0 (at.1 ∙ same) in
+                    let each : asked numbers levels (Some e) ≤ level = subst (λ (o : Option Edge). asked numbers levels o ≤ level) r.1 (highest.each r.0 has) in
+                    let at_from : slice_index new from ≡ level = ap (slice_index new) same ∙ here in
+                    elim (cases_lt to n) [
+                      | inl before ↦ (let at_to = before_same level to before in omega (arith, each, at_from, at_to))
+                      | inr past ↦ (
+                          let to_same : to ≡ n = omega (arith, past, down, same) in
+                          let at_to : slice_index new to ≡ level = ap (slice_index new) to_same ∙ here in
+                          elim (cases_Bool e.builds) [
+                            | inl on ↦ absurd (let f = falls_more e h on in omega (arith, f, to_same, same))
+                            | inr off ↦ (let s = step_waited e off in omega (arith, s, at_from, at_to))
+                          ]
+                          )
+                    ]
                     )
-                  ]
-                )
                 | inr (inl before) ↦ (
-                  let at_from = before_same level from before in
-                  let at_to = before_same level to (omega (arith, before, down)) in
-                  let old = are.high e h before in
-                  omega (arith, at_from, at_to, old)
-                )
+                    let at_from = before_same level from before in
+                    let at_to = before_same level to (omega (arith, before, down)) in
+                    let old = are.high e h before in
+                    omega (arith, at_from, at_to, old)
+                    )
                 | inr (inr after) ↦ absurd (omega (arith, below, after))
               ]);
           lowest = λ other high k below. elim (cases_order k n) [
             | inl same ↦ (
-              let at : slice_index new k ≡ level = ap (slice_index new) same ∙ here in
-              let at_other : other k ≡ other n = ap other same in
-              elim highest.found [
-                | inl one ↦ (let l = high.least n less in omega (arith, at, at_other, one, l))
-                | inr f ↦ (let low = asked_edge other high f.0 f.1 (slice_get es f.0) refl in omega (arith, at, at_other, f.2, low))
-              ]
-            )
+                let at : slice_index new k ≡ level = ap (slice_index new) same ∙ here in
+                let at_other : other k ≡ other n = ap other same in
+                elim highest.found [
+                  | inl one ↦ (let l = high.least n less in omega (arith, at, at_other, one, l))
+                  | inr f ↦ (let low = asked_edge other high f.0 f.1 (slice_get es f.0) refl in omega (arith, at, at_other, f.2, low))
+                ]
+                )
             | inr (inl before) ↦ (let at = before_same level k before in let l = are.lowest other high k before in omega (arith, at, l))
             | inr (inr after) ↦ absurd (omega (arith, below, after))
           ];
@@ -193,16 +193,16 @@ module _ (es : List Edge) (numbers : List ℕ) (count : ℕ) (given : IsNumbered
         high = record {
           least = λ k less. are.least k (omega (arith, less, all));
           waits = λ x y g. (
-          let h = are.high g.0 g.1 (in_range g.0 g.1) in
-          let from : slice_index levels (slice_index numbers g.0.from) ≡ slice_index levels (slice_index numbers x) = ap (λ (m : ℕ). slice_index levels (slice_index numbers m)) g.2 in
-          let to : slice_index levels (slice_index numbers g.0.to) ≡ slice_index levels (slice_index numbers y) = ap (λ (m : ℕ). slice_index levels (slice_index numbers m)) g.3 in
-          omega (arith, h, from, to));
+              let h = are.high g.0 g.1 (in_range g.0 g.1) in
+              let from : slice_index levels (slice_index numbers g.0.from) ≡ slice_index levels (slice_index numbers x) = ap (λ (m : ℕ). slice_index levels (slice_index numbers m)) g.2 in
+              let to : slice_index levels (slice_index numbers g.0.to) ≡ slice_index levels (slice_index numbers y) = ap (λ (m : ℕ). slice_index levels (slice_index numbers m)) g.3 in
+              omega (arith, h, from, to));
           builds = λ x y b. (
-          let h = are.high b.0 b.1 (in_range b.0 b.1) in
-          let s = step_built b.0 b.2 in
-          let from : slice_index levels (slice_index numbers b.0.from) ≡ slice_index levels (slice_index numbers x) = ap (λ (m : ℕ). slice_index levels (slice_index numbers m)) b.3 in
-          let to : slice_index levels (slice_index numbers b.0.to) ≡ slice_index levels (slice_index numbers y) = ap (λ (m : ℕ). slice_index levels (slice_index numbers m)) b.4 in
-          omega (arith, h, s, from, to));
+              let h = are.high b.0 b.1 (in_range b.0 b.1) in
+              let s = step_built b.0 b.2 in
+              let from : slice_index levels (slice_index numbers b.0.from) ≡ slice_index levels (slice_index numbers x) = ap (λ (m : ℕ). slice_index levels (slice_index numbers m)) b.3 in
+              let to : slice_index levels (slice_index numbers b.0.to) ≡ slice_index levels (slice_index numbers y) = ap (λ (m : ℕ). slice_index levels (slice_index numbers m)) b.4 in
+              omega (arith, h, s, from, to));
         };
         lowest = λ level high k less. are.lowest level high k (omega (arith, less, all));
       }

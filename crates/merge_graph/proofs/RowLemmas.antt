@@ -52,10 +52,10 @@ rows_more xs count rows i x less is are = record {
   each = length-set rows x (get_or rows x [] ++ i ∷ []) ∙ are.each;
   row = λ k below. elim (cases_eq x k) [
     | inl same ↦ (
-      let within : x < length rows = omega (arith, below, same, are.each) in
-      let at : get_or (with_place rows x i) k [] ≡ get_or rows x [] ++ i ∷ [] = ap (λ (n : ℕ). get_or (with_place rows x i) n []) (sym same) ∙ get_or-set_same rows x (get_or rows x [] ++ i ∷ []) [] within in
-      at ∙ row_with xs (get_or rows x []) i k less (ap (λ (n : ℕ). get_or rows n []) same ∙ are.row k below) (sym is ∙ same)
-    )
+        let within : x < length rows = omega (arith, below, same, are.each) in
+        let at : get_or (with_place rows x i) k [] ≡ get_or rows x [] ++ i ∷ [] = ap (λ (n : ℕ). get_or (with_place rows x i) n []) (sym same) ∙ get_or-set_same rows x (get_or rows x [] ++ i ∷ []) [] within in
+        at ∙ row_with xs (get_or rows x []) i k less (ap (λ (n : ℕ). get_or rows n []) same ∙ are.row k below) (sym is ∙ same)
+        )
     | inr apart ↦ get_or-set_other rows x k (get_or rows x [] ++ i ∷ []) [] (λ e. apart (sym e)) ∙ row_without xs (get_or rows k []) i k less (are.row k below) (λ e. apart (is ∙ e))
   ];
 }
@@ -72,11 +72,11 @@ module _ (k : ℕ) where
   places-back at (y ∷ ys) x h = elim (back_cond (y == k) at (places_from (suc at) ys k) x h) [
     | inl one ↦ (let e : x ≡ at + 0 = omega (arith, one.1) in let less : 0 < suc (length ys) = omega arith in (0, less, e, eqb-true y k one.0))
     | inr more ↦ (
-      let r = places-back (suc at) ys x more in
-      let less : suc r.0 < suc (length ys) = omega (arith, r.1) in
-      let e : x ≡ at + suc r.0 = omega (arith, r.2) in
-      (suc r.0, less, e, r.3)
-    )
+        let r = places-back (suc at) ys x more in
+        let less : suc r.0 < suc (length ys) = omega (arith, r.1) in
+        let e : x ≡ at + suc r.0 = omega (arith, r.2) in
+        (suc r.0, less, e, r.3)
+        )
   ]
 
   first_in : (b : Bool) (at : ℕ) (l : List ℕ) → b ≡ true → Has (cond b (at ∷ l) l) at

@@ -39,12 +39,12 @@ swept_more firsts opened at old added new all apart less swept kept come least o
     record {
       past = λ j k below within behind by. elim (cases_order j at) [
         | inl now ↦ (
-          let behind_at : at < k = omega (arith, now, behind) in
-          let by_at : slice_index opened k ≤ at = omega (arith, now, by) in
-          let from : slice_index firsts at ≤ slice_index firsts k = least (slice_index firsts k) (there k (omega (arith, behind_at)) within by_at) in
-          let differ : slice_index firsts k ≢ slice_index firsts at = other k behind_at within in
-          subst (λ (i : ℕ). slice_index firsts i < slice_index firsts k) (sym now) (omega (arith, from, differ))
-        )
+            let behind_at : at < k = omega (arith, now, behind) in
+            let by_at : slice_index opened k ≤ at = omega (arith, now, by) in
+            let from : slice_index firsts at ≤ slice_index firsts k = least (slice_index firsts k) (there k (omega (arith, behind_at)) within by_at) in
+            let differ : slice_index firsts k ≢ slice_index firsts at = other k behind_at within in
+            subst (λ (i : ℕ). slice_index firsts i < slice_index firsts k) (sym now) (omega (arith, from, differ))
+            )
         | inr (inl before) ↦ swept.past j k before within behind by
         | inr (inr later) ↦ absurd (omega (arith, below, later))
       ];

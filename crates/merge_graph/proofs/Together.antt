@@ -41,7 +41,7 @@ falls_along numbers es fall (goes g r) =
     omega (arith, later, now, from, to)
 
 module _ (nodes : ℕ) (es : List Edge) (numbers firsts : List ℕ) (within : AreBetween nodes es) (each : length numbers ≡ nodes)
-  (have : HaveFirsts numbers firsts) (named : HaveNumbers numbers firsts) (are : AreComponents numbers firsts es) where
+    (have : HaveFirsts numbers firsts) (named : HaveNumbers numbers firsts) (are : AreComponents numbers firsts es) where
   to_first : (x : ℕ) → x < nodes → Reaches es x (first_of numbers firsts x)
   to_first x less = way_back es (are.reaching x (omega (arith, less, each)))
 

@@ -91,10 +91,10 @@ module _ (es : List Edge) (numbers places : List ℕ) (n number i : ℕ) (less :
         complete = λ k f has at other. elim (has_more places n 0 k less has) [
           | inl before ↦ (both (slice_index numbers f.to)).1 (inl (are.complete k f before at other))
           | inr now ↦ (
-            let same : f ≡ e.0 = one_of (slice_get es i) f e.0 (ap (slice_get es) (is_i ∙ now) ∙ at) e.1 in
-            let to_same : to ≡ slice_index numbers f.to = sym (ap (λ (g : Edge). slice_index numbers g.to) same ∙ e.2) in
-            (both (slice_index numbers f.to)).1 (inr (other, to_same))
-          )
+              let same : f ≡ e.0 = one_of (slice_get es i) f e.0 (ap (slice_get es) (is_i ∙ now) ∙ at) e.1 in
+              let to_same : to ≡ slice_index numbers f.to = sym (ap (λ (g : Edge). slice_index numbers g.to) same ∙ e.2) in
+              (both (slice_index numbers f.to)).1 (inr (other, to_same))
+              )
         ];
       }
 
@@ -134,19 +134,19 @@ after_all es numbers places list n number targets past is are rise same =
       rising = rise;
       members = λ j. (
         (λ has.
-        let s = all.sound j (key_has targets.keys j (subst (λ (l : List ℕ). Has l j) same has)) in
-        let held = place_holds (map from es) number s.1 (subst (λ (l : List ℕ). Has l s.1) is s.2) in
-        let at = slice_get_map from es s.1 s.3 s.4 in
-        (s.0, s.3.from, s.3.to, (s.3, has-slice_get es s.1 s.3 s.4, refl, refl), sym at.1 ∙ held.1, s.5)),
+            let s = all.sound j (key_has targets.keys j (subst (λ (l : List ℕ). Has l j) same has)) in
+            let held = place_holds (map from es) number s.1 (subst (λ (l : List ℕ). Has l s.1) is s.2) in
+            let at = slice_get_map from es s.1 s.3 s.4 in
+            (s.0, s.3.from, s.3.to, (s.3, has-slice_get es s.1 s.3 s.4, refl, refl), sym at.1 ∙ held.1, s.5)),
         (λ waits.
-        let g = waits.3 in
-        let r = has_slice es g.0 g.1 in
-        let at = slice_get_map from es r.0 g.0 r.1 in
-        let from_same : get_or (map from es) r.0 0 ≡ number = at.1 ∙ (ap (slice_index numbers) g.2 ∙ waits.4) in
-        let to_same : slice_index numbers g.0.to ≡ j = ap (slice_index numbers) g.3 ∙ waits.5 in
-        let has : Has places r.0 = subst (λ (l : List ℕ). Has l r.0) (sym is) (has_place (map from es) number r.0 at.0 from_same) in
-        let on = all.complete r.0 g.0 has r.1 (λ e. waits.0 (sym to_same ∙ e)) in
-        subst (λ (l : List ℕ). Has l j) (sym same) (has_key targets.keys j (ap (contains nat_cmp targets) (sym to_same) ∙ on))),
+            let g = waits.3 in
+            let r = has_slice es g.0 g.1 in
+            let at = slice_get_map from es r.0 g.0 r.1 in
+            let from_same : get_or (map from es) r.0 0 ≡ number = at.1 ∙ (ap (slice_index numbers) g.2 ∙ waits.4) in
+            let to_same : slice_index numbers g.0.to ≡ j = ap (slice_index numbers) g.3 ∙ waits.5 in
+            let has : Has places r.0 = subst (λ (l : List ℕ). Has l r.0) (sym is) (has_place (map from es) number r.0 at.0 from_same) in
+            let on = all.complete r.0 g.0 has r.1 (λ e. waits.0 (sym to_same ∙ e)) in
+            subst (λ (l : List ℕ). Has l j) (sym same) (has_key targets.keys j (ap (contains nat_cmp targets) (sym to_same) ∙ on))),
       );
     }
 

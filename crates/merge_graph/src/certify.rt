@@ -14,11 +14,7 @@ use crate::ways::way_from_firsts;
 use std::alloc::{AllocError, Global};
 
 /// Numbers that are those of the components, with their smallest nodes.
-pub(crate) fn certified(
-    alloc: Global,
-    nodes: usize,
-    edges: &[Edge],
-) -> Result<Guess, AllocError>
+pub(crate) fn certified(alloc: Global, nodes: usize, edges: &[Edge]) -> Result<Guess, AllocError>
     requires { AreBetween nodes edges.now }
     ensures { IfOk result
         (λ g. AreCertified nodes edges.now g.numbers.items g.firsts.items) }
@@ -38,11 +34,7 @@ fn guess(alloc: Global, nodes: usize, edges: &[Edge]) -> Result<Guess, AllocErro
 }
 
 /// For each node the edges that leave it.
-fn leaving(
-    alloc: Global,
-    nodes: usize,
-    edges: &[Edge],
-) -> Result<Vec<Vec<usize>>, AllocError> {
+fn leaving(alloc: Global, nodes: usize, edges: &[Edge]) -> Result<Vec<Vec<usize>>, AllocError> {
     let mut sources = Vec::new(alloc);
     for edge in edges {
         sources.push(edge.from)?;
@@ -56,7 +48,11 @@ fn turned(alloc: Global, edges: &[Edge]) -> Result<Vec<Edge>, AllocError>
 {
     let mut all = Vec::new(alloc);
     for edge in edges {
-        all.push(Edge { from: edge.to, to: edge.from, builds: edge.builds })?;
+        all.push(Edge {
+            from: edge.to,
+            to: edge.from,
+            builds: edge.builds,
+        })?;
     }
     Ok(all)
 }

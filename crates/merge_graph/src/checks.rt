@@ -122,7 +122,11 @@ pub(crate) fn opened(
 {
     let mut opened = vec![in alloc; 0; count]?;
     for edge in edges {
-        raise(&mut opened, number_at(numbers, edge.from), number_at(numbers, edge.to));
+        raise(
+            &mut opened,
+            number_at(numbers, edge.from),
+            number_at(numbers, edge.to),
+        );
     }
     Ok(opened)
 }

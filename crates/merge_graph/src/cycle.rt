@@ -5,11 +5,7 @@ use crate::edge::Edge;
 use crate::slots::number_at;
 
 /// The smallest node of those components that have an edge to build on inside.
-pub(crate) fn first_inside(
-    numbers: &[usize],
-    firsts: &[usize],
-    edges: &[Edge],
-) -> Option<usize>
+pub(crate) fn first_inside(numbers: &[usize], firsts: &[usize], edges: &[Edge]) -> Option<usize>
     ensures { IsFirstInside numbers.now firsts.now edges.now result }
 {
     let mut best = None;

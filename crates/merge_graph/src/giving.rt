@@ -13,11 +13,7 @@ use std::alloc::{AllocError, Global};
 /// Numbers as their definition has them: each time the smallest node of those components that may
 /// come. It goes through all nodes and edges for each number, so it is for small graphs, and for
 /// what the quick way should ever get wrong.
-pub(crate) fn give_all(
-    alloc: Global,
-    nodes: usize,
-    edges: &[Edge],
-) -> Result<Guess, AllocError>
+pub(crate) fn give_all(alloc: Global, nodes: usize, edges: &[Edge]) -> Result<Guess, AllocError>
     requires { AreBetween nodes edges.now }
     ensures { IfOk result
         (λ g. AreCertified nodes edges.now g.numbers.items g.firsts.items) }
@@ -108,7 +104,7 @@ fn give(given: &mut Vec<Option<usize>>, rows: &[Vec<bool>], first: usize, number
     ensures all { length given.new.items ≡ length given.old.items }
     ensures each { (y : ℕ) → y < length given.old.items → given_to given.new.items y
         ≡ (if in_one (map (λ r. r.items) rows.now) first y then Some number
-            else given_to given.old.items y) }
+        else given_to given.old.items y) }
 {
     for node in 0..given.len() {
         if in_one(rows, first, node) {

@@ -47,11 +47,7 @@ pub fn level_rows(
 }
 
 /// For each node the number of the row of its level.
-fn row_numbers(
-    alloc: Global,
-    numbers: &[usize],
-    levels: &[usize],
-) -> Result<Vec<usize>, AllocError>
+fn row_numbers(alloc: Global, numbers: &[usize], levels: &[usize]) -> Result<Vec<usize>, AllocError>
     ensures { IfOk result (λ v. v.items ≡ map (λ k. slice_index levels.now k - 1) numbers.now) }
 {
     let mut places = Vec::new(alloc);

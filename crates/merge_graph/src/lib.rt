@@ -10,15 +10,15 @@ mod edge;
 mod giving;
 mod leveling;
 mod numbering;
-mod places;
 mod ordering;
+mod places;
 mod slots;
 mod sweep;
 mod waiting;
 mod ways;
 
-pub use waiting::after;
 pub use edge::Edge;
 pub use leveling::{level_rows, levels};
 pub use numbering::{Numbering, number};
 pub use places::rows;
+pub use waiting::after;

@@ -32,7 +32,10 @@ pub fn number(alloc: Global, nodes: usize, edges: &[Edge]) -> Result<Numbering, 
         }
         None => {
             let count = guess.firsts.len();
-            Ok(Numbering::Numbers { numbers: guess.numbers, count })
+            Ok(Numbering::Numbers {
+                numbers: guess.numbers,
+                count,
+            })
         }
     }
 }

@@ -52,15 +52,15 @@ fn first_queue(alloc: Global, labels: &Labels, edges: &[Edge]) -> Result<Queue, 
             ready.insert(*first)?;
         }
     }
-    Ok(Queue { smallest, waits, ready })
+    Ok(Queue {
+        smallest,
+        waits,
+        ready,
+    })
 }
 
 /// For each label the edges that go to its component.
-fn entering(
-    alloc: Global,
-    labels: &Labels,
-    edges: &[Edge],
-) -> Result<Vec<Vec<usize>>, AllocError> {
+fn entering(alloc: Global, labels: &Labels, edges: &[Edge]) -> Result<Vec<Vec<usize>>, AllocError> {
     let mut targets = Vec::new(alloc);
     for edge in edges {
         targets.push(number_at(&labels.labels, edge.to))?;

@@ -4,11 +4,7 @@ ghost use Rattle.merge_graph.specs.Rows.{AreRows, places_of, with_place};
 use std::alloc::{AllocError, Global};
 
 /// For each number below `count` the places at which it stands among `numbers`, rising.
-pub fn rows(
-    alloc: Global,
-    numbers: &[usize],
-    count: usize,
-) -> Result<Vec<Vec<usize>>, AllocError>
+pub fn rows(alloc: Global, numbers: &[usize], count: usize) -> Result<Vec<Vec<usize>>, AllocError>
     ensures { IfOk result (λ v. AreRows numbers.now count (map (λ r. r.items) v.items)) }
 {
     let mut rows = empty_rows(alloc, count)?;
@@ -19,11 +15,7 @@ pub fn rows(
 }
 
 /// The places at which one number stands, rising.
-pub(crate) fn row(
-    alloc: Global,
-    numbers: &[usize],
-    number: usize,
-) -> Result<Vec<usize>, AllocError>
+pub(crate) fn row(alloc: Global, numbers: &[usize], number: usize) -> Result<Vec<usize>, AllocError>
     ensures { IfOk result (λ v. v.items ≡ places_of numbers.now number) }
 {
     let mut row = Vec::new(alloc);

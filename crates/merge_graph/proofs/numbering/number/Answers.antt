@@ -28,8 +28,7 @@ returns-in-None c =
     let numbers = c.in_ok-guess.guess.numbers.items in
     let firsts = c.in_ok-guess.guess.firsts.items in
     let is : IsFirstInside numbers firsts c.args.edges.now None = found numbers firsts _ _ c.args.edges.now None c.deref.ensures.value c.deref-2.ensures.value c.in-None.ensures in
-    let count : length firsts ≡ c.len-count.result = omega (arith, c.in_ok-guess.guess.firsts.ok.0, c.len-count.ensures) in
-    (
+    let count : length firsts ≡ c.len-count.result = omega (arith, c.in_ok-guess.guess.firsts.ok.0, c.len-count.ensures) in (
       no_cycle c.args.nodes c.args.edges.now numbers firsts c.requires c.in_ok-guess.ensures is,
       subst (λ (n : ℕ). IsNumbering c.args.nodes c.args.edges.now n numbers) count c.in_ok-guess.ensures.numbering,
     )

@@ -12,7 +12,7 @@ loop-place-preserved c =
     let n = c.loop-place.place-index in
     elim c.match-target.branch [
       | in-Some+in_ok-add_other-in-Some w ↦ subst (λ t. AreTargets es numbers (take (n + 1) places) c.args.number t) (sym w.targets-is)
-        (targets_more es numbers places n c.args.number _ c.loop-place-test.true refl c.loop-place.targets w.add_other.new.targets w.in-Some.to c.loop-place.invariant (sym w.in-Some.is ∙ c.target.ensures) w.in_ok-add_other-in-Some.ensures)
+          (targets_more es numbers places n c.args.number _ c.loop-place-test.true refl c.loop-place.targets w.add_other.new.targets w.in-Some.to c.loop-place.invariant (sym w.in-Some.is ∙ c.target.ensures) w.in_ok-add_other-in-Some.ensures)
       | in-None w ↦ targets_same es numbers places n c.args.number _ c.loop-place-test.true refl c.loop-place.targets c.match-target.targets c.loop-place.invariant (sym w.in-None.is ∙ c.target.ensures) w.targets-is
     ]
 
