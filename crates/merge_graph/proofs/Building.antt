@@ -1,13 +1,11 @@
 -- The first component with an edge to build on inside.
-use Rattle.std.proofs.Common.{◌≡◌, ◌∙◌, ◌<◌, ◌≤◌, ◌+◌, ◌⊎◌, ◌↔◌, ℕ, Bool, true, List, None, Option, Some, ap, arith, get_or, inl, inr, length, refl, subst, sym, take}
+use Rattle.std.proofs.Common.{◌≡◌, ◌∙◌, ◌<◌, ◌≤◌, ◌+◌, ◌⊎◌, ℕ, List, None, Option, Some, ap, arith, get_or, inl, inr, length, refl, subst, sym, take}
 use Rattle.std.specs.Prelude.{IsTrue, min, slice_index}
 use Rattle.std.proofs.lemmas.Bool.{cases_lt}
-use Rattle.std.proofs.lemmas.List.{take_all}
 use Rattle.basics.specs.Members.{Has}
 use Rattle.merge_graph.specs.Certified.{AreCertified, IsFirstInside, IsInside, first_of, smaller}
-use Rattle.merge_graph.specs.Edges.{AreBetween, AreTogether, Builds, Goes, Reaches}
-use Rattle.merge_graph.specs.Edges.Reaches.{goes, stays}
-use Rattle.merge_graph.specs.Numbering.{HasBuildInside, HasNoBuildInside, IsBuildCycle}
+use Rattle.merge_graph.specs.Edges.{AreBetween, AreTogether, Builds}
+use Rattle.merge_graph.specs.Numbering.{HasNoBuildInside, IsBuildCycle}
 use Rattle.merge_graph.specs.Rows.{places_of}
 use Rattle.merge_graph.specs.declared.edge.Edge.{Edge}
 use Rattle.merge_graph.proofs.Checking.{has_before, has_last, has_more, joined}

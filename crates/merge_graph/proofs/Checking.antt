@@ -1,11 +1,11 @@
 -- One edge, one mark more of what is checked.
-use Rattle.std.proofs.Common.{◌≡◌, ◌≢◌, ◌∙◌, ◌<◌, ◌≤◌, ◌+◌, ◌⊎◌, ◌++◌, ℕ, zero, suc, Bool, true, false, cond, List, [], ◌∷◌, add-one, ap, arith, get_or, inl, inr, length, refl, replicate, set, subst, sym, take}
+use Rattle.std.proofs.Common.{◌≡◌, ◌≢◌, ◌∙◌, ◌<◌, ◌≤◌, ◌+◌, ◌⊎◌, ℕ, zero, suc, Bool, true, false, List, [], ◌∷◌, ap, arith, get_or, inl, inr, length, refl, replicate, set, subst, sym, take}
 use Rattle.std.specs.Prelude.{slice_index, slice_index_or}
 use Rattle.std.proofs.lemmas.Bool.{cases_eq, cases_lt, false≢true}
-use Rattle.std.proofs.lemmas.List.{get_or-set_other, get_or-set_same, get_or_past, length-replicate, set_past, take_all, take_more}
+use Rattle.std.proofs.lemmas.List.{get_or-set_other, get_or-set_same, set_past, take_all, take_more}
 use Rattle.basics.specs.Members.{Has}
 use Rattle.basics.proofs.Membership.{has-append_cases, has-append_left, has-append_right}
-use Rattle.merge_graph.specs.Certified.{AllFall, AreMarkedReached, AreOpened, HaveNumbers, WaitsBelow, first_of}
+use Rattle.merge_graph.specs.Certified.{AllFall, AreMarkedReached, AreOpened, HaveNumbers, first_of}
 use Rattle.merge_graph.specs.Edges.{Goes, Reaches}
 use Rattle.merge_graph.specs.Edges.Reaches.{goes, stays}
 use Rattle.merge_graph.specs.declared.edge.Edge.{Edge}

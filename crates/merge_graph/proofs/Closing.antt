@@ -1,6 +1,6 @@
 -- Which nodes are reached from which, one edge after another.
-use Rattle.std.proofs.Common.{◌≡◌, ◌≢◌, ◌∙◌, ◌<◌, ◌≤◌, ◌+◌, ◌⊎◌, ◌++◌, ◌&&◌, ◌||◌, ◌==◌, ℕ, suc, Bool, true, false, cond, List, [], ◌∷◌, ap, arith, get_or, inl, inr, length, map, refl, subst, sym, take}
-use Rattle.std.proofs.lemmas.Bool.{and_from, and_parts, cases_Bool, cases_order, eq-eqb, eqb-true, or_cases, or_left, or_right}
+use Rattle.std.proofs.Common.{◌≡◌, ◌∙◌, ◌<◌, ◌≤◌, ◌+◌, ◌⊎◌, ◌++◌, ◌&&◌, ◌==◌, ℕ, Bool, false, List, [], ◌∷◌, ap, arith, get_or, inl, inr, length, refl, subst, sym, take}
+use Rattle.std.proofs.lemmas.Bool.{and_from, and_parts, cases_order, eq-eqb, eqb-true, or_cases, or_left, or_right}
 use Rattle.std.proofs.lemmas.List.{get_or_append_left, get_or_at, get_or_default, length_push, take_all}
 use Rattle.basics.specs.Members.{Has}
 use Rattle.basics.proofs.Membership.{has-at}
@@ -8,7 +8,7 @@ use Rattle.merge_graph.specs.Closure.{IsClosure, IsRow, IsTable, reached, reache
 use Rattle.merge_graph.specs.Edges.{AreBetween, Goes, Reaches}
 use Rattle.merge_graph.specs.Edges.Reaches.{goes, stays}
 use Rattle.merge_graph.specs.declared.edge.Edge.{Edge}
-use Rattle.merge_graph.proofs.Checking.{further, has_before, has_last, has_more, joined}
+use Rattle.merge_graph.proofs.Checking.{has_before, has_last, has_more, joined}
 use Rattle.merge_graph.proofs.Together.{between}
 
 pub row_none : (f : ℕ → Bool) (row : List Bool) → row ≡ [] → IsRow 0 f row

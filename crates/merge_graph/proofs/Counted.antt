@@ -1,5 +1,5 @@
 -- How many of a list pass a test.
-use Rattle.std.proofs.Common.{◌≡◌, ◌∙◌, ◌<◌, ◌≤◌, ◌+◌, ℕ, zero, suc, Bool, true, false, cond, List, [], ◌∷◌, ap, arith, get_or, length, refl, sym}
+use Rattle.std.proofs.Common.{◌≡◌, ◌<◌, ◌≤◌, ◌+◌, ℕ, zero, suc, Bool, true, false, cond, List, [], ◌∷◌, arith, get_or, length, refl}
 
 abbrev one : Bool → ℕ
 one b = cond b 1 0

@@ -1,13 +1,13 @@
 -- Levels have no gaps: what stands above one would stand lower.
-use Rattle.std.proofs.Common.{◌≡◌, ◌≢◌, ◌∙◌, ◌<◌, ◌≤◌, ◌+◌, ◌-◌, ◌⊎◌, ◌++◌, ℕ, suc, Bool, true, false, cond, List, [], ◌∷◌, ap, arith, get_or, inl, inr, length, map, refl, subst, sym, take}
+use Rattle.std.proofs.Common.{◌≡◌, ◌≢◌, ◌∙◌, ◌<◌, ◌≤◌, ◌+◌, ◌-◌, ◌⊎◌, ℕ, Bool, cond, List, [], ◌∷◌, ap, arith, get_or, inl, inr, length, map, refl, subst, sym, take}
 use Rattle.std.specs.Prelude.{nat_lt, slice_index}
 use Rattle.std.proofs.lemmas.Bool.{cases_lt, le-ltb, lt-ltb}
 use Rattle.std.proofs.lemmas.List.{get_or-map, get_or_default, get_or_past, length-map, take_all}
 use Rattle.basics.specs.Members.{Has}
 use Rattle.basics.proofs.Membership.{contains-from_has, has-from_contains}
-use Rattle.merge_graph.specs.Edges.{Builds, Goes}
+use Rattle.merge_graph.specs.Edges.{Goes}
 use Rattle.merge_graph.specs.Levels.{AreHigh, AreLevelRows, AreLevels, IsNumbered}
-use Rattle.merge_graph.specs.Rows.{AreRising, AreRows, places_of}
+use Rattle.merge_graph.specs.Rows.{AreRising, AreRows}
 use Rattle.merge_graph.specs.declared.edge.Edge.{Edge}
 use Rattle.merge_graph.proofs.Checking.{has_before, has_last, has_more}
 use Rattle.merge_graph.proofs.RowLemmas.{has_place, place_holds, places_rise}

@@ -1,16 +1,15 @@
 -- Numbers that are given one after another are those of the components in their order.
-use Rattle.std.proofs.Common.{◌≡◌, ◌≢◌, ◌∙◌, ◌<◌, ◌≤◌, ◌+◌, ◌⊎◌, ◌++◌, ◌&&◌, ◌||◌, ℕ, zero, suc, Bool, true, false, cond, List, [], ◌∷◌, None, Option, Some, ap, arith, get_or, inl, inr, length, map, not, refl, replicate, subst, sym, take}
+use Rattle.std.proofs.Common.{◌≡◌, ◌≢◌, ◌∙◌, ◌<◌, ◌≤◌, ◌+◌, ◌⊎◌, ◌++◌, ◌||◌, ℕ, zero, suc, Bool, true, false, cond, List, [], ◌∷◌, None, Option, Some, ap, arith, get_or, inl, inr, length, map, not, refl, replicate, subst, sym}
 use Rattle.std.specs.Prelude.{slice_index, unwrap_or}
 use Rattle.std.specs.List.{list_all}
 use Rattle.std.specs.Option.{is_none, is_some}
-use Rattle.std.proofs.lemmas.Bool.{and_cases, and_from, and_parts, cases_Bool, cases_eq, cases_lt, cases_order, cond-false, cond-true, false≢true, not-true, not_from_false, not_from_true, or_cases, or_left, or_parts, or_right}
+use Rattle.std.proofs.lemmas.Bool.{and_cases, and_from, and_parts, cases_Bool, cases_lt, cases_order, cond-false, cond-true, false≢true, not-true, not_from_false, or_cases, or_left, or_parts, or_right}
 use Rattle.std.proofs.lemmas.List.{get_or-map, get_or_append_left, get_or_at, length-map, length-replicate, length_push}
 use Rattle.basics.specs.Members.{Has}
 use Rattle.merge_graph.specs.Certified.{AreCertified}
 use Rattle.merge_graph.specs.Closure.{IsClosure, given_to, in_one, lets_come, may_come, reached}
 use Rattle.merge_graph.specs.Edges.{AreBetween, AreTogether, Goes, Reaches}
-use Rattle.merge_graph.specs.Edges.Reaches.{goes, stays}
-use Rattle.merge_graph.specs.Numbering.{IsReady}
+use Rattle.merge_graph.specs.Edges.Reaches.{stays}
 use Rattle.merge_graph.specs.declared.edge.Edge.{Edge}
 use Rattle.merge_graph.proofs.Checking.{further, joined}
 use Rattle.merge_graph.proofs.Counted.{passing, passing_lt}

@@ -1,12 +1,11 @@
 -- Levels, one component after another.
-use Rattle.std.proofs.Common.{◌≡◌, ◌≢◌, ◌∙◌, ◌<◌, ◌≤◌, ◌+◌, ◌⊎◌, ◌++◌, ◌^◌, ℕ, suc, Bool, true, false, cond, List, [], ◌∷◌, None, Option, Some, ap, arith, get_or, inl, inr, length, map, refl, subst, sym, take}
-use Rattle.std.specs.Prelude.{IsTrue, slice_get, slice_index}
+use Rattle.std.proofs.Common.{◌≡◌, ◌≢◌, ◌∙◌, ◌<◌, ◌≤◌, ◌+◌, ◌⊎◌, ◌++◌, ◌^◌, ℕ, Bool, true, false, cond, List, [], ◌∷◌, None, Option, Some, ap, arith, get_or, inl, inr, length, map, refl, subst, sym, take}
+use Rattle.std.specs.Prelude.{slice_get, slice_index}
 use Rattle.std.proofs.lemmas.Bool.{cases_Bool, cases_lt, cases_order}
-use Rattle.std.proofs.lemmas.List.{get_or_at, get_or_append_left, get_or_past, length_push, take_all}
+use Rattle.std.proofs.lemmas.List.{get_or_at, get_or_append_left, get_or_past, length_push}
 use Rattle.basics.specs.Members.{Has}
 use Rattle.basics.proofs.Membership.{has-slice_get}
-use Rattle.merge_graph.specs.Edges.{AreTogether, Builds, Goes}
-use Rattle.merge_graph.specs.Edges.Reaches.{goes, stays}
+use Rattle.merge_graph.specs.Edges.Reaches.{stays}
 use Rattle.merge_graph.specs.Levels.{AreHigh, AreLevels, IsNumbered, asked, step_of}
 use Rattle.merge_graph.specs.Rows.{places_of}
 use Rattle.merge_graph.specs.declared.edge.Edge.{Edge}

@@ -1,9 +1,9 @@
 -- Numbers that come one after another, each the smallest of those that may.
-use Rattle.std.proofs.Common.{◌≡◌, ◌≢◌, ◌∙◌, ◌<◌, ◌≤◌, ◌+◌, ◌⊎◌, ℕ, Bool, true, false, cond, List, ap, arith, inl, inr, length, refl, subst, sym}
+use Rattle.std.proofs.Common.{◌≡◌, ◌≢◌, ◌∙◌, ◌<◌, ◌≤◌, ◌+◌, ℕ, Bool, true, false, cond, List, ap, arith, inl, inr, length, refl, subst, sym}
 use Rattle.std.specs.Prelude.{slice_index}
 use Rattle.std.specs.BTreeSet.{BTreeSet, contains}
 use Rattle.std.specs.Ordering.{is_eq, is_gt, nat_cmp}
-use Rattle.std.proofs.lemmas.Bool.{cases_Bool, cases_lt, cases_order, false≢true}
+use Rattle.std.proofs.lemmas.Bool.{cases_lt, cases_order, false≢true}
 use Rattle.basics.specs.Members.{Has}
 use Rattle.basics.proofs.Texts.{nat_cmp-greater}
 use Rattle.merge_graph.specs.Certified.{AreApart, AreFirst}

@@ -1,14 +1,14 @@
 -- Checked numbers are those of the components.
-use Rattle.std.proofs.Common.{◌≡◌, ◌≢◌, ◌∙◌, ◌<◌, ◌≤◌, ◌+◌, ◌⊎◌, ◌&&◌, ◌↔◌, ℕ, Bool, true, List, [], ◌∷◌, ap, arith, inl, inr, length, map, refl, subst, sym}
-use Rattle.std.specs.Prelude.{IsTrue, nat_lt, slice_index}
+use Rattle.std.proofs.Common.{◌≡◌, ◌≢◌, ◌∙◌, ◌<◌, ◌≤◌, ◌↔◌, ℕ, List, [], ◌∷◌, ap, arith, inl, inr, length, map, refl, subst, sym}
+use Rattle.std.specs.Prelude.{nat_lt, slice_index}
 use Rattle.std.specs.List.{list_all}
-use Rattle.std.proofs.lemmas.Bool.{and_parts, cases_eq, ltb-true}
+use Rattle.std.proofs.lemmas.Bool.{and_parts, ltb-true}
 use Rattle.basics.specs.Members.{Has}
 use Rattle.basics.proofs.Membership.{has-map_back}
-use Rattle.merge_graph.specs.Certified.{AllFall, AreApart, AreCertified, AreComponents, AreReached, ComeInOrder, HaveFirsts, HaveNumbers, first_of}
-use Rattle.merge_graph.specs.Edges.{AreBetween, AreTogether, Goes, Reaches, is_between, turned}
+use Rattle.merge_graph.specs.Certified.{AllFall, AreApart, AreCertified, AreComponents, ComeInOrder, HaveFirsts, HaveNumbers, first_of}
+use Rattle.merge_graph.specs.Edges.{AreBetween, AreTogether, Reaches, is_between, turned}
 use Rattle.merge_graph.specs.Edges.Reaches.{goes, stays}
-use Rattle.merge_graph.specs.Numbering.{IsNumbering, IsReady}
+use Rattle.merge_graph.specs.Numbering.{IsReady}
 use Rattle.merge_graph.specs.declared.edge.Edge.{Edge}
 use Rattle.merge_graph.proofs.Checking.{further, joined}
 

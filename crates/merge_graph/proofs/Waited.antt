@@ -1,5 +1,5 @@
 -- The components to which edges go, one edge after another.
-use Rattle.std.proofs.Common.{◌≡◌, ◌≢◌, ◌∙◌, ◌<◌, ◌≤◌, ◌+◌, ◌⊎◌, ◌++◌, ◌↔◌, ℕ, suc, Bool, true, false, cond, List, [], ◌∷◌, None, Option, Some, ap, arith, get_or, inl, inr, length, map, refl, subst, sym, take}
+use Rattle.std.proofs.Common.{◌≡◌, ◌≢◌, ◌∙◌, ◌<◌, ◌≤◌, ◌+◌, ◌⊎◌, ◌++◌, ◌↔◌, ℕ, suc, true, List, [], ◌∷◌, None, Option, Some, ap, arith, get_or, inl, inr, length, map, refl, subst, sym, take}
 use Rattle.std.specs.Prelude.{slice_get, slice_index}
 use Rattle.std.specs.BTreeSet.{BTreeSet, contains}
 use Rattle.std.specs.List.{list_any}
@@ -8,7 +8,7 @@ use Rattle.std.specs.Option.{option_map}
 use Rattle.std.specs.Ordering.{is_eq, nat_cmp}
 use Rattle.std.specs.declared.cmp.Ordering.{Ordering}
 use Rattle.std.specs.declared.cmp.Ordering.TheVariants.{Equal, Greater, Less}
-use Rattle.std.proofs.lemmas.Bool.{cases_Bool, cases_lt, cases_order, eq-eqb, false≢true, le-ltb, or_cases, or_left, or_right}
+use Rattle.std.proofs.lemmas.Bool.{cases_order, eq-eqb, false≢true, le-ltb, or_cases, or_left, or_right}
 use Rattle.std.proofs.lemmas.List.{get_or-map, get_or_at, get_or_append_left, length-map, length_push, take_all}
 use Rattle.std.proofs.lemmas.Option.{get_or_from_slice_get, slice_get_within}
 use Rattle.std.proofs.lemmas.Map.Lookups.{exact_unsigned}
@@ -16,8 +16,7 @@ use Rattle.basics.specs.Members.{Has}
 use Rattle.basics.proofs.Each.{all_has}
 use Rattle.basics.proofs.Membership.{has-slice_get}
 use Rattle.basics.proofs.Texts.{nat_cmp-greater}
-use Rattle.merge_graph.specs.After.{AreAfter, IsAfter, WaitsFor}
-use Rattle.merge_graph.specs.Edges.{Goes}
+use Rattle.merge_graph.specs.After.{AreAfter, IsAfter}
 use Rattle.merge_graph.specs.Rows.{AreRising, places_of}
 use Rattle.merge_graph.specs.declared.edge.Edge.{Edge}
 use Rattle.merge_graph.proofs.Checking.{has_before, has_last, has_more}

@@ -1,5 +1,5 @@
 -- Which components a component waits for.
-use Rattle.std.specs.Prelude.{◌≡◌, ◌<◌, ◌≢◌, ◌↔◌, ℕ, List, [], get_or, length, slice_get, slice_index, Some}
+use Rattle.std.specs.Prelude.{◌≡◌, ◌<◌, ◌≢◌, ◌↔◌, ℕ, List, [], get_or, length, slice_index}
 use Rattle.basics.specs.Members.{Has}
 use Rattle.merge_graph.specs.Edges.{Goes}
 use Rattle.merge_graph.specs.Rows.{AreRising}

@@ -1,4 +1,3 @@
-use Rattle.std.proofs.Common.{true}
 use Rattle.merge_graph.proofs.Together.{certified}
 use Rattle.merge_graph.proofs.certify.are_numbers.Goals as goal
 

@@ -1,4 +1,3 @@
-use Rattle.std.proofs.Common.{refl, sym, arith, subst}
 use Rattle.merge_graph.proofs.Checking.{falls_more}
 use Rattle.merge_graph.proofs.checks.all_fall.Goals as goal
 

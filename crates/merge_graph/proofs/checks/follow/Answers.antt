@@ -1,4 +1,4 @@
-use Rattle.std.proofs.Common.{◌≡◌, ◌∙◌, ℕ, Bool, List, false, refl, set, sym, true, subst, ap}
+use Rattle.std.proofs.Common.{◌≡◌, ◌∙◌, Bool, List, false, sym, true, subst, ap}
 use Rattle.std.specs.Prelude.{slice_index, slice_index_or}
 use Rattle.basics.proofs.Membership.{has-at}
 use Rattle.basics.specs.Members.{Has}

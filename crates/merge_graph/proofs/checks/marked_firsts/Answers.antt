@@ -1,4 +1,4 @@
-use Rattle.std.proofs.Common.{◌≡◌, ◌∙◌, ℕ, Bool, List, length, get_or, refl, sym, subst, ap}
+use Rattle.std.proofs.Common.{◌∙◌, Bool, List, length, sym, subst, ap}
 use Rattle.std.proofs.lemmas.List.{length-set}
 use Rattle.std.specs.Prelude.{slice_index}
 use Rattle.merge_graph.specs.Certified.{AreMarkedReached}

@@ -1,4 +1,4 @@
-use Rattle.std.proofs.Common.{Bool, List, ap, map, refl}
+use Rattle.std.proofs.Common.{ap, map, refl}
 use Rattle.merge_graph.proofs.Closing.{closed_more, closed_none}
 use Rattle.merge_graph.proofs.closure.closure.Goals as goal
 

@@ -1,4 +1,4 @@
-use Rattle.std.proofs.Common.{◌≡◌, ◌∙◌, ◌+◌, ◌&&◌, ◌||◌, [], Bool, List, ap, false, get_or, map, subst, sym, ℕ}
+use Rattle.std.proofs.Common.{◌∙◌, ◌+◌, ◌&&◌, ◌||◌, [], Bool, List, ap, false, get_or, map, subst, sym}
 use Rattle.std.proofs.lemmas.List.{map_push}
 use Rattle.merge_graph.specs.Closure.{IsRow, IsTable, reached_with}
 use Rattle.merge_graph.proofs.Closing.{table_more}

@@ -1,9 +1,7 @@
-use Rattle.std.proofs.Common.{◌≡◌, ◌∙◌, ◌+◌, ◌++◌, ◌∷◌, ◌<◌, [], Bool, List, None, Option, Some, ap, arith, cond, false, length, map, refl, subst, sym, true, ℕ}
+use Rattle.std.proofs.Common.{◌≡◌, ◌∙◌, ◌<◌, Bool, List, Option, Some, ap, arith, cond, false, length, map, subst, sym, true, ℕ}
 use Rattle.std.specs.Prelude.{unwrap_or}
-use Rattle.std.specs.Option.{is_none}
 use Rattle.merge_graph.specs.Closure.{given_to, in_one, may_come}
 use Rattle.merge_graph.specs.declared.edge.Edge.{Edge}
-use Rattle.merge_graph.proofs.Counted.{passing}
 use Rattle.merge_graph.proofs.Greedy.{AreGiven, fewer_left, given_all, given_more}
 use Rattle.merge_graph.proofs.giving.give_all.Goals as goal
 use Rattle.merge_graph.proofs.giving.give_all.Goals.{In_ok-push}

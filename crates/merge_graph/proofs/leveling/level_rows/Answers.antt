@@ -1,4 +1,4 @@
-use Rattle.std.proofs.Common.{◌≡◌, ◌∙◌, ◌-◌, ◌<◌, ◌≤◌, List, ℕ, ap, length, map, subst, sym}
+use Rattle.std.proofs.Common.{◌≡◌, ◌∙◌, ◌-◌, ◌<◌, ◌≤◌, List, ℕ, ap, length, map, subst}
 use Rattle.std.specs.Prelude.{slice_index}
 use Rattle.merge_graph.specs.Rows.{AreRows}
 use Rattle.merge_graph.proofs.Gapless.{level_rows_are}

@@ -1,4 +1,4 @@
-use Rattle.std.proofs.Common.{◌≡◌, ◌∙◌, ◌+◌, ◌<◌, ◌^◌, [], List, ℕ, ap, arith, get_or, map, refl, subst, sym}
+use Rattle.std.proofs.Common.{◌≡◌, ◌∙◌, ◌+◌, ◌<◌, ◌^◌, [], List, ℕ, ap, arith, get_or, map, subst, sym}
 use Rattle.std.specs.Prelude.{slice_get, slice_index}
 use Rattle.basics.specs.Members.{Has}
 use Rattle.merge_graph.specs.Levels.{asked}

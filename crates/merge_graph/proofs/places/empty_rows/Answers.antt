@@ -1,4 +1,4 @@
-use Rattle.std.proofs.Common.{◌≡◌, ◌∙◌, ◌++◌, ◌∷◌, [], List, ℕ, ap, map, replicate, sym}
+use Rattle.std.proofs.Common.{◌∙◌, ◌++◌, ◌∷◌, [], List, ℕ, ap, map, replicate}
 use Rattle.std.proofs.lemmas.List.{map_push, replicate_more}
 use Rattle.merge_graph.proofs.places.empty_rows.Goals as goal
 

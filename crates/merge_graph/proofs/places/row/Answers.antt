@@ -1,4 +1,4 @@
-use Rattle.std.proofs.Common.{◌≡◌, ◌∙◌, ◌++◌, ◌∷◌, [], List, ℕ, ap, arith, sym}
+use Rattle.std.proofs.Common.{◌∙◌, ap}
 use Rattle.merge_graph.proofs.RowLemmas.{row_with, row_without}
 use Rattle.merge_graph.proofs.places.row.Goals as goal
 use Rattle.merge_graph.proofs.places.row.Goals.{then-other-number+in_ok-push, else-other-number}

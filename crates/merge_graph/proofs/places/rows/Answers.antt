@@ -1,4 +1,4 @@
-use Rattle.std.proofs.Common.{◌≡◌, ◌∙◌, ◌+◌, List, ℕ, ap, arith, refl, subst, sym, take}
+use Rattle.std.proofs.Common.{◌+◌, List, ℕ, refl, subst, sym, take}
 use Rattle.merge_graph.specs.Rows.{AreRows}
 use Rattle.merge_graph.proofs.RowLemmas.{rows_more}
 use Rattle.merge_graph.proofs.places.rows.Goals as goal

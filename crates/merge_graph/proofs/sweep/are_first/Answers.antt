@@ -1,7 +1,4 @@
-use Rattle.std.proofs.Common.{◌≡◌, ◌∙◌, [], List, ℕ, ap, arith, get_or, map, subst, sym, true}
-use Rattle.std.specs.BTreeSet.{contains}
-use Rattle.std.specs.Ordering.{nat_cmp}
-use Rattle.std.specs.Prelude.{slice_index}
+use Rattle.std.proofs.Common.{◌≡◌, ◌∙◌, [], List, ℕ, ap, get_or, map, subst, sym}
 use Rattle.basics.specs.Members.{Has}
 use Rattle.merge_graph.specs.Rows.{places_of}
 use Rattle.merge_graph.proofs.Sweeping.{swept_more}

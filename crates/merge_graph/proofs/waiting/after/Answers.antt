@@ -1,4 +1,4 @@
-use Rattle.std.proofs.Common.{◌≡◌, ◌∙◌, ◌+◌, ◌∷◌, [], List, ℕ, ap, get_or, map, refl, subst, sym}
+use Rattle.std.proofs.Common.{◌∙◌, ◌+◌, List, ℕ, ap, map, subst, sym}
 use Rattle.merge_graph.specs.After.{AreAfter}
 use Rattle.merge_graph.proofs.Waited.{afters_more}
 use Rattle.std.proofs.lemmas.List.{map_push}
