@@ -8,7 +8,8 @@ use Rattle.merge_graph.specs.declared.edge.Edge.{Edge}
 -- an edge goes from the one component to the other, which is another one
 abbrev pub WaitsFor : List Edge → List ℕ → ℕ → ℕ → Type 0
 WaitsFor es numbers k j =
-    (j ≢ k) × (x : ℕ) × (y : ℕ) × Goes es x y × (slice_index numbers x ≡ k) × (slice_index numbers y ≡ j)
+    (j ≢ k) × (x : ℕ) × (y : ℕ) × Goes es x y
+    × (slice_index numbers x ≡ k) × (slice_index numbers y ≡ j)
 
 -- just those to which an edge goes from the component, rising
 pub record IsAfter (es : List Edge) (numbers : List ℕ) (k : ℕ) (after : List ℕ) : Type 0 where

@@ -39,7 +39,8 @@ given_to given x = get_or given x None
 
 -- the edge doesn't keep the component of the node from coming
 abbrev pub lets_come : List (List Bool) → List (Option ℕ) → ℕ → Edge → Bool
-lets_come rows given x e = not (in_one rows x e.from) || (in_one rows x e.to || is_some (given_to given e.to))
+lets_come rows given x e =
+    not (in_one rows x e.from) || (in_one rows x e.to || is_some (given_to given e.to))
 
 -- the node has no number, and may get one
 abbrev pub may_come : List (List Bool) → List Edge → List (Option ℕ) → ℕ → Bool

@@ -1,6 +1,7 @@
-ghost use Rattle.std.specs.Prelude.{IfOk};
+ghost use Rattle.std.specs.Prelude.{◌≡◌, IfOk};
+ghost use Rattle.std.specs.List.{list_all};
 ghost use Rattle.merge_graph.specs.Answer.{IsAnswer};
-ghost use Rattle.merge_graph.specs.Edges.{AreBetween};
+ghost use Rattle.merge_graph.specs.Edges.{AreBetween, is_between};
 
 use crate::certify::certified;
 use crate::cycle::first_inside;
@@ -38,4 +39,22 @@ pub fn number(alloc: Global, nodes: usize, edges: &[Edge]) -> Result<Numbering, 
             })
         }
     }
+}
+
+/// Whether all edges are between so many nodes.
+pub fn are_between(nodes: usize, edges: &[Edge]) -> bool
+    ensures { result ≡ list_all (is_between nodes) edges.now }
+{
+    for edge in edges {
+        if !is_between(nodes, edge) {
+            return false;
+        }
+    }
+    true
+}
+
+fn is_between(nodes: usize, edge: &Edge) -> bool
+    ensures { result ≡ is_between nodes edge.now }
+{
+    edge.from < nodes && edge.to < nodes
 }
