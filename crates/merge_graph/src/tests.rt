@@ -15,7 +15,11 @@ fn told(
 ) -> Result<String, AllocError> {
     let mut edges = Vec::new(alloc);
     for (from, to, builds) in triples {
-        edges.push(Edge { from: *from, to: *to, builds: *builds })?;
+        edges.push(Edge {
+            from: *from,
+            to: *to,
+            builds: *builds,
+        })?;
     }
     told_of(alloc, nodes, &edges)
 }
@@ -62,8 +66,15 @@ fn components_and_their_order(rt: HostRuntime) -> Result<(), Fail> {
 fn cycles_of_builds(rt: HostRuntime) -> Result<(), Fail> {
     let alloc = rt.alloc();
     assert_eq!(rt; told(alloc, 1, &[(0, 0, true)])?.as_str(), "cycle [0]");
-    assert_eq!(rt; told(alloc, 1, &[(0, 0, false)])?.as_str(), "[0] [[]] [[0]]");
-    let first = told(alloc, 5, &[(4, 4, true), (2, 1, true), (1, 2, false), (0, 3, true)])?;
+    assert_eq!(rt;
+        told(alloc, 1, &[(0, 0, false)])?.as_str(),
+        "[0] [[]] [[0]]"
+    );
+    let first = told(
+        alloc,
+        5,
+        &[(4, 4, true), (2, 1, true), (1, 2, false), (0, 3, true)],
+    )?;
     assert_eq!(rt; first.as_str(), "cycle [1, 2]");
     Ok(())
 }
@@ -72,8 +83,18 @@ fn cycles_of_builds(rt: HostRuntime) -> Result<(), Fail> {
 fn levels_of_waits_and_builds(rt: HostRuntime) -> Result<(), Fail> {
     let alloc = rt.alloc();
     let both = told(alloc, 4, &[(0, 1, true), (1, 2, false), (2, 3, true)])?;
-    assert_eq!(rt; both.as_str(), "[3, 2, 1, 0] [[], [0], [1], [2]] [[3], [1, 2], [0]]");
-    let star = told(alloc, 4, &[(0, 3, false), (0, 1, false), (0, 3, true), (2, 2, false)])?;
-    assert_eq!(rt; star.as_str(), "[3, 0, 1, 2] [[], [], [], [0, 2]] [[1, 2, 3], [0]]");
+    assert_eq!(rt;
+        both.as_str(),
+        "[3, 2, 1, 0] [[], [0], [1], [2]] [[3], [1, 2], [0]]"
+    );
+    let star = told(
+        alloc,
+        4,
+        &[(0, 3, false), (0, 1, false), (0, 3, true), (2, 2, false)],
+    )?;
+    assert_eq!(rt;
+        star.as_str(),
+        "[3, 0, 1, 2] [[], [], [], [0, 2]] [[1, 2, 3], [0]]"
+    );
     Ok(())
 }
