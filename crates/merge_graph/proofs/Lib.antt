@@ -7,6 +7,7 @@ pub mod GivenBelow
 pub mod Greedy
 pub mod Leveled
 pub mod RowLemmas
+pub mod Single
 pub mod Sweeping
 pub mod Together
 pub mod Waited

@@ -8,7 +8,7 @@
 //! which component; else each node has the number of its component, and components have theirs in
 //! the order in which they may come, of several each time the one with the smallest node
 //! (`specs/Numbering.antt`); what each component waits for; the lowest levels, and that they have no
-//! gaps.
+//! gaps. Laws say that numbers and levels are the only ones (`specs/Laws.antt`).
 //!
 //! **Only tested**: with ample memory each call has an answer; the time that one takes.
 //!
@@ -28,6 +28,7 @@ mod components;
 mod cycle;
 mod edge;
 mod giving;
+mod laws;
 mod leveling;
 mod numbering;
 mod ordering;
@@ -40,6 +41,7 @@ mod waiting;
 mod ways;
 
 pub use edge::Edge;
+pub use laws::{levels_are_one, numbers_are_one, waits_fall};
 pub use leveling::{level_rows, levels};
 pub use numbering::{Numbering, are_between, number};
 pub use places::rows;
