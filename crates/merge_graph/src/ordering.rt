@@ -1,6 +1,6 @@
 use crate::components::Labels;
 use crate::edge::Edge;
-use crate::places::rows;
+use crate::places::{row_at, rows};
 use crate::slots::{number_at, put_number};
 use std::alloc::{AllocError, Global};
 use std::collections::BTreeSet;
@@ -76,17 +76,19 @@ fn release_all(
     entering: &[Vec<usize>],
     label: usize,
 ) -> Result<(), AllocError> {
-    if let Some(row) = entering.get(label) {
-        for at in row {
-            if let Some(edge) = edges.get(*at) {
-                let from = number_at(&labels.labels, edge.from);
-                if from != label {
-                    queue.release(from)?;
-                }
-            }
+    for place in row_at(entering, label) {
+        if let Some(from) = other_source(labels, edges, *place, label) {
+            queue.release(from)?;
         }
     }
     Ok(())
+}
+
+/// From where an edge goes to the component of the label, if it comes from another one.
+fn other_source(labels: &Labels, edges: &[Edge], place: usize, label: usize) -> Option<usize> {
+    let edge = edges.get(place)?;
+    let from = number_at(&labels.labels, edge.from);
+    if from == label { None } else { Some(from) }
 }
 
 /// The numbers of components, as far as can be trusted: they are checked afterwards.

@@ -1,4 +1,5 @@
 use crate::edge::Edge;
+use crate::places::row_at;
 use crate::slots::{is_marked, mark, number_at};
 use std::alloc::{AllocError, Global};
 
@@ -23,13 +24,11 @@ pub(crate) fn way_from_firsts(
             Some(node) => *node,
             None => break,
         };
-        if let Some(row) = leaving.get(node) {
-            for place in row {
-                if let Some(to) = next_node(numbers, edges, &reached, *place) {
-                    mark(&mut reached, to);
-                    nodes.push(to)?;
-                    way.push(*place)?;
-                }
+        for place in row_at(leaving, node) {
+            if let Some(to) = next_node(numbers, edges, &reached, *place) {
+                mark(&mut reached, to);
+                nodes.push(to)?;
+                way.push(*place)?;
             }
         }
     }
