@@ -17,6 +17,7 @@ pub record IsAfter (es : List Edge) (numbers : List ℕ) (k : ℕ) (after : List
   pub members : (j : ℕ) → Has after j ↔ WaitsFor es numbers k j
 
 -- the same for each of so many components
-pub record AreAfter (es : List Edge) (numbers : List ℕ) (count : ℕ) (afters : List (List ℕ)) : Type 0 where
+pub record AreAfter (es : List Edge) (numbers : List ℕ) (count : ℕ)
+    (afters : List (List ℕ)) : Type 0 where
   pub each : length afters ≡ count
   pub after : (k : ℕ) → k < count → IsAfter es numbers k (get_or afters k [])

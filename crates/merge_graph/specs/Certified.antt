@@ -76,7 +76,7 @@ IsInside numbers e = IsTrue e.builds × (slice_index numbers e.from ≡ slice_in
 
 -- the first node of a component with such an edge that comes before those of the others
 abbrev pub IsFirstInside : List ℕ → List ℕ → List Edge → Option ℕ → Type 0
-IsFirstInside numbers firsts es None = (e : Edge) → Has es e → IsInside numbers e → ⊥
+IsFirstInside numbers firsts es None = (e : Edge) → Has es e → ¬ IsInside numbers e
 IsFirstInside numbers firsts es (Some x) =
     ((e : Edge) × Has es e × IsInside numbers e × (first_of numbers firsts e.from ≡ x))
     × ((e : Edge) → Has es e → IsInside numbers e → x ≤ first_of numbers firsts e.from)

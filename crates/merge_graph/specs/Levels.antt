@@ -16,7 +16,8 @@ pub record AreHigh (es : List Edge) (numbers : List ℕ) (count : ℕ) (level : 
       level (slice_index numbers y) < level (slice_index numbers x)
 
 -- these levels are so, and none that are so are less
-pub record AreLevels (es : List Edge) (numbers : List ℕ) (count : ℕ) (levels : List ℕ) : Type 0 where
+pub record AreLevels (es : List Edge) (numbers : List ℕ) (count : ℕ)
+    (levels : List ℕ) : Type 0 where
   pub each : length levels ≡ count
   pub high : AreHigh es numbers count (slice_index levels)
   pub lowest : (level : ℕ → ℕ) → AreHigh es numbers count level → (k : ℕ) → k < count →
@@ -38,7 +39,8 @@ asked numbers levels (Some e) = slice_index levels (slice_index numbers e.to) + 
 
 -- The nodes by level: those of each level from 1 on, rising. Each level has some, and each node is
 -- among them.
-pub record AreLevelRows (es : List Edge) (numbers : List ℕ) (count : ℕ) (rows : List (List ℕ)) : Type 0 where
+pub record AreLevelRows (es : List Edge) (numbers : List ℕ) (count : ℕ)
+    (rows : List (List ℕ)) : Type 0 where
   pub levels : List ℕ
   pub are_levels : AreLevels es numbers count levels
   pub rising : (k : ℕ) → k < length rows → AreRising (get_or rows k [])

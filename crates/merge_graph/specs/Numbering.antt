@@ -12,7 +12,7 @@ HasBuildInside es x =
 
 -- no component has one
 abbrev pub HasNoBuildInside : List Edge → Type 0
-HasNoBuildInside es = (x : ℕ) → HasBuildInside es x → ⊥
+HasNoBuildInside es = (x : ℕ) → ¬ HasBuildInside es x
 
 -- the component of the smallest node whose component has one: all its nodes, rising
 pub record IsBuildCycle (nodes : ℕ) (es : List Edge) (cycle : List ℕ) : Type 0 where

@@ -1,4 +1,5 @@
-ghost use Rattle.std.specs.Prelude.{◌≡◌, ◌≢◌, ◌<◌, ◌≤◌, ℕ, IfOk, IsTrue, false, length, slice_index, slice_index_or, true};
+ghost use Rattle.std.specs.Prelude.{◌≡◌, ◌≢◌, ◌<◌, ◌≤◌, ℕ, IfOk, IsTrue, false, length};
+ghost use Rattle.std.specs.Prelude.{slice_index, slice_index_or, true};
 ghost use Rattle.merge_graph.specs.Certified.{AllFall, AreMarkedReached, AreOpened};
 ghost use Rattle.merge_graph.specs.Certified.{AreReached, HaveFirsts, HaveNumbers};
 

@@ -1,5 +1,6 @@
 ghost use Rattle.std.specs.Prelude.{◌≡◌, ◌==◌, ◌&&◌, ◌||◌, [], IfOk, false, get_or, map};
-ghost use Rattle.merge_graph.specs.Closure.{IsClosure, IsRow, IsTable, in_one, reached, reached_with};
+ghost use Rattle.merge_graph.specs.Closure.{IsClosure, IsRow, IsTable, in_one, reached};
+ghost use Rattle.merge_graph.specs.Closure.{reached_with};
 ghost use Rattle.merge_graph.specs.Edges.{AreBetween};
 
 use crate::edge::Edge;

@@ -1,4 +1,5 @@
-ghost use Rattle.std.specs.Prelude.{◌≡◌, ◌<◌, ℕ, IfNone, IfOk, IfSome, Some, false, if◌then◌else◌, length, map, true, unwrap_or};
+ghost use Rattle.std.specs.Prelude.{◌≡◌, ◌<◌, ℕ, IfNone, IfOk, IfSome, Some, false, if◌then◌else◌};
+ghost use Rattle.std.specs.Prelude.{length, map, true, unwrap_or};
 ghost use Rattle.std.specs.Option.{is_some};
 ghost use Rattle.std.specs.Prelude.{None, replicate, slice_set};
 ghost use Rattle.merge_graph.specs.Certified.{AreCertified};

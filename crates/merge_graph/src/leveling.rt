@@ -1,4 +1,5 @@
-ghost use Rattle.std.specs.Prelude.{◌≡◌, ◌⊎◌, ◌-◌, ◌<◌, ◌≤◌, ◌^◌, ℕ, IfOk, length, map, slice_get, slice_index};
+ghost use Rattle.std.specs.Prelude.{◌≡◌, ◌⊎◌, ◌-◌, ◌<◌, ◌≤◌, ◌^◌, ℕ, IfOk, length, map, slice_get};
+ghost use Rattle.std.specs.Prelude.{slice_index};
 ghost use Rattle.basics.specs.Members.{Has};
 ghost use Rattle.merge_graph.specs.Levels.{AreLevelRows, AreLevels, IsNumbered, asked};
 
