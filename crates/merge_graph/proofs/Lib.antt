@@ -1,0 +1,13 @@
+pub mod Building
+pub mod Checking
+pub mod Closing
+pub mod Counted
+pub mod Gapless
+pub mod GivenBelow
+pub mod Greedy
+pub mod Leveled
+pub mod RowLemmas
+pub mod Single
+pub mod Sweeping
+pub mod Together
+pub mod Waited

@@ -1,0 +1,9 @@
+pub mod After
+pub mod Answer
+pub mod Certified
+pub mod Closure
+pub mod Edges
+pub mod Laws
+pub mod Levels
+pub mod Numbering
+pub mod Rows
