@@ -1,0 +1,57 @@
+-- What a pass knows, and what becomes of it where passes are cut and put together.
+use Rattle.std.specs.Prelude.{◌≡◌, ◌-◌, ◌+◌, ◌++◌, ◌≤◌, ℕ, List, [], ◌∷◌, Option, Some, None, length, nat_le, if◌then◌else◌}
+use Rattle.basics.specs.Members.{Has}
+use Rattle.merge_core.specs.Trail.{Entry}
+use Rattle.site_hall.specs.Events.{Knows, events_of}
+use Rattle.site_hall.specs.declared.views.About.{About}
+use Rattle.site_hall.specs.declared.views.Stage.{Stage}
+use Rattle.site_hall.specs.declared.views.Stage.TheVariants.{Holding, Idle, Waiting}
+use Rattle.site_hall.specs.declared.views.View.{View}
+
+-- the longer of two histories
+abbrev pub longer : List Entry → List Entry → List Entry
+longer xs ys = if nat_le (length xs) (length ys) then ys else xs
+
+module _ {S : Type 0} where
+  -- the first pass has all parts, and no group
+  abbrev pub first_view : About S → View S
+  first_view a = record { of = Some a.first; parts = a.parts; groups = []; seen = []; known = []; stage = Idle }
+
+  -- what is left of a pass that gives one part away
+  abbrev pub kept_part : View S → View S
+  kept_part v = record v { parts = v.parts - 1 }
+
+  -- a pass of one part, which has seen what the other has, and has no group
+  abbrev pub given_part : View S → View S
+  given_part v = record { of = v.of; parts = 1; groups = []; seen = v.seen; known = []; stage = Idle }
+
+  -- a pass with what two had
+  abbrev pub joined : View S → View S → View S
+  joined v w =
+      record {
+        of = v.of;
+        parts = v.parts + w.parts;
+        groups = v.groups ++ w.groups;
+        seen = longer v.seen w.seen;
+        known = v.known ++ w.known;
+        stage = v.stage;
+      }
+
+  -- what is left of a pass that was taken in
+  abbrev pub spent : View S
+  spent = record { of = None; parts = 0; groups = []; seen = []; known = []; stage = Idle }
+
+-- the group stands in the list with these events
+abbrev pub Stands : ℕ → List Entry → List (ℕ × List Entry) → Type 0
+Stands g es known = Has known (g, es)
+
+-- each of the groups, with its events
+abbrev pub standings : List ℕ → List Entry → List (ℕ × List Entry)
+standings [] now = []
+standings (g ∷ groups) now = (g, events_of g now) ∷ standings groups now
+
+-- a history fits what a pass knows: it begins with what was seen, of the pass's groups it has no
+-- event more, and of each just the events that the pass knows
+unfoldable pub Tells : {S : Type 0} → View S → List Entry → Type 0
+Tells v now =
+    Knows v.groups v.seen now × ((g : ℕ) (es : List Entry) → Stands g es v.known → events_of g now ≡ es)
