@@ -1,23 +1,10 @@
 -- A pass of a hall, as its calls speak of it.
-use Rattle.std.specs.Prelude.{◌≡◌, ◌<◌, ℕ, List, [], ◌∷◌, Option, None}
+use Rattle.std.specs.Prelude.{◌≡◌, ◌<◌, ◌%◌, ◌^◌, ℕ, List, [], ◌∷◌, Option, None}
 use Rattle.atomic_table.specs.Seated.{TableId}
-use Rattle.merge_core.specs.Trail.{Entry}
+use Rattle.site_hall.specs.Views.{IsHolding, IsWaiting, ticket_of}
 use Rattle.site_hall.specs.declared.hall.Pass.{Pass}
-use Rattle.site_hall.specs.declared.views.Stage.{Stage}
-use Rattle.site_hall.specs.declared.views.Stage.TheVariants.{Holding, Idle, Waiting}
+use Rattle.site_hall.specs.declared.views.Stage.TheVariants.{Idle}
 use Rattle.site_hall.specs.declared.views.View.{View}
-
--- the pass has the turn
-abbrev pub IsHolding : Stage → Type 0
-IsHolding Idle = ⊥
-IsHolding (Waiting t) = ⊥
-IsHolding (Holding t got) = Unit {0}
-
--- the history of the value that the turn came with
-abbrev pub got_of : Stage → List Entry
-got_of Idle = []
-got_of (Waiting t) = []
-got_of (Holding t got) = got
 
 module _ {S : Type 0} where
   abbrev pub table_of : Pass S → TableId
@@ -34,6 +21,12 @@ module _ {S : Type 0} where
   -- the pass has the turn
   abbrev pub HasTurn : Pass S → Type 0
   HasTurn p = IsHolding (view_of p).stage × (p.seat.me.1 ≡ (0, None) ∷ []) × (0 < (view_of p).parts)
+
+  -- the pass waits for its turn with this number in its hand
+  abbrev pub Waits : ℕ → Pass S → Type 0
+  Waits mine p =
+      IsWaiting (view_of p).stage × (mine ≡ ticket_of (view_of p).stage % 2 ^ 64)
+      × (p.seat.me.1 ≡ []) × (0 < (view_of p).parts)
 
   -- it is one pass, before a call and behind it
   abbrev pub IsSamePass : Pass S → Pass S → Type 0

@@ -4,7 +4,7 @@ use Rattle.basics.specs.Members.{Has}
 use Rattle.atomic_table.specs.Table.{Me, Step}
 use Rattle.merge_core.specs.Trail.{Entry}
 use Rattle.site_hall.specs.Events.{abandons, events_of, group_of, is_begin, with_begun}
-use Rattle.site_hall.specs.Views.{Tells, standings}
+use Rattle.site_hall.specs.Views.{Tells, got_of, standings, ticket_of}
 use Rattle.site_hall.specs.declared.views.Stage.TheVariants.{Holding, Idle, Waiting}
 use Rattle.site_hall.specs.declared.views.View.{View}
 
@@ -48,18 +48,18 @@ module _ {S : Type 0} where
 
 module _ {S : Type 0} (log : S → List Entry) (Same : S → S → Type 0) where
   -- the turn has come, with this value
-  abbrev pub Got : ℕ → View S → S → Seated S → Type 0
-  Got t v x m =
-      (m.1 ≡ (0, Some x) ∷ []) × (m.0 ≡ holding t (log x) v) × IfSome v.of (λ f. Same x f.value)
-      × Tells v (log x)
+  abbrev pub Got : View S → S → Seated S → Type 0
+  Got v x m =
+      (m.1 ≡ (0, Some x) ∷ []) × (m.0 ≡ holding (ticket_of v.stage) (log x) v)
+      × IfSome v.of (λ f. Same x f.value) × Tells v (log x)
 
   abbrev pub looked : Step (Option S) → Seated S → ℕ → Seated S → Type 0
   looked st m r m' =
-      (t : ℕ) → m.0.stage ≡ Waiting t → m.1 ≡ []
-      → (r ≢ t % 2 ^ 64 → m' ≡ m) × (r ≡ t % 2 ^ 64 → (x : S) × Got t m.0 x m')
+      (r ≢ ticket_of m.0.stage % 2 ^ 64 → m' ≡ m)
+      × (r ≡ ticket_of m.0.stage % 2 ^ 64 → (x : S) × Got m.0 x m')
 
 module _ {S : Type 0} (log : S → List Entry) where
   abbrev pub passed : Step (Option S) → Seated S → ℕ → Seated S → Type 0
   passed st m r m' =
-      (t : ℕ) (got : List Entry) (x : S) → m.0.stage ≡ Holding t got → m.1 ≡ (0, Some x) ∷ []
-      → (m'.1 ≡ []) × (m'.0 ≡ passed_view m.0 got (log x))
+      (x : S) → m.1 ≡ (0, Some x) ∷ []
+      → (m'.1 ≡ []) × (m'.0 ≡ passed_view m.0 (got_of m.0.stage) (log x))

@@ -12,6 +12,30 @@ use Rattle.site_hall.specs.declared.views.View.{View}
 abbrev pub longer : List Entry → List Entry → List Entry
 longer xs ys = if nat_le (length xs) (length ys) then ys else xs
 
+-- the ticket of a pass, where it has one
+abbrev pub ticket_of : Stage → ℕ
+ticket_of Idle = 0
+ticket_of (Waiting t) = t
+ticket_of (Holding t got) = t
+
+-- the history of the value that the turn came with
+abbrev pub got_of : Stage → List Entry
+got_of Idle = []
+got_of (Waiting t) = []
+got_of (Holding t got) = got
+
+-- the pass has a ticket, and not the turn
+abbrev pub IsWaiting : Stage → Type 0
+IsWaiting Idle = ⊥
+IsWaiting (Waiting t) = Unit {0}
+IsWaiting (Holding t got) = ⊥
+
+-- the pass has the turn
+abbrev pub IsHolding : Stage → Type 0
+IsHolding Idle = ⊥
+IsHolding (Waiting t) = ⊥
+IsHolding (Holding t got) = Unit {0}
+
 module _ {S : Type 0} where
   -- the first pass has all parts, and no group
   abbrev pub first_view : About S → View S
