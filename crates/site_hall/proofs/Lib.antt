@@ -1,2 +1,5 @@
+pub mod Fitting
 pub mod Histories
 pub mod Lists
+pub mod Looking
+pub mod Tickets
