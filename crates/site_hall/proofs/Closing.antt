@@ -17,7 +17,7 @@ use Rattle.site_hall.specs.Events.{IsCalm, events_of}
 use Rattle.site_hall.specs.Rule.{Kept, Placed, parts_of, waits}
 use Rattle.site_hall.specs.Views.{IsHolding, Tells}
 use Rattle.site_hall.proofs.Fitting.{idle_holds_none, is_holding, is_home}
-use Rattle.site_hall.proofs.Lists.{same_at, total_two}
+use Rattle.site_hall.proofs.Lists.{same_at, some_same, total_two}
 use Rattle.site_hall.proofs.Looking.{tells_now}
 
 module _ {S : Type 0} (log : S → List Entry) (Same : S → S → Type 0) (about : About S) (id : ℕ) (v : View S)
@@ -50,27 +50,35 @@ module _ {S : Type 0} (log : S → List Entry) (Same : S → S → Type 0) (abou
             (λ other. absurd (subst (λ (l : List ℕ). Has l g) ((k.each o.0 o.1 o.2).dead (no_part o.0 o.1 other o.2)) o.3)))
         (k.covers g)
 
-  -- the value that was in the slot, and what is known of it
-  pub record Left (xs : List (Option S)) : Type 0 where
-    pub value : S
-    pub stood : get_elem? xs 0 ≡ some (Some value)
+  -- what is known of the value that was in the slot
+  pub record Leaves (value : S) : Type 0 where
     pub same : Same value about.first.value
     pub tells : Tells v (log value)
     pub others : (g : ℕ) → (events_of g (log value) ≡ []) ⊎ Has v.groups g
     pub calm : about.keep_going ≡ false → IsCalm (log value)
 
-  pub leaves : (ws : List ℕ) (xs : List (Option S)) → Final (Seen (Kept log Same about) id v) ws xs → Left xs
+  pub leaves : (ws : List ℕ) (xs : List (Option S)) → Final (Seen (Kept log Same about) id v) ws xs → (x : S) × (get_elem? xs 0 ≡ some (Some x)) × Leaves x
   leaves ws xs final =
       let s = final.0 in
       let k = final.1.0 in
       let at = final.1.1 in
       let p = at_home s k at in
-      let f = k.each id v at in
-      record {
-        value = p.0;
-        stood = final.4 0 (Some p.0) (ap (λ (hs : List (maybe.Option (Option S))). get_elem? hs 0) p.1);
-        same = p.3;
-        tells = tells_now v k.now (log p.0) p.2 f.knows f.standing;
-        others = λ g. ⊎_elim (λ e. inl (ap (λ l. events_of g l) p.2 ∙ e)) (λ h. inr h) (owner s k at g);
-        calm = λ stops. subst (λ l. IsCalm l) (sym p.2) (k.calm stops);
-      }
+      let f = k.each id v at in (
+        p.0,
+        final.4 0 (Some p.0) (ap (λ (hs : List (maybe.Option (Option S))). get_elem? hs 0) p.1),
+        record {
+          same = p.3;
+          tells = tells_now v k.now (log p.0) p.2 f.knows f.standing;
+          others = λ g. ⊎_elim (λ e. inl (ap (λ l. events_of g l) p.2 ∙ e)) (λ h. inr h) (owner s k at g);
+          calm = λ stops. subst (λ l. IsCalm l) (sym p.2) (k.calm stops);
+        },
+      )
+
+  -- the slot is not empty
+  pub leaves_some : (ws : List ℕ) (xs : List (Option S)) → Final (Seen (Kept log Same about) id v) ws xs → (o : Option S) → get_elem? xs 0 ≡ some o → (x : S) × (o ≡ Some x)
+  leaves_some ws xs final o is = let left = leaves ws xs final in (left.0, some-injective o (Some left.0) (sym is ∙ left.1))
+
+  pub leaves_this : (ws : List ℕ) (xs : List (Option S)) → Final (Seen (Kept log Same about) id v) ws xs → (y : S) → get_elem? xs 0 ≡ some (Some y) → Leaves y
+  leaves_this ws xs final y is =
+      let left = leaves ws xs final in
+      subst (λ (x : S). Leaves x) (some_same left.0 y (some-injective (Some left.0) (Some y) (sym left.1 ∙ is))) left.2

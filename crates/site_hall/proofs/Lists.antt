@@ -1,11 +1,25 @@
 -- Lists of views: what adds up over them, and what no two of them have.
-use Rattle.std.proofs.Common.{◌≡◌, ◌⊎◌, ◌≢◌, ◌+◌, ◌≤◌, ◌<◌, ℕ, zero, suc, List, [], ◌∷◌, ◌++◌, set, length, inl, inr, refl, sym, ap, subst, ◌∙◌, arith, ⊎_elim}
+use Rattle.std.proofs.Common.{◌≡◌, ◌⊎◌, ◌≢◌, ◌+◌, ◌≤◌, ◌<◌, ℕ, zero, suc, List, [], ◌∷◌, ◌++◌, Option, Some, None, set, length, inl, inr, refl, sym, ap, subst, ◌∙◌, arith, ⊎_elim}
 use mathlib.Core.Option.{none, some, some-injective, some-ne-none}
 use mathlib.Core.Logic.{dite}
 use native.Mathlib.Decide.{ℕ_discrete}
 use lib.ListN.{get_elem?}
 use Rattle.atomic_table.proofs.Lists.{at_set, at_snoc, at_longer, set_else, set_here}
+use Rattle.basics.proofs.Lists.{heads}
 use Rattle.site_hall.specs.Rule.{total}
+
+in_option : {A : Type 0} → A → Option A → A
+in_option x None = x
+in_option x (Some y) = y
+
+-- one that is there is one value
+pub some_same : {A : Type 0} (x y : A) → Some x ≡ Some y → x ≡ y
+unfolding in_option
+some_same {A} x y e = ap (λ (o : Option A). in_option x o) e
+
+-- what is held first is one value
+pub first_held : {A : Type 0} (x y : A) (xs ys : List (ℕ × Option A)) → (0, Some x) ∷ xs ≡ (0, Some y) ∷ ys → x ≡ y
+first_held {A} x y xs ys e = some_same x y (ap (λ (c : ℕ × Option A). c.1) (heads (0, Some x) (0, Some y) xs ys e))
 
 module _ {A : Type 0} where
   -- what stands at one place is one thing

@@ -13,7 +13,7 @@ use Rattle.basics.specs.Members.{Has}
 use Rattle.merge_core.specs.Trail.{Entry}
 use Rattle.site_hall.specs.Events.{events_of}
 use Rattle.site_hall.specs.Rule.{Fits, HasGroup, HasTicket, InTurn, IsTicket, Kept, Placed, parts_of, tickets_of, total, waits}
-use Rattle.site_hall.specs.Steps.{Got, Seated, holding, looked}
+use Rattle.site_hall.specs.Steps.{Got, Seated, holding, looked, waiting}
 use Rattle.site_hall.specs.Views.{IsHolding, IsWaiting, Stands, Tells, ticket_of}
 use Rattle.site_hall.specs.declared.views.About.{About}
 use Rattle.site_hall.specs.declared.views.Stage.{Stage}
@@ -52,6 +52,11 @@ pub tells_now : {S : Type 0} (v : View S) (now log : List Entry) → log ≡ now
     → ((g : ℕ) (es : List Entry) → Stands g es v.known → Has v.groups g × (events_of g now ≡ es)) → Tells v log
 unfolding Tells
 tells_now v now log is k h = ((k.0, is ∙ k.1, k.2), λ g es st. ap (λ l. events_of g l) is ∙ (h g es st).1)
+
+-- what a pass that waits is told is told of what it knew before
+pub tells_before : {S : Type 0} (v w : View S) (t : ℕ) (l m : List Entry) → w ≡ waiting t v → l ≡ m → Tells w l → Tells v m
+unfolding Tells
+tells_before {S} v w t l m is same tells = subst (λ (n : List Entry). Tells v n) same (subst (λ (u : View S). Tells u l) is tells)
 
 module _ {S : Type 0} (log : S → List Entry) (Same : S → S → Type 0) (about : About S) where
   module _ (s : State (Option S) (View S)) (k : Kept log Same about s) (id : ℕ) (v : View S) (at : get_elem? s.views id ≡ some v) (is_waiting : IsWaiting v.stage) where

@@ -22,7 +22,7 @@ use Rattle.site_hall.specs.declared.views.Stage.TheVariants.{Holding, Idle, Wait
 use Rattle.site_hall.specs.declared.views.View.{View}
 use Rattle.site_hall.proofs.Fitting.{Owned, owned_here, owned_set}
 use Rattle.site_hall.proofs.Histories.{Turned, events_both, events_same, first_empty, stands_with, turned, turned_calm}
-use Rattle.site_hall.proofs.Lists.{apart_set, same_at, total_set}
+use Rattle.site_hall.proofs.Lists.{apart_set, first_held, same_at, total_set}
 
 holding_in : (issued served : ℕ) (now : List Entry) (out : maybe.Option ℕ) (j : ℕ) (st : Stage) → IsHolding st → InTurn issued served now out j st
     → (ticket_of st ≡ served) × (ticket_of st < issued) × (got_of st ≡ now) × (out ≡ maybe.some j)
@@ -59,14 +59,6 @@ knows_more groups seen now extra none_of k = (
   ap (λ l. l ++ extra) k.1 ∙ append_assoc seen k.0 extra,
   λ g has. events_same g k.0 extra (none_of g has) ∙ k.2 g has,
 )
-
-in_option : {S : Type 0} → S → Option S → S
-in_option x None = x
-in_option x (Some y) = y
-
-value_in : {S : Type 0} → S → List (ℕ × Option S) → S
-value_in x [] = x
-value_in x (c ∷ cs) = in_option x c.1
 
 module _ {S : Type 0} (log : S → List Entry) (Same : S → S → Type 0) (about : About S) where
   module _ (s : State (Option S) (View S)) (k : Kept log Same about s) (id : ℕ) (v : View S) (at : get_elem? s.views id ≡ some v) (holds : IsHolding v.stage) (x : S)
@@ -172,7 +164,6 @@ module _ {S : Type 0} (log : S → List Entry) (Same : S → S → Type 0) (abou
       → IfSome me.0.of (λ f. Same x f.value) → MayLeave me.0.groups (got_of me.0.stage) (log x)
       → (about.keep_going ≡ false → Calmly (got_of me.0.stage) (log x))
       → Allows (Kept log Same about) slots id me 1 (λ n. (n + 1) % 2 ^ 64) (passed log (step slots 1 1 0 none) me)
-  unfolding value_in in_option
   passing_allows slots id me x holds out_is some_part same may calmly s k _ at small = let f = k.each id me.0 at in (
     passed_view me.0 (got_of me.0.stage) (log x),
     gives,
@@ -182,6 +173,6 @@ module _ {S : Type 0} (log : S → List Entry) (Same : S → S → Type 0) (abou
         (passes_on s k id me.0 at holds x may (first_of me.0 x (f.of some_part) same) calmly),
     λ y is. (
       ap rest out_is,
-      ap (λ (z : S). passed_view me.0 (got_of me.0.stage) (log z)) (ap (value_in x) (sym out_is ∙ is)),
+      ap (λ (z : S). passed_view me.0 (got_of me.0.stage) (log z)) (first_held x y [] [] (sym out_is ∙ is)),
     ),
   )
