@@ -23,7 +23,7 @@ module _ {A : Type 0} where
   only_place a b (suc j) e = absurd (some-ne-none b (sym e))
 
 module _ {S : Type 0} (log : S → List Entry) (Same : S → S → Type 0) (about : About S) (x : S) where
-  fits_first : (j : ℕ) → Fits about.first 0 0 [] maybe.none j (first_view about)
+  fits_first : (j : ℕ) → Fits about.first 0 0 [] maybe.none j (first_view about.first about.parts)
   fits_first j = record {
     of = λ _. refl;
     knows = ([], refl, λ g has. absurd has);
@@ -35,7 +35,7 @@ module _ {S : Type 0} (log : S → List Entry) (Same : S → S → Type 0) (abou
   }
 
   pub opens : (items : List (Option S)) → items ≡ Some x ∷ [] → about.parts < 2 ^ 32 → log x ≡ [] → Same x about.first.value
-      → Kept log Same about (opening (0 ∷ 0 ∷ []) items (first_view about))
+      → Kept log Same about (opening (0 ∷ 0 ∷ []) items (first_view about.first about.parts))
   opens items are small empty same = record {
     issued = 0;
     served = 0;
@@ -43,12 +43,12 @@ module _ {S : Type 0} (log : S → List Entry) (Same : S → S → Type 0) (abou
     out = maybe.none;
     words = refl;
     placed = (x, ap (λ l. map maybe.some l) are, empty, same);
-    each = λ j u here. let p = only_place (first_view about) u j here in subst (λ (y : View S). Fits about.first 0 0 [] maybe.none j y) p.1 (fits_first j);
+    each = λ j u here. let p = only_place (first_view about.first about.parts) u j here in subst (λ (y : View S). Fits about.first 0 0 [] maybe.none j y) p.1 (fits_first j);
     small = small;
     parts = omega arith;
     tickets = refl;
-    tickets_apart = λ j m a b y ea eb pa pb. (only_place (first_view about) a j ea).0 ∙ sym (only_place (first_view about) b m eb).0;
-    groups_apart = λ j m a b y ea eb pa pb. (only_place (first_view about) a j ea).0 ∙ sym (only_place (first_view about) b m eb).0;
+    tickets_apart = λ j m a b y ea eb pa pb. (only_place (first_view about.first about.parts) a j ea).0 ∙ sym (only_place (first_view about.first about.parts) b m eb).0;
+    groups_apart = λ j m a b y ea eb pa pb. (only_place (first_view about.first about.parts) a j ea).0 ∙ sym (only_place (first_view about.first about.parts) b m eb).0;
     covers = λ g. inl refl;
     calm = λ stops. tt;
   }

@@ -60,6 +60,10 @@ knows_more groups seen now extra none_of k = (
   λ g has. events_same g k.0 extra (none_of g has) ∙ k.2 g has,
 )
 
+-- the value was put into the place that the pass holds
+pub put_in : {S : Type 0} (me old : Seated S) (x : S) → me ≡ (old.0, (0, Some x) ∷ rest old.1) → old.1 ≡ (0, None) ∷ [] → me ≡ (old.0, (0, Some x) ∷ [])
+put_in {S} me old x is held = is ∙ ap {B = Seated S} (λ (taken : List (ℕ × Option S)). (old.0, (0, Some x) ∷ taken)) (ap rest held)
+
 module _ {S : Type 0} (log : S → List Entry) (Same : S → S → Type 0) (about : About S) where
   module _ (s : State (Option S) (View S)) (k : Kept log Same about s) (id : ℕ) (v : View S) (at : get_elem? s.views id ≡ some v) (holds : IsHolding v.stage) (x : S)
       (may : MayLeave v.groups (got_of v.stage) (log x)) where

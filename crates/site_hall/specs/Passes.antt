@@ -1,18 +1,42 @@
--- A pass of a hall, as its calls speak of it.
-use Rattle.std.specs.Prelude.{◌≡◌, ◌<◌, ◌%◌, ◌^◌, ℕ, List, [], ◌∷◌, Option, None}
+-- Halls and their passes, as the calls speak of them.
+use Rattle.std.specs.Prelude.{◌≡◌, ◌<◌, ◌%◌, ◌^◌, ℕ, Bool, List, [], ◌∷◌, Option, None}
+use Rattle.std.specs.declared.snapshot.Snapshot.{Snapshot}
 use Rattle.atomic_table.specs.Seated.{TableId}
-use Rattle.site_hall.specs.Views.{IsHolding, IsWaiting, ticket_of}
+use Rattle.merge_core.specs.Trail.{Entry}
+use Rattle.site_hall.specs.Views.{IsHolding, IsWaiting, got_of, ticket_of}
+use Rattle.site_hall.specs.declared.hall.Hall.{Hall}
 use Rattle.site_hall.specs.declared.hall.Pass.{Pass}
 use Rattle.site_hall.specs.declared.views.Stage.TheVariants.{Idle}
 use Rattle.site_hall.specs.declared.views.View.{View}
 
 module _ {S : Type 0} where
-  abbrev pub table_of : Pass S → TableId
-  table_of p = p.seat.table_id
+  -- which hall it is
+  abbrev pub id_of : Hall S → TableId
+  id_of h = h.table.shared.table_id
+
+  -- the value that was put in, as it was then
+  abbrev pub opening_of : Hall S → Snapshot S
+  opening_of h = h.table.shared.key.first
+
+  -- how many parts the hall has
+  abbrev pub parts_of : Hall S → ℕ
+  parts_of h = h.table.shared.key.parts
+
+  -- groups may begin behind one that was given up
+  abbrev pub keeps_going : Hall S → Bool
+  keeps_going h = h.table.shared.key.keep_going
+
+  -- which hall the pass is of
+  abbrev pub hall_of : Pass S → TableId
+  hall_of p = p.seat.table_id
 
   -- what the pass knows
   abbrev pub view_of : Pass S → View S
   view_of p = p.seat.me.0
+
+  -- the history of the value that the pass's turn came with
+  abbrev pub got_by : Pass S → List Entry
+  got_by p = got_of (view_of p).stage
 
   -- the pass has no turn, and at least one part
   abbrev pub Rests : Pass S → Type 0
@@ -22,18 +46,18 @@ module _ {S : Type 0} where
   abbrev pub HasTurn : Pass S → Type 0
   HasTurn p = IsHolding (view_of p).stage × (p.seat.me.1 ≡ (0, None) ∷ []) × (0 < (view_of p).parts)
 
-  -- the pass waits for its turn with this number in its hand
+  -- the pass waits for its turn, and was told this number
   abbrev pub Waits : ℕ → Pass S → Type 0
   Waits mine p =
       IsWaiting (view_of p).stage × (mine ≡ ticket_of (view_of p).stage % 2 ^ 64)
       × (p.seat.me.1 ≡ []) × (0 < (view_of p).parts)
 
-  -- it is one pass, before a call and behind it
-  abbrev pub IsSamePass : Pass S → Pass S → Type 0
-  IsSamePass p q = (q.seat.table_id ≡ p.seat.table_id) × (q.seat.id ≡ p.seat.id)
+  -- whether the place of the value is in the pass's hands is as it was
+  abbrev pub HoldsAsBefore : Pass S → Pass S → Type 0
+  HoldsAsBefore old new = new.seat.me.1 ≡ old.seat.me.1
 
-  -- a turn came, and what the pass knows is as it was
-  abbrev pub KeepsKnowledge : View S → View S → Type 0
-  KeepsKnowledge v w =
-      (w.of ≡ v.of) × (w.parts ≡ v.parts) × (w.groups ≡ v.groups) × (w.seen ≡ v.seen)
-      × (w.known ≡ v.known)
+  -- all that the one knows the other knows, whether or not either has a turn
+  abbrev pub KnowsAsMuch : View S → View S → Type 0
+  KnowsAsMuch old new =
+      (new.of ≡ old.of) × (new.parts ≡ old.parts) × (new.groups ≡ old.groups)
+      × (new.seen ≡ old.seen) × (new.known ≡ old.known)

@@ -1,9 +1,9 @@
 -- What a pass knows, and what becomes of it where passes are cut and put together.
 use Rattle.std.specs.Prelude.{◌≡◌, ◌-◌, ◌+◌, ◌++◌, ◌≤◌, ℕ, List, [], ◌∷◌, Option, Some, None, length, nat_le, if◌then◌else◌}
+use Rattle.std.specs.declared.snapshot.Snapshot.{Snapshot}
 use Rattle.basics.specs.Members.{Has}
 use Rattle.merge_core.specs.Trail.{Entry}
 use Rattle.site_hall.specs.Events.{Knows, events_of}
-use Rattle.site_hall.specs.declared.views.About.{About}
 use Rattle.site_hall.specs.declared.views.Stage.{Stage}
 use Rattle.site_hall.specs.declared.views.Stage.TheVariants.{Holding, Idle, Waiting}
 use Rattle.site_hall.specs.declared.views.View.{View}
@@ -38,8 +38,9 @@ IsHolding (Holding t got) = Unit {0}
 
 module _ {S : Type 0} where
   -- the first pass has all parts, and no group
-  abbrev pub first_view : About S → View S
-  first_view a = record { of = Some a.first; parts = a.parts; groups = []; seen = []; known = []; stage = Idle }
+  abbrev pub first_view : Snapshot S → ℕ → View S
+  first_view first parts =
+      record { of = Some first; parts = parts; groups = []; seen = []; known = []; stage = Idle }
 
   -- what is left of a pass that gives one part away
   abbrev pub kept_part : View S → View S

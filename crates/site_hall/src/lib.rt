@@ -3,9 +3,9 @@
 //! Work in progress.
 #![tactic(auto)]
 
+mod calls;
 mod hall;
 mod rule;
 mod views;
 
 pub use hall::{Hall, Pass, Turn};
-pub use views::{About, History, Stage, View};

@@ -12,7 +12,7 @@ impl<X: Logged> TableRule<Option<X>, View<X>, About<X>> for Turns {
 
     ghost holds = { Kept X.log X.same };
 
-    ghost first = { first_view };
+    ghost first = { λ about. first_view about.first about.parts };
 }
 
 /// A ticket is taken.

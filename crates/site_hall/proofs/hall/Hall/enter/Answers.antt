@@ -14,14 +14,14 @@ fetch_add-mine-requires g c = (
 
 pub exchange-found-requires : goal.exchange-found-requires
 exchange-found-requires g c =
-    let turn = c.look.ensures.turn in (
+    let turn = c.await_ticket.ensures.turn in (
       search rules,
       (Some turn.0, turn.1.0 ∙ ap (λ (taken : List (ℕ × Option g.row.X.Denot)). (0, Some turn.0) ∷ taken) (sym (ap rest turn.1.0))),
     )
 
-pub returns-clause-knows : goal.returns-clause-knows
-returns-clause-knows g c =
-    let turn = c.look.ensures.turn in
+pub returns-clause-tells : goal.returns-clause-tells
+returns-clause-tells g c =
+    let turn = c.await_ticket.ensures.turn in
     let took = c.fetch_add-mine.ensures.2 in
     let found = rw c.in-Some.is at c.exchange-found.ensures.2 in
     let same = first_held turn.0 c.in-Some.value [] _ (sym turn.1.0 ∙ found) in

@@ -1,6 +1,6 @@
 use Rattle.std.proofs.Common.{rules}
 use Rattle.site_hall.proofs.Looking.{looks_allow}
-use Rattle.site_hall.proofs.hall.Hall.look.Goals as goal
+use Rattle.site_hall.proofs.hall.Hall.await_ticket.Goals as goal
 
 pub load-serving-requires : goal.load-serving-requires
 load-serving-requires g c = (
