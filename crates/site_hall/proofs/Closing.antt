@@ -29,13 +29,13 @@ module _ {S : Type 0} (log : S → List Entry) (Same : S → S → Type 0) (abou
     nobody : (j : ℕ) (u : View S) → get_elem? s.views j ≡ some u → ¬ (u.stage ≡ Holding k.served k.now)
     nobody j u here holds = dite (ℕ_discrete j id)
         (λ same.
-            let is : u ≡ v = same_at s.views id u v (subst (λ (n : ℕ). get_elem? s.views n ≡ some u) same here) at in
-            idle_holds_none v.stage idle (subst (λ (y : View S). IsHolding y.stage) is (is_holding u.stage k.served k.now holds)))
+        let is : u ≡ v = same_at s.views id u v (subst (λ (n : ℕ). get_elem? s.views n ≡ some u) same here) at in
+        idle_holds_none v.stage idle (subst (λ (y : View S). IsHolding y.stage) is (is_holding u.stage k.served k.now holds)))
         (λ other.
-            let few = (k.each j u here).few in
-            let none_left = no_part j u other here in
-            let one : waits u.stage ≡ 1 = ap waits holds in
-            absurd (omega arith))
+        let few = (k.each j u here).few in
+        let none_left = no_part j u other here in
+        let one : waits u.stage ≡ 1 = ap waits holds in
+        absurd (omega arith))
 
     pub at_home : (x : S) × (s.homes ≡ some (Some x) ∷ []) × (log x ≡ k.now) × Same x about.first.value
     at_home = subst (λ (o : maybe.Option ℕ). Placed log Same about.first k.now s.homes s.views k.served o)
@@ -46,8 +46,8 @@ module _ {S : Type 0} (log : S → List Entry) (Same : S → S → Type 0) (abou
     owner g = ⊎_elim
         (λ e. inl e)
         (λ o. dite (ℕ_discrete o.0 id)
-            (λ same. inr (subst (λ (u : View S). Has u.groups g) (same_at s.views id o.1 v (subst (λ (n : ℕ). get_elem? s.views n ≡ some o.1) same o.2) at) o.3))
-            (λ other. absurd (subst (λ (l : List ℕ). Has l g) ((k.each o.0 o.1 o.2).dead (no_part o.0 o.1 other o.2)) o.3)))
+        (λ same. inr (subst (λ (u : View S). Has u.groups g) (same_at s.views id o.1 v (subst (λ (n : ℕ). get_elem? s.views n ≡ some o.1) same o.2) at) o.3))
+        (λ other. absurd (subst (λ (l : List ℕ). Has l g) ((k.each o.0 o.1 o.2).dead (no_part o.0 o.1 other o.2)) o.3)))
         (k.covers g)
 
   -- what is known of the value that was in the slot

@@ -94,16 +94,18 @@ module _ {S : Type 0} (log : S → List Entry) (Same : S → S → Type 0) (firs
   pub placed_set : (out : maybe.Option ℕ) (i : ℕ) (v w : View S) → get_elem? views i ≡ some v → (IsHolding v.stage → w.stage ≡ v.stage)
       → Placed log Same first now homes views served out → Placed log Same first now homes (set views i w) served out
   placed_set maybe.none i v w at stays p = p
-  placed_set (maybe.some j) i v w at stays p = (p.0, dite (ℕ_discrete j i)
-      (λ same.
-          let is : p.1.0 ≡ v = same_at views i p.1.0 v (subst (λ (k : ℕ). get_elem? views k ≡ some p.1.0) same p.1.1) at in
-          let holds : v.stage ≡ Holding served now = subst (λ (u : View S). u.stage ≡ Holding served now) is p.1.2 in
-          (
-            w,
-            subst (λ (k : ℕ). get_elem? (set views i w) k ≡ some w) (sym same) (set_here views i w (at_within views i v at)),
-            stays (is_holding v.stage served now holds) ∙ holds,
-          ))
-      (λ other. (p.1.0, set_else views i j w other ∙ p.1.1, p.1.2)))
+  placed_set (maybe.some j) i v w at stays p = (
+    p.0,
+    dite (ℕ_discrete j i)
+        (λ same.
+        let is : p.1.0 ≡ v = same_at views i p.1.0 v (subst (λ (k : ℕ). get_elem? views k ≡ some p.1.0) same p.1.1) at in
+        let holds : v.stage ≡ Holding served now = subst (λ (u : View S). u.stage ≡ Holding served now) is p.1.2 in (
+          w,
+          subst (λ (k : ℕ). get_elem? (set views i w) k ≡ some w) (sym same) (set_here views i w (at_within views i v at)),
+          stays (is_holding v.stage served now holds) ∙ holds,
+        ))
+        (λ other. (p.1.0, set_else views i j w other ∙ p.1.1, p.1.2)),
+  )
 
   pub placed_snoc : (out : maybe.Option ℕ) (w : View S) → Placed log Same first now homes views served out → Placed log Same first now homes (views ++ w ∷ []) served out
   placed_snoc maybe.none w p = p

@@ -130,19 +130,19 @@ module _ (groups : List ℕ) (got now : List Entry) where
     owned_one : (g : ℕ) → (events_of g (e ∷ []) ≡ []) ⊎ Has (begun_by (is_begin e.0) (group_of e.0) groups) g
     owned_one g = dite (ℕ_discrete (group_of e.0) g)
         (λ same. inr (subst (λ (x : ℕ). Has (begun_by (is_begin e.0) (group_of e.0) groups) x) same
-            (owns_one groups e (is_begin e.0) refl (⊎_elim (λ own. inl own) (λ begins. inr begins.0) mine))))
+        (owns_one groups e (is_begin e.0) refl (⊎_elim (λ own. inl own) (λ begins. inr begins.0) mine))))
         (λ other. inl (events_else g e other))
 
     from_event : (g : ℕ) → Has (begun_by (is_begin e.0) (group_of e.0) groups) g → Has groups g ⊎ ((events_of g got ≡ []) × ¬ (events_of g now ≡ []))
     from_event g has = ⊎_elim
         (λ own. inl own)
         (λ t. ⊎_elim
-            (λ own. inl (subst (λ (x : ℕ). Has groups x) t.1 own))
-            (λ begins. inr (
-              subst (λ (x : ℕ). events_of x got ≡ []) t.1 begins.1,
-              λ none_of. not_empty got [] e g t.1 (ap (λ l. events_of g l) (sym is) ∙ none_of),
-            ))
-            mine)
+        (λ own. inl (subst (λ (x : ℕ). Has groups x) t.1 own))
+        (λ begins. inr (
+          subst (λ (x : ℕ). events_of x got ≡ []) t.1 begins.1,
+          λ none_of. not_empty got [] e g t.1 (ap (λ l. events_of g l) (sym is) ∙ none_of),
+        ))
+        mine)
         (from_one groups (group_of e.0) g (is_begin e.0) has)
 
     turned_one : Turned groups got now (begun_by (is_begin e.0) (group_of e.0) groups)

@@ -63,10 +63,10 @@ module _ {S : Type 0} (log : S → List Entry) (Same : S → S → Type 0) (abou
     each_fits j u here = ⊎_elim
         (λ t. subst (λ (y : View S). Fits about.first k.issued k.served k.now k.out j y) t.1 (fits_spent j))
         (λ t. ⊎_elim
-            (λ q. subst (λ (y : View S). Fits about.first k.issued k.served k.now k.out j y) q.1
-                (fits_both j (k.each j v (subst (λ (n : ℕ). get_elem? s.views n ≡ some v) (sym q.0) at)) (k.each other w at_other)))
-            (λ q. k.each j u q.1)
-            (at_set s.views id j (joined v w) u t.1))
+        (λ q. subst (λ (y : View S). Fits about.first k.issued k.served k.now k.out j y) q.1
+        (fits_both j (k.each j v (subst (λ (n : ℕ). get_elem? s.views n ≡ some v) (sym q.0) at)) (k.each other w at_other)))
+        (λ q. k.each j u q.1)
+        (at_set s.views id j (joined v w) u t.1))
         (at_set taking other j spent u here)
 
     both_at : get_elem? views id ≡ some (joined v w)
@@ -74,12 +74,22 @@ module _ {S : Type 0} (log : S → List Entry) (Same : S → S → Type 0) (abou
 
     covered : (g : ℕ) → Owned s.views g → Owned views g
     covered g o = dite (ℕ_discrete o.0 id)
-        (λ here. (id, joined v w, both_at, has-append_left v.groups w.groups g
-            (subst (λ (u : View S). Has u.groups g) (same_at s.views id o.1 v (subst (λ (n : ℕ). get_elem? s.views n ≡ some o.1) here o.2) at) o.3)))
+        (λ here. (
+          id,
+          joined v w,
+          both_at,
+          has-append_left v.groups w.groups g
+              (subst (λ (u : View S). Has u.groups g) (same_at s.views id o.1 v (subst (λ (n : ℕ). get_elem? s.views n ≡ some o.1) here o.2) at) o.3),
+        ))
         (λ not_here. dite (ℕ_discrete o.0 other)
-            (λ there. (id, joined v w, both_at, has-append_right v.groups w.groups g
-                (subst (λ (u : View S). Has u.groups g) (same_at s.views other o.1 w (subst (λ (n : ℕ). get_elem? s.views n ≡ some o.1) there o.2) at_other) o.3)))
-            (λ not_there. (o.0, o.1, set_else taking other o.0 spent not_there ∙ (set_else s.views id o.0 (joined v w) not_here ∙ o.2), o.3)))
+        (λ there. (
+          id,
+          joined v w,
+          both_at,
+          has-append_right v.groups w.groups g
+              (subst (λ (u : View S). Has u.groups g) (same_at s.views other o.1 w (subst (λ (n : ℕ). get_elem? s.views n ≡ some o.1) there o.2) at_other) o.3),
+        ))
+        (λ not_there. (o.0, o.1, set_else taking other o.0 spent not_there ∙ (set_else s.views id o.0 (joined v w) not_here ∙ o.2), o.3)))
 
     joins_two : Kept log Same about (record { words = s.words; homes = s.homes; views = views })
     joins_two = record {

@@ -69,27 +69,27 @@ module _ {A : Type 0} (P : A → ℕ → Type 0) where
       → AreApart P (set l i w)
   apart_set l i v w at apart fresh j k a b x ea eb pa pb =
       let other : (m : ℕ) (u : A) → get_elem? l m ≡ some u → P u x → P w x → i ≡ m = λ m u eu pu pw. ⊎_elim
-          (λ pv. apart i m v u x at eu pv pu)
-          (λ none_else. sym (none_else m u eu pu))
-          (fresh x pw)
+      (λ pv. apart i m v u x at eu pv pu)
+      (λ none_else. sym (none_else m u eu pu))
+      (fresh x pw)
       in ⊎_elim
-          (λ s. ⊎_elim
-              (λ t. s.0 ∙ sym t.0)
-              (λ t. s.0 ∙ other k b t.1 pb (subst (λ u. P u x) (sym s.1) pa))
-              (at_set l i k w b eb))
-          (λ s. ⊎_elim
-              (λ t. sym (other j a s.1 pa (subst (λ u. P u x) (sym t.1) pb)) ∙ sym t.0)
-              (λ t. apart j k a b x s.1 t.1 pa pb)
-              (at_set l i k w b eb))
-          (at_set l i j w a ea)
+      (λ s. ⊎_elim
+      (λ t. s.0 ∙ sym t.0)
+      (λ t. s.0 ∙ other k b t.1 pb (subst (λ u. P u x) (sym s.1) pa))
+      (at_set l i k w b eb))
+      (λ s. ⊎_elim
+      (λ t. sym (other j a s.1 pa (subst (λ u. P u x) (sym t.1) pb)) ∙ sym t.0)
+      (λ t. apart j k a b x s.1 t.1 pa pb)
+      (at_set l i k w b eb))
+      (at_set l i j w a ea)
 
   -- one that has no number joins the list
   pub apart_snoc : (l : List A) (w : A) → AreApart P l → ((x : ℕ) → ¬ P w x) → AreApart P (l ++ w ∷ [])
   apart_snoc l w apart none_of j k a b x ea eb pa pb = ⊎_elim
       (λ s. ⊎_elim
-          (λ t. apart j k a b x s t pa pb)
-          (λ t. absurd (none_of x (subst (λ u. P u x) (sym t) pb)))
-          (at_snoc l w b k eb))
+      (λ t. apart j k a b x s t pa pb)
+      (λ t. absurd (none_of x (subst (λ u. P u x) (sym t) pb)))
+      (at_snoc l w b k eb))
       (λ s. absurd (none_of x (subst (λ u. P u x) (sym s) pa)))
       (at_snoc l w a j ea)
 
@@ -99,22 +99,22 @@ module _ {A : Type 0} (P : A → ℕ → Type 0) where
       → AreApart P (set (set l i both) o spent)
   apart_join l i o v w both spent at_v at_w n apart from none_of j k a b x ea eb pa pb =
       let second : (m : ℕ) (u : A) → m ≢ o → get_elem? l m ≡ some u → P u x → P both x → i ≡ m = λ m u nm eu pu pboth. ⊎_elim
-          (λ pv. apart i m v u x at_v eu pv pu)
-          (λ pw. absurd (nm (sym (apart o m w u x at_w eu pw pu))))
-          (from x pboth)
+      (λ pv. apart i m v u x at_v eu pv pu)
+      (λ pw. absurd (nm (sym (apart o m w u x at_w eu pw pu))))
+      (from x pboth)
       in ⊎_elim
-          (λ s. absurd (none_of x (subst (λ u. P u x) (sym s.1) pa)))
-          (λ s. ⊎_elim
-              (λ t. absurd (none_of x (subst (λ u. P u x) (sym t.1) pb)))
-              (λ t. ⊎_elim
-                  (λ p. ⊎_elim
-                      (λ q. p.0 ∙ sym q.0)
-                      (λ q. p.0 ∙ second k b t.0 q.1 pb (subst (λ u. P u x) (sym p.1) pa))
-                      (at_set l i k both b t.1))
-                  (λ p. ⊎_elim
-                      (λ q. sym (second j a s.0 p.1 pa (subst (λ u. P u x) (sym q.1) pb)) ∙ sym q.0)
-                      (λ q. apart j k a b x p.1 q.1 pa pb)
-                      (at_set l i k both b t.1))
-                  (at_set l i j both a s.1))
-              (at_set (set l i both) o k spent b eb))
-          (at_set (set l i both) o j spent a ea)
+      (λ s. absurd (none_of x (subst (λ u. P u x) (sym s.1) pa)))
+      (λ s. ⊎_elim
+      (λ t. absurd (none_of x (subst (λ u. P u x) (sym t.1) pb)))
+      (λ t. ⊎_elim
+      (λ p. ⊎_elim
+      (λ q. p.0 ∙ sym q.0)
+      (λ q. p.0 ∙ second k b t.0 q.1 pb (subst (λ u. P u x) (sym p.1) pa))
+      (at_set l i k both b t.1))
+      (λ p. ⊎_elim
+      (λ q. sym (second j a s.0 p.1 pa (subst (λ u. P u x) (sym q.1) pb)) ∙ sym q.0)
+      (λ q. apart j k a b x p.1 q.1 pa pb)
+      (at_set l i k both b t.1))
+      (at_set l i j both a s.1))
+      (at_set (set l i both) o k spent b eb))
+      (at_set (set l i both) o j spent a ea)

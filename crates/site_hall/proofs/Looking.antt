@@ -118,18 +118,18 @@ module _ {S : Type 0} (log : S → List Entry) (Same : S → S → Type 0) (abou
         each_fits : (j : ℕ) (u : View S) → get_elem? (set s.views id w) j ≡ some u → Fits about.first k.issued k.served k.now (maybe.some id) j u
         each_fits j u here = ⊎_elim
             (λ t.
-                let at_j : get_elem? s.views j ≡ some v = subst (λ (n : ℕ). get_elem? s.views n ≡ some v) (sym t.0) at in
-                let turn = waiting_in k.issued k.served k.now k.out id v.stage is_waiting (k.each id v at).turn in
-                let few = (k.each id v at).few in
-                let one = waiting_once v.stage is_waiting in
-                subst (λ (y : View S). Fits about.first k.issued k.served k.now (maybe.some id) j y) t.1
-                    (fits_stage about.first k.issued k.served k.now (maybe.some id) j v (Holding (ticket_of v.stage) (log x))
-                        (fits_out about.first k.issued k.served k.now (maybe.some id) j v (waiting_not v.stage is_waiting) (fits_home j v at_j))
-                        (sym served, turn.1, log_is, ap maybe.some (sym t.0))
-                        (omega arith)))
+            let at_j : get_elem? s.views j ≡ some v = subst (λ (n : ℕ). get_elem? s.views n ≡ some v) (sym t.0) at in
+            let turn = waiting_in k.issued k.served k.now k.out id v.stage is_waiting (k.each id v at).turn in
+            let few = (k.each id v at).few in
+            let one = waiting_once v.stage is_waiting in
+            subst (λ (y : View S). Fits about.first k.issued k.served k.now (maybe.some id) j y) t.1
+            (fits_stage about.first k.issued k.served k.now (maybe.some id) j v (Holding (ticket_of v.stage) (log x))
+            (fits_out about.first k.issued k.served k.now (maybe.some id) j v (waiting_not v.stage is_waiting) (fits_home j v at_j))
+            (sym served, turn.1, log_is, ap maybe.some (sym t.0))
+            (omega arith)))
             (λ t. fits_out about.first k.issued k.served k.now (maybe.some id) j u
-                (not_holding k.issued k.served k.now j u.stage (fits_home j u t.1).turn)
-                (fits_home j u t.1))
+            (not_holding k.issued k.served k.now j u.stage (fits_home j u t.1).turn)
+            (fits_home j u t.1))
             (at_set s.views id j w u here)
 
         same_ticket : (y : ℕ) → HasTicket w y → HasTicket v y
@@ -163,28 +163,27 @@ module _ {S : Type 0} (log : S → List Entry) (Same : S → S → Type 0) (abou
       → Allows (Kept log Same about) slots id me 1 (λ n. n) (looked log Same (step slots 1 0 0 none) me)
   looks_allow slots id me is_waiting none_out some_part s k _ at small = dite (ℕ_discrete (get_or s.words 1 0) (ticket_of me.0.stage % 2 ^ 64))
       (λ found.
-          let served = serves s k id me.0 at is_waiting found in
-          let out_is = home s k id me.0 at is_waiting served in
-          let p = subst (λ (o : maybe.Option ℕ). Placed log Same about.first k.now s.homes s.views k.served o) out_is k.placed in
-          let f = k.each id me.0 at in
-          (
-            holding (ticket_of me.0.stage) (log p.0) me.0,
-            takes 0 (Some p.0),
-            ap (λ (hs : List (maybe.Option (Option S))). get_elem? hs 0) p.1,
-            took_out s k id me.0 at is_waiting served p.0 p.1 p.2,
+      let served = serves s k id me.0 at is_waiting found in
+      let out_is = home s k id me.0 at is_waiting served in
+      let p = subst (λ (o : maybe.Option ℕ). Placed log Same about.first k.now s.homes s.views k.served o) out_is k.placed in
+      let f = k.each id me.0 at in (
+        holding (ticket_of me.0.stage) (log p.0) me.0,
+        takes 0 (Some p.0),
+        ap (λ (hs : List (maybe.Option (Option S))). get_elem? hs 0) p.1,
+        took_out s k id me.0 at is_waiting served p.0 p.1 p.2,
+        (
+          (λ other. absurd (other found)),
+          (λ _. (
+            p.0,
             (
-              (λ other. absurd (other found)),
-              (λ _. (
-                p.0,
-                (
-                  ap (λ (c : List (ℕ × Option S)). (0, Some p.0) ∷ c) none_out,
-                  refl,
-                  of_first me.0 p.0 (f.of some_part) p.3,
-                  tells_now me.0 k.now (log p.0) p.2 f.knows f.standing,
-                ),
-              )),
+              ap (λ (c : List (ℕ × Option S)). (0, Some p.0) ∷ c) none_out,
+              refl,
+              of_first me.0 p.0 (f.of some_part) p.3,
+              tells_now me.0 k.now (log p.0) p.2 f.knows f.standing,
             ),
-          ))
+          )),
+        ),
+      ))
       (λ other. (
         me.0,
         keeps,

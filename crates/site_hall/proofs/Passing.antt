@@ -136,9 +136,9 @@ module _ {S : Type 0} (log : S → List Entry) (Same : S → S → Type 0) (abou
     covered : (g : ℕ) → (events_of g (log x) ≡ []) ⊎ Owned (set s.views id w) g
     covered g = ⊎_elim
         (λ quiet. ⊎_elim
-            (λ none_of. inl (ap (λ l. events_of g l) now_is ∙ (events_same g k.now made.extra quiet ∙ none_of)))
-            (λ o. inr (owned_set s.views id v w g at (λ own. made.more g own) o))
-            (k.covers g))
+        (λ none_of. inl (ap (λ l. events_of g l) now_is ∙ (events_same g k.now made.extra quiet ∙ none_of)))
+        (λ o. inr (owned_set s.views id v w g at (λ own. made.more g own) o))
+        (k.covers g))
         (λ own. inr (owned_here s.views id v w g at own))
         (made.owned g)
 

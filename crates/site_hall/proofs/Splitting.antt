@@ -55,10 +55,10 @@ module _ {S : Type 0} (log : S → List Entry) (Same : S → S → Type 0) (abou
     each_fits : (j : ℕ) (u : View S) → get_elem? (left_views ++ given_part v ∷ []) j ≡ some u → Fits about.first k.issued k.served k.now k.out j u
     each_fits j u here = ⊎_elim
         (λ t. ⊎_elim
-            (λ q. subst (λ (y : View S). Fits about.first k.issued k.served k.now k.out j y) q.1
-                (fits_left j (k.each j v (subst (λ (n : ℕ). get_elem? s.views n ≡ some v) (sym q.0) at))))
-            (λ q. k.each j u q.1)
-            (at_set s.views id j (kept_part v) u t))
+        (λ q. subst (λ (y : View S). Fits about.first k.issued k.served k.now k.out j y) q.1
+        (fits_left j (k.each j v (subst (λ (n : ℕ). get_elem? s.views n ≡ some v) (sym q.0) at))))
+        (λ q. k.each j u q.1)
+        (at_set s.views id j (kept_part v) u t))
         (λ t. subst (λ (y : View S). Fits about.first k.issued k.served k.now k.out j y) t (fits_given j))
         (at_snoc left_views (given_part v) u j here)
 

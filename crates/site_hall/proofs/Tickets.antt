@@ -34,10 +34,10 @@ module _ {S : Type 0} (log : S → List Entry) (Same : S → S → Type 0) (abou
     each_fits : (j : ℕ) (u : View S) → get_elem? (set s.views id (waiting k.issued v)) j ≡ some u → Fits about.first (k.issued + 1) k.served k.now k.out j u
     each_fits j u here = ⊎_elim
         (λ t. subst (λ (x : View S). Fits about.first (k.issued + 1) k.served k.now k.out j x) t.1
-            (fits_stage about.first (k.issued + 1) k.served k.now k.out j v (Waiting k.issued)
-                (fits_more about.first k.issued k.served k.now k.out j v (k.each j v (subst (λ (n : ℕ). get_elem? s.views n ≡ some v) (sym t.0) at)))
-                ((let h = k.tickets in omega arith), omega arith)
-                (omega arith)))
+        (fits_stage about.first (k.issued + 1) k.served k.now k.out j v (Waiting k.issued)
+        (fits_more about.first k.issued k.served k.now k.out j v (k.each j v (subst (λ (n : ℕ). get_elem? s.views n ≡ some v) (sym t.0) at)))
+        ((let h = k.tickets in omega arith), omega arith)
+        (omega arith)))
         (λ t. fits_more about.first k.issued k.served k.now k.out j u (k.each j u t.1))
         (at_set s.views id j (waiting k.issued v) u here)
 

@@ -189,7 +189,9 @@ fn only_value<X>(mut slots: Vec<Option<X>>) -> X
     requires { (x : X) × (slots.items ≡ Some x ∷ []) }
     ensures { slots.items ≡ Some result ∷ [] }
 {
-    let Some(found) = slots.pop() else { unreachable!() };
+    let Some(found) = slots.pop() else {
+        unreachable!()
+    };
     slots.destroy_empty();
     taken_back(found)
 }

@@ -6,6 +6,8 @@
 mod calls;
 mod hall;
 mod rule;
+#[cfg(test)]
+mod tests;
 mod views;
 
 pub use hall::{Hall, Pass, Turn};
