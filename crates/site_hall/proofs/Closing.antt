@@ -1,6 +1,5 @@
 -- What a pass with all parts knows of the value that comes out of the hall.
-use Rattle.std.proofs.Common.{◌≡◌, ◌⊎◌, ◌≢◌, ◌+◌, ◌-◌, ◌≤◌, ◌<◌, ◌%◌, ◌^◌, ℕ, zero, suc, false, List, [], ◌∷◌, ◌++◌, Option, Some, None, get_or, length, set, inl, inr, refl, sym, ap, subst, ◌∙◌, arith, ⊎_elim}
-use Rattle.std.specs.declared.snapshot.Snapshot.{Snapshot}
+use Rattle.std.proofs.Common.{◌≡◌, ◌⊎◌, ◌≢◌, ◌<◌, ℕ, false, List, [], ◌∷◌, Option, Some, inl, inr, sym, ap, subst, ◌∙◌, arith, ⊎_elim}
 use mathlib.Core.Option as maybe
 use mathlib.Core.Option.{none, some, some-injective, some-ne-none}
 use mathlib.Core.Logic.{dite}
@@ -9,16 +8,15 @@ use lib.ListN.{get_elem?}
 use Rattle.basics.specs.Members.{Has}
 use Rattle.merge_core.specs.Trail.{Entry}
 use Rattle.site_hall.specs.declared.views.About.{About}
-use Rattle.site_hall.specs.declared.views.Stage.{Stage}
-use Rattle.site_hall.specs.declared.views.Stage.TheVariants.{Holding, Idle, Waiting}
+use Rattle.site_hall.specs.declared.views.Stage.TheVariants.{Holding, Idle}
 use Rattle.site_hall.specs.declared.views.View.{View}
 use Rattle.atomic_table.specs.Table.{Final, Seen, State}
 use Rattle.site_hall.specs.Events.{IsCalm, events_of}
 use Rattle.site_hall.specs.Rule.{Kept, Placed, parts_of, waits}
-use Rattle.site_hall.specs.Views.{IsHolding, Tells}
+use Rattle.site_hall.specs.Views.{IsHolding, GoesOnFrom}
 use Rattle.site_hall.proofs.Fitting.{idle_holds_none, is_holding, is_home}
 use Rattle.site_hall.proofs.Lists.{same_at, some_same, total_two}
-use Rattle.site_hall.proofs.Looking.{tells_now}
+use Rattle.site_hall.proofs.Looking.{goes_on_now}
 
 module _ {S : Type 0} (log : S → List Entry) (Same : S → S → Type 0) (about : About S) (id : ℕ) (v : View S)
     (idle : v.stage ≡ Idle) (some_part : 0 < v.parts) (all : v.parts ≡ about.parts) where
@@ -53,7 +51,7 @@ module _ {S : Type 0} (log : S → List Entry) (Same : S → S → Type 0) (abou
   -- what is known of the value that was in the slot
   pub record Leaves (value : S) : Type 0 where
     pub same : Same value about.first.value
-    pub tells : Tells v (log value)
+    pub goes_on : GoesOnFrom v (log value)
     pub others : (g : ℕ) → (events_of g (log value) ≡ []) ⊎ Has v.groups g
     pub calm : about.keep_going ≡ false → IsCalm (log value)
 
@@ -68,7 +66,7 @@ module _ {S : Type 0} (log : S → List Entry) (Same : S → S → Type 0) (abou
         final.4 0 (Some p.0) (ap (λ (hs : List (maybe.Option (Option S))). get_elem? hs 0) p.1),
         record {
           same = p.3;
-          tells = tells_now v k.now (log p.0) p.2 f.knows f.standing;
+          goes_on = goes_on_now v k.now (log p.0) p.2 f.knows f.standing;
           others = λ g. ⊎_elim (λ e. inl (ap (λ l. events_of g l) p.2 ∙ e)) (λ h. inr h) (owner s k at g);
           calm = λ stops. subst (λ l. IsCalm l) (sym p.2) (k.calm stops);
         },

@@ -1,15 +1,14 @@
 -- What becomes of the parts of the hall's rule where one view is another one, or a view more.
-use Rattle.std.proofs.Common.{◌≡◌, ◌⊎◌, ◌≢◌, ◌+◌, ◌≤◌, ◌<◌, ◌%◌, ◌^◌, ℕ, zero, suc, List, [], ◌∷◌, ◌++◌, Option, Some, length, set, inl, inr, refl, sym, ap, subst, ◌∙◌, arith, ⊎_elim}
+use Rattle.std.proofs.Common.{◌≡◌, ◌+◌, ◌≤◌, ℕ, List, [], ◌∷◌, ◌++◌, Option, set, refl, sym, subst, ◌∙◌, arith}
 use Rattle.std.specs.declared.snapshot.Snapshot.{Snapshot}
 use mathlib.Core.Option as maybe
 use mathlib.Core.Option.{none, some}
 use mathlib.Core.Logic.{dite}
 use native.Mathlib.Decide.{ℕ_discrete}
 use lib.ListN.{get_elem?}
-use Rattle.atomic_table.proofs.Lists.{at_longer, at_set, set_else, set_here}
+use Rattle.atomic_table.proofs.Lists.{at_longer, set_else, set_here}
 use Rattle.basics.specs.Members.{Has}
 use Rattle.merge_core.specs.Trail.{Entry}
-use Rattle.site_hall.specs.Events.{events_of}
 use Rattle.site_hall.specs.Rule.{Fits, InTurn, Placed, waits}
 use Rattle.site_hall.specs.Views.{IsHolding}
 use Rattle.site_hall.specs.declared.views.Stage.{Stage}

@@ -1,5 +1,5 @@
 -- Histories that grow: what a longer one has of each group.
-use Rattle.std.proofs.Common.{◌≡◌, ◌⊎◌, ◌≢◌, ◌+◌, ◌≤◌, ◌<◌, ℕ, zero, suc, Bool, true, false, cond, eqb, leb, eq-eqb, ne_eqb, List, [], ◌∷◌, ◌++◌, length, drop, filter, inl, inr, refl, sym, ap, subst, ◌∙◌, arith, rules, ⊎_elim}
+use Rattle.std.proofs.Common.{◌≡◌, ◌⊎◌, ◌≤◌, ℕ, Bool, true, false, cond, eqb, leb, eq-eqb, ne_eqb, List, [], ◌∷◌, ◌++◌, length, drop, inl, inr, refl, sym, ap, subst, ◌∙◌, arith, ⊎_elim}
 use Rattle.std.proofs.lemmas.List.{append-nil}
 use Rattle.std.proofs.lemmas.List.Elements.{filter-append}
 use Rattle.std.proofs.Math.Seq.{drop-append_seam}
@@ -11,8 +11,7 @@ use Rattle.basics.proofs.Lists.{heads_and_tails}
 use Rattle.basics.proofs.Membership.{has-append_cases}
 use Rattle.merge_core.specs.Event.{is_abandon}
 use Rattle.merge_core.specs.Trail.{Entry}
-use Rattle.site_hall.specs.Events.{BeginsNone, IsCalm, Knows, abandons, begun_by, events_of, group_of, is_begin, with_begun}
-use Rattle.site_hall.specs.Steps.{Calmly, MayLeave}
+use Rattle.site_hall.specs.Events.{BeginsNone, IsCalm, IsCalmTurn, Knows, MayCome, MayLeave, abandons, begun_by, events_of, group_of, is_begin, with_begun}
 use Rattle.site_hall.specs.Views.{Stands, longer, standings}
 
 module _ {A : Type 0} where
@@ -192,7 +191,7 @@ calm_snoc (x ∷ got) e calm h = (
   calm_snoc got e calm.1 (λ begins. rest_none x got (is_abandon x.0) refl (h begins)),
 )
 
-pub turned_calm : (groups : List ℕ) (got now : List Entry) → MayLeave groups got now → Calmly got now → IsCalm got → IsCalm now
+pub turned_calm : (groups : List ℕ) (got now : List Entry) → MayLeave groups got now → IsCalmTurn got now → IsCalm got → IsCalm now
 turned_calm groups got now (inl same) calmly calm = subst (λ l. IsCalm l) (sym same) calm
 turned_calm groups got now (inr one) calmly calm = subst (λ l. IsCalm l) (sym one.1) (calm_snoc got one.0 calm (calmly one.0 one.1))
 

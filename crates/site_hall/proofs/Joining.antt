@@ -1,23 +1,19 @@
 -- A pass takes another in: the step keeps the rule.
-use Rattle.std.proofs.Common.{◌≡◌, ◌⊎◌, ◌≢◌, ◌+◌, ◌-◌, ◌≤◌, ◌<◌, ◌%◌, ◌^◌, ℕ, zero, suc, false, List, [], ◌∷◌, ◌++◌, Option, Some, None, get_or, length, set, inl, inr, refl, sym, ap, subst, ◌∙◌, arith, ⊎_elim}
-use Rattle.std.specs.declared.snapshot.Snapshot.{Snapshot}
-use mathlib.Core.Option as maybe
-use mathlib.Core.Option.{none, some, some-injective, some-ne-none}
+use Rattle.std.proofs.Common.{◌≡◌, ◌<◌, ℕ, List, Option, set, inl, inr, refl, sym, ap, subst, ◌∙◌, arith, ⊎_elim}
+use mathlib.Core.Option.{some}
 use mathlib.Core.Logic.{dite}
 use native.Mathlib.Decide.{ℕ_discrete}
 use lib.ListN.{get_elem?}
 use Rattle.basics.specs.Members.{Has}
 use Rattle.merge_core.specs.Trail.{Entry}
 use Rattle.site_hall.specs.declared.views.About.{About}
-use Rattle.site_hall.specs.declared.views.Stage.{Stage}
-use Rattle.site_hall.specs.declared.views.Stage.TheVariants.{Holding, Idle, Waiting}
+use Rattle.site_hall.specs.declared.views.Stage.TheVariants.{Idle}
 use Rattle.site_hall.specs.declared.views.View.{View}
 use Rattle.atomic_table.specs.Table.{Joins, State}
 use Rattle.atomic_table.proofs.Lists.{at_set, set_else, set_here}
 use Rattle.basics.proofs.Membership.{has-append_cases, has-append_left, has-append_right}
-use Rattle.site_hall.specs.Events.{events_of}
-use Rattle.site_hall.specs.Rule.{Fits, HasGroup, HasTicket, Kept, parts_of, tickets_of, total, waits}
-use Rattle.site_hall.specs.Views.{Stands, joined, spent}
+use Rattle.site_hall.specs.Rule.{Fits, HasGroup, HasTicket, Kept, parts_of, tickets_of, waits}
+use Rattle.site_hall.specs.Views.{joined, spent}
 use Rattle.site_hall.proofs.Fitting.{Owned, idle_holds_none, placed_set}
 use Rattle.site_hall.proofs.Histories.{knows_longer}
 use Rattle.site_hall.proofs.Lists.{apart_join, at_within, same_at, total_set}

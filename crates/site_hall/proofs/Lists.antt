@@ -1,10 +1,8 @@
 -- Lists of views: what adds up over them, and what no two of them have.
-use Rattle.std.proofs.Common.{◌≡◌, ◌⊎◌, ◌≢◌, ◌+◌, ◌≤◌, ◌<◌, ℕ, zero, suc, List, [], ◌∷◌, ◌++◌, Option, Some, None, set, length, inl, inr, refl, sym, ap, subst, ◌∙◌, arith, ⊎_elim}
-use mathlib.Core.Option.{none, some, some-injective, some-ne-none}
-use mathlib.Core.Logic.{dite}
-use native.Mathlib.Decide.{ℕ_discrete}
+use Rattle.std.proofs.Common.{◌≡◌, ◌⊎◌, ◌≢◌, ◌+◌, ◌≤◌, ◌<◌, ℕ, zero, suc, List, [], ◌∷◌, ◌++◌, Option, Some, None, set, length, refl, sym, ap, subst, ◌∙◌, arith, ⊎_elim}
+use mathlib.Core.Option.{some, some-injective, some-ne-none}
 use lib.ListN.{get_elem?}
-use Rattle.atomic_table.proofs.Lists.{at_set, at_snoc, at_longer, set_else, set_here}
+use Rattle.atomic_table.proofs.Lists.{at_set, at_snoc}
 use Rattle.basics.proofs.Lists.{heads}
 use Rattle.site_hall.specs.Rule.{total}
 

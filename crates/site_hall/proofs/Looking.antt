@@ -1,5 +1,5 @@
 -- The serving word is read: where it is the pass's ticket, the turn and the value are the pass's.
-use Rattle.std.proofs.Common.{◌≡◌, ◌⊎◌, ◌≢◌, ◌+◌, ◌≤◌, ◌<◌, ◌%◌, ◌^◌, ℕ, zero, suc, List, [], ◌∷◌, ◌++◌, Option, Some, get_or, length, set, inl, inr, refl, sym, ap, subst, ◌∙◌, arith, ⊎_elim}
+use Rattle.std.proofs.Common.{◌≡◌, ◌≤◌, ◌<◌, ◌%◌, ◌^◌, ℕ, List, [], ◌∷◌, ◌++◌, Option, Some, get_or, set, inl, inr, refl, sym, ap, subst, ◌∙◌, arith, ⊎_elim}
 use Rattle.std.specs.Prelude.{IfSome}
 use Rattle.std.specs.declared.snapshot.Snapshot.{Snapshot}
 use mathlib.Core.Option as maybe
@@ -11,10 +11,10 @@ use Rattle.atomic_table.specs.Table.{Allows, State, keeps, step, stepped, takes}
 use Rattle.atomic_table.proofs.Lists.{at_set, one_turn, set_again, set_here}
 use Rattle.basics.specs.Members.{Has}
 use Rattle.merge_core.specs.Trail.{Entry}
-use Rattle.site_hall.specs.Events.{events_of}
+use Rattle.site_hall.specs.Events.{Knows, events_of}
 use Rattle.site_hall.specs.Rule.{Fits, HasGroup, HasTicket, InTurn, IsTicket, Kept, Placed, parts_of, tickets_of, total, waits}
-use Rattle.site_hall.specs.Steps.{Got, Seated, holding, looked, waiting}
-use Rattle.site_hall.specs.Views.{IsHolding, IsWaiting, Stands, Tells, ticket_of}
+use Rattle.site_hall.specs.Steps.{Seated, holding, looked, waiting}
+use Rattle.site_hall.specs.Views.{IsHolding, IsWaiting, Stands, GoesOnFrom, ticket_of}
 use Rattle.site_hall.specs.declared.views.About.{About}
 use Rattle.site_hall.specs.declared.views.Stage.{Stage}
 use Rattle.site_hall.specs.declared.views.Stage.TheVariants.{Holding, Idle, Waiting}
@@ -48,15 +48,21 @@ not_holding issued served now j Idle h is = is
 not_holding issued served now j (Waiting t) h is = is
 not_holding issued served now j (Holding t got) h is = absurd (maybe.some-ne-none j (sym h.3))
 
-pub tells_now : {S : Type 0} (v : View S) (now log : List Entry) → log ≡ now → ((rest : List Entry) × (now ≡ v.seen ++ rest) × ((g : ℕ) → Has v.groups g → events_of g rest ≡ []))
-    → ((g : ℕ) (es : List Entry) → Stands g es v.known → Has v.groups g × (events_of g now ≡ es)) → Tells v log
-unfolding Tells
-tells_now v now log is k h = ((k.0, is ∙ k.1, k.2), λ g es st. ap (λ l. events_of g l) is ∙ (h g es st).1)
+pub goes_on_now : {S : Type 0} (v : View S) (now log : List Entry) → log ≡ now → Knows v.groups v.seen now
+    → ((g : ℕ) (es : List Entry) → Stands g es v.known → Has v.groups g × (events_of g now ≡ es)) → GoesOnFrom v log
+goes_on_now v now log is k h = record {
+  rest = k.0;
+  begins = is ∙ k.1;
+  quiet = k.2;
+  known = λ g es st. ap (λ l. events_of g l) is ∙ (h g es st).1;
+}
 
--- what a pass that waits is told is told of what it knew before
-pub tells_before : {S : Type 0} (v w : View S) (t : ℕ) (l m : List Entry) → w ≡ waiting t v → l ≡ m → Tells w l → Tells v m
-unfolding Tells
-tells_before {S} v w t l m is same tells = subst (λ (n : List Entry). Tells v n) same (subst (λ (u : View S). Tells u l) is tells)
+goes_on_at_rest : {S : Type 0} (v : View S) (t : ℕ) (l : List Entry) → GoesOnFrom (waiting t v) l → GoesOnFrom v l
+goes_on_at_rest v t l on = record { rest = on.rest; begins = on.begins; quiet = on.quiet; known = on.known }
+
+-- what goes on from a pass that waits goes on from what it knew before
+pub goes_on_before : {S : Type 0} (v w : View S) (t : ℕ) (l m : List Entry) → w ≡ waiting t v → l ≡ m → GoesOnFrom w l → GoesOnFrom v m
+goes_on_before {S} v w t l m is same on = subst (λ (n : List Entry). GoesOnFrom v n) same (goes_on_at_rest v t l (subst (λ (u : View S). GoesOnFrom u l) is on))
 
 module _ {S : Type 0} (log : S → List Entry) (Same : S → S → Type 0) (about : About S) where
   module _ (s : State (Option S) (View S)) (k : Kept log Same about s) (id : ℕ) (v : View S) (at : get_elem? s.views id ≡ some v) (is_waiting : IsWaiting v.stage) where
@@ -179,7 +185,7 @@ module _ {S : Type 0} (log : S → List Entry) (Same : S → S → Type 0) (abou
               ap (λ (c : List (ℕ × Option S)). (0, Some p.0) ∷ c) none_out,
               refl,
               of_first me.0 p.0 (f.of some_part) p.3,
-              tells_now me.0 k.now (log p.0) p.2 f.knows f.standing,
+              goes_on_now me.0 k.now (log p.0) p.2 f.knows f.standing,
             ),
           )),
         ),

@@ -1,16 +1,10 @@
 -- The rule holds of a hall that was just opened.
-use Rattle.std.proofs.Common.{◌≡◌, ◌⊎◌, ◌≢◌, ◌+◌, ◌-◌, ◌≤◌, ◌<◌, ◌%◌, ◌^◌, ℕ, zero, suc, false, List, [], ◌∷◌, ◌++◌, Option, Some, None, get_or, length, set, inl, inr, refl, sym, ap, subst, ◌∙◌, arith, ⊎_elim}
-use Rattle.std.specs.declared.snapshot.Snapshot.{Snapshot}
+use Rattle.std.proofs.Common.{◌≡◌, ◌<◌, ◌^◌, ℕ, zero, suc, List, [], ◌∷◌, Option, Some, inl, refl, sym, ap, subst, ◌∙◌, arith}
 use mathlib.Core.Option as maybe
 use mathlib.Core.Option.{none, some, some-injective, some-ne-none}
-use mathlib.Core.Logic.{dite}
-use native.Mathlib.Decide.{ℕ_discrete}
 use lib.ListN.{get_elem?}
-use Rattle.basics.specs.Members.{Has}
 use Rattle.merge_core.specs.Trail.{Entry}
 use Rattle.site_hall.specs.declared.views.About.{About}
-use Rattle.site_hall.specs.declared.views.Stage.{Stage}
-use Rattle.site_hall.specs.declared.views.Stage.TheVariants.{Holding, Idle, Waiting}
 use Rattle.site_hall.specs.declared.views.View.{View}
 use Rattle.std.specs.Prelude.{map}
 use Rattle.atomic_table.specs.Table.{opening}

@@ -1,28 +1,26 @@
 -- The turn is passed on: the value goes home, with what the turn made of its history.
-use Rattle.std.proofs.Common.{◌≡◌, ◌⊎◌, ◌≢◌, ◌+◌, ◌≤◌, ◌<◌, ◌%◌, ◌^◌, ℕ, zero, suc, false, List, [], ◌∷◌, ◌++◌, Option, Some, None, get_or, length, drop, set, inl, inr, refl, sym, ap, subst, ◌∙◌, append_assoc, arith, ⊎_elim}
+use Rattle.std.proofs.Common.{◌≡◌, ◌⊎◌, ◌≢◌, ◌+◌, ◌<◌, ◌%◌, ◌^◌, ℕ, false, List, [], ◌∷◌, ◌++◌, Option, Some, None, get_or, set, inl, inr, refl, sym, ap, subst, ◌∙◌, append_assoc, arith, ⊎_elim}
 use Rattle.std.specs.Prelude.{IfSome}
 use Rattle.std.proofs.lemmas.List.{append-nil}
 use Rattle.std.specs.declared.snapshot.Snapshot.{Snapshot}
 use mathlib.Core.Option as maybe
 use mathlib.Core.Option.{none, some}
-use mathlib.Core.Logic.{dite}
-use native.Mathlib.Decide.{ℕ_discrete}
 use lib.ListN.{get_elem?}
-use Rattle.atomic_table.specs.Table.{Allows, State, gives, homes_after, rest, step, stepped}
+use Rattle.atomic_table.specs.Table.{Allows, State, gives, rest, step, stepped}
 use Rattle.atomic_table.proofs.Lists.{at_set}
 use Rattle.basics.specs.Members.{Has}
 use Rattle.merge_core.specs.Trail.{Entry}
-use Rattle.site_hall.specs.Events.{IsCalm, Knows, events_of, with_begun}
-use Rattle.site_hall.specs.Rule.{Fits, HasGroup, HasTicket, InTurn, IsTicket, Kept, Placed, parts_of, tickets_of, total, waits}
-use Rattle.site_hall.specs.Steps.{Calmly, MayLeave, Seated, groups_then, passed, passed_view}
-use Rattle.site_hall.specs.Views.{IsHolding, got_of, ticket_of}
+use Rattle.site_hall.specs.Events.{IsCalm, Knows, events_of, IsCalmTurn, MayLeave}
+use Rattle.site_hall.specs.Rule.{Fits, HasGroup, HasTicket, InTurn, IsTicket, Kept, Placed, parts_of, tickets_of, waits}
+use Rattle.site_hall.specs.Steps.{Seated, passed}
+use Rattle.site_hall.specs.Views.{IsHolding, got_of, ticket_of, after_turn, groups_after}
 use Rattle.site_hall.specs.declared.views.About.{About}
 use Rattle.site_hall.specs.declared.views.Stage.{Stage}
 use Rattle.site_hall.specs.declared.views.Stage.TheVariants.{Holding, Idle, Waiting}
 use Rattle.site_hall.specs.declared.views.View.{View}
 use Rattle.site_hall.proofs.Fitting.{Owned, owned_here, owned_set}
 use Rattle.site_hall.proofs.Histories.{Turned, events_both, events_same, first_empty, stands_with, turned, turned_calm}
-use Rattle.site_hall.proofs.Lists.{apart_set, first_held, same_at, total_set}
+use Rattle.site_hall.proofs.Lists.{apart_set, first_held, total_set}
 
 holding_in : (issued served : ℕ) (now : List Entry) (out : maybe.Option ℕ) (j : ℕ) (st : Stage) → IsHolding st → InTurn issued served now out j st
     → (ticket_of st ≡ served) × (ticket_of st < issued) × (got_of st ≡ now) × (out ≡ maybe.some j)
@@ -71,9 +69,9 @@ module _ {S : Type 0} (log : S → List Entry) (Same : S → S → Type 0) (abou
     turn = holding_in k.issued k.served k.now k.out id v.stage holds (k.each id v at).turn
 
     abbrev w : View S
-    w = passed_view v (got_of v.stage) (log x)
+    w = after_turn v (got_of v.stage) (log x)
 
-    made : Turned v.groups (got_of v.stage) (log x) (groups_then v (got_of v.stage) (log x))
+    made : Turned v.groups (got_of v.stage) (log x) (groups_after v (got_of v.stage) (log x))
     made = turned v.groups (got_of v.stage) (log x) may
 
     now_is : log x ≡ k.now ++ made.extra
@@ -110,7 +108,7 @@ module _ {S : Type 0} (log : S → List Entry) (Same : S → S → Type 0) (abou
     fits_own j = let f = k.each id v at in record {
       of = f.of;
       knows = ([], sym (append-nil (log x)), λ g has. refl);
-      standing = λ g es st. stands_with (groups_then v (got_of v.stage) (log x)) (log x) g es st;
+      standing = λ g es st. stands_with (groups_after v (got_of v.stage) (log x)) (log x) g es st;
       begun = λ g has. ⊎_elim
           (λ own none_of. some_longer g k.now made.extra (f.begun g own) (ap (λ l. events_of g l) (sym now_is) ∙ none_of))
           (λ new. new.1)
@@ -142,7 +140,7 @@ module _ {S : Type 0} (log : S → List Entry) (Same : S → S → Type 0) (abou
         (λ own. inr (owned_here s.views id v w g at own))
         (made.owned g)
 
-    pub passes_on : Same x about.first.value → (about.keep_going ≡ false → Calmly (got_of v.stage) (log x))
+    pub passes_on : Same x about.first.value → (about.keep_going ≡ false → IsCalmTurn (got_of v.stage) (log x))
         → Kept log Same about (stepped s 1 ((get_or s.words 1 0 + 1) % 18446744073709551616) id ((0, Some x) ∷ []) w gives)
     passes_on same calmly = record {
       issued = k.issued;
@@ -166,17 +164,17 @@ module _ {S : Type 0} (log : S → List Entry) (Same : S → S → Type 0) (abou
 
   pub passing_allows : (slots id : ℕ) (me : Seated S) (x : S) → IsHolding me.0.stage → me.1 ≡ (0, Some x) ∷ [] → 0 < me.0.parts
       → IfSome me.0.of (λ f. Same x f.value) → MayLeave me.0.groups (got_of me.0.stage) (log x)
-      → (about.keep_going ≡ false → Calmly (got_of me.0.stage) (log x))
+      → (about.keep_going ≡ false → IsCalmTurn (got_of me.0.stage) (log x))
       → Allows (Kept log Same about) slots id me 1 (λ n. (n + 1) % 2 ^ 64) (passed log (step slots 1 1 0 none) me)
   passing_allows slots id me x holds out_is some_part same may calmly s k _ at small = let f = k.each id me.0 at in (
-    passed_view me.0 (got_of me.0.stage) (log x),
+    after_turn me.0 (got_of me.0.stage) (log x),
     gives,
     tt,
-    subst (λ (c : List (ℕ × Option S)). Kept log Same about (stepped s 1 ((get_or s.words 1 0 + 1) % 18446744073709551616) id c (passed_view me.0 (got_of me.0.stage) (log x)) gives))
+    subst (λ (c : List (ℕ × Option S)). Kept log Same about (stepped s 1 ((get_or s.words 1 0 + 1) % 18446744073709551616) id c (after_turn me.0 (got_of me.0.stage) (log x)) gives))
         (sym out_is)
         (passes_on s k id me.0 at holds x may (first_of me.0 x (f.of some_part) same) calmly),
     λ y is. (
       ap rest out_is,
-      ap (λ (z : S). passed_view me.0 (got_of me.0.stage) (log z)) (first_held x y [] [] (sym out_is ∙ is)),
+      ap (λ (z : S). after_turn me.0 (got_of me.0.stage) (log z)) (first_held x y [] [] (sym out_is ∙ is)),
     ),
   )

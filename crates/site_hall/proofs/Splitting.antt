@@ -1,12 +1,7 @@
 -- A part of a pass goes to a new one: the step keeps the rule.
-use Rattle.std.proofs.Common.{◌≡◌, ◌⊎◌, ◌≢◌, ◌+◌, ◌-◌, ◌≤◌, ◌<◌, ◌%◌, ◌^◌, ℕ, zero, suc, false, List, [], ◌∷◌, ◌++◌, Option, Some, None, get_or, length, set, inl, inr, refl, sym, ap, subst, ◌∙◌, arith, ⊎_elim}
-use Rattle.std.specs.declared.snapshot.Snapshot.{Snapshot}
-use mathlib.Core.Option as maybe
-use mathlib.Core.Option.{none, some, some-injective, some-ne-none}
-use mathlib.Core.Logic.{dite}
-use native.Mathlib.Decide.{ℕ_discrete}
+use Rattle.std.proofs.Common.{◌≡◌, ◌≤◌, ◌<◌, ℕ, List, [], ◌∷◌, ◌++◌, Option, set, inl, inr, refl, sym, subst, arith, ⊎_elim}
+use mathlib.Core.Option.{some}
 use lib.ListN.{get_elem?}
-use Rattle.basics.specs.Members.{Has}
 use Rattle.merge_core.specs.Trail.{Entry}
 use Rattle.site_hall.specs.declared.views.About.{About}
 use Rattle.site_hall.specs.declared.views.Stage.{Stage}
@@ -14,10 +9,10 @@ use Rattle.site_hall.specs.declared.views.Stage.TheVariants.{Holding, Idle, Wait
 use Rattle.site_hall.specs.declared.views.View.{View}
 use Rattle.atomic_table.specs.Table.{Splits, State}
 use Rattle.atomic_table.proofs.Lists.{at_set, at_snoc}
-use Rattle.site_hall.specs.Rule.{Fits, HasGroup, HasTicket, Kept, parts_of, tickets_of, total, waits}
+use Rattle.site_hall.specs.Rule.{Fits, HasGroup, HasTicket, Kept, parts_of, tickets_of, waits}
 use Rattle.site_hall.specs.Views.{given_part, kept_part}
 use Rattle.site_hall.proofs.Fitting.{owned_set, owned_snoc, placed_set, placed_snoc}
-use Rattle.site_hall.proofs.Lists.{apart_set, apart_snoc, same_at, total_set, total_snoc}
+use Rattle.site_hall.proofs.Lists.{apart_set, apart_snoc, total_set, total_snoc}
 
 -- no pass has two tickets
 one_ticket : (st : Stage) → waits st ≤ 1

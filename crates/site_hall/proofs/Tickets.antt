@@ -1,21 +1,19 @@
 -- A ticket is taken: the step keeps the rule.
-use Rattle.std.proofs.Common.{◌≡◌, ◌⊎◌, ◌≢◌, ◌+◌, ◌≤◌, ◌<◌, ◌%◌, ◌^◌, ℕ, zero, suc, List, [], ◌∷◌, ◌++◌, Option, Some, get_or, length, set, inl, inr, refl, sym, ap, subst, ◌∙◌, arith, ⊎_elim}
-use Rattle.std.specs.Prelude.{slice_index, slice_set}
+use Rattle.std.proofs.Common.{◌≡◌, ◌⊎◌, ◌+◌, ◌<◌, ◌%◌, ◌^◌, ℕ, List, [], ◌∷◌, Option, get_or, set, inl, inr, refl, sym, ap, subst, ◌∙◌, arith, ⊎_elim}
 use mathlib.Core.Option as maybe
 use mathlib.Core.Option.{none, some}
 use lib.ListN.{get_elem?}
 use Rattle.atomic_table.specs.Table.{Allows, State, keeps, step, stepped}
 use Rattle.atomic_table.proofs.Lists.{at_set}
-use Rattle.basics.specs.Members.{Has}
 use Rattle.merge_core.specs.Trail.{Entry}
-use Rattle.site_hall.specs.Rule.{Fits, HasGroup, HasTicket, InTurn, IsTicket, Kept, parts_of, tickets_of, total, waits}
+use Rattle.site_hall.specs.Rule.{Fits, HasGroup, HasTicket, InTurn, IsTicket, Kept, parts_of, tickets_of, waits}
 use Rattle.site_hall.specs.Steps.{Seated, took, waiting}
 use Rattle.site_hall.specs.declared.views.About.{About}
 use Rattle.site_hall.specs.declared.views.Stage.{Stage}
 use Rattle.site_hall.specs.declared.views.Stage.TheVariants.{Holding, Idle, Waiting}
 use Rattle.site_hall.specs.declared.views.View.{View}
 use Rattle.site_hall.proofs.Fitting.{fits_more, fits_stage, idle_holds_none, owned_set, placed_set}
-use Rattle.site_hall.proofs.Lists.{apart_set, same_at, total_set}
+use Rattle.site_hall.proofs.Lists.{apart_set, total_set}
 
 -- the ticket of a view is below the next one
 ticket_below : (issued served : ℕ) (now : List Entry) (out : maybe.Option ℕ) (j : ℕ) (st : Stage) (x : ℕ) → InTurn issued served now out j st → IsTicket st x → x < issued

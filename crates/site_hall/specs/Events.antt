@@ -1,5 +1,6 @@
--- Histories of groups: the events of one group, and when none begins behind one that was given up.
-use Rattle.std.specs.Prelude.{◌≡◌, ◌==◌, ◌++◌, ℕ, Bool, true, false, List, [], ◌∷◌, ⊤, filter}
+-- Histories of groups: the events of one group, what a turn may add, and when no group begins behind
+-- one that was given up.
+use Rattle.std.specs.Prelude.{◌≡◌, ◌==◌, ◌⊎◌, ◌++◌, ℕ, Bool, true, false, List, [], ◌∷◌, ⊤, filter}
 use Rattle.basics.specs.Members.{Has}
 use Rattle.merge_core.specs.Event.{Abandon, Acknowledge, Begin, Claim, CloseGate, Event, OpenGate}
 use Rattle.merge_core.specs.Event.{PlacePath, PutRecord, PutStage, PutToken, RemovePath}
@@ -55,6 +56,22 @@ begun_by false g groups = groups
 abbrev pub with_begun : List ℕ → List Entry → List ℕ
 with_begun groups [] = groups
 with_begun groups (e ∷ es) = begun_by (is_begin e.0) (group_of e.0) (with_begun groups es)
+
+-- the event may come in a turn that began with this history, for a pass with these groups: it is of
+-- one of them, or begins a group that has no event
+abbrev pub MayCome : List ℕ → List Entry → Entry → Type 0
+MayCome groups got e =
+    Has groups (group_of e.0) ⊎ ((is_begin e.0 ≡ true) × (events_of (group_of e.0) got ≡ []))
+
+-- a turn makes one event at most
+abbrev pub MayLeave : List ℕ → List Entry → List Entry → Type 0
+MayLeave groups got now =
+    (now ≡ got) ⊎ ((e : Entry) × (now ≡ got ++ e ∷ []) × MayCome groups got e)
+
+-- where a turn begins a group, none was given up
+abbrev pub IsCalmTurn : List Entry → List Entry → Type 0
+IsCalmTurn got now =
+    (e : Entry) → now ≡ got ++ e ∷ [] → is_begin e.0 ≡ true → abandons got ≡ []
 
 -- the history begins with what was seen, and the rest has no event of these groups
 abbrev pub Knows : List ℕ → List Entry → List Entry → Type 0

@@ -1,5 +1,5 @@
 -- Halls and their passes, as the calls speak of them.
-use Rattle.std.specs.Prelude.{◌≡◌, ◌<◌, ◌%◌, ◌^◌, ℕ, Bool, List, [], ◌∷◌, Option, None}
+use Rattle.std.specs.Prelude.{◌≡◌, ◌<◌, ◌%◌, ◌^◌, ℕ, Bool, List, [], ◌∷◌, None}
 use Rattle.std.specs.declared.snapshot.Snapshot.{Snapshot}
 use Rattle.atomic_table.specs.Seated.{TableId}
 use Rattle.merge_core.specs.Trail.{Entry}
@@ -25,6 +25,12 @@ module _ {S : Type 0} where
   -- groups may begin behind one that was given up
   abbrev pub keeps_going : Hall S → Bool
   keeps_going h = h.table.shared.key.keep_going
+
+  -- the hall was opened with these
+  pub record IsOpened (value : S) (parts : ℕ) (keep_going : Bool) (h : Hall S) : Type 0 where
+    pub first : (opening_of h).value ≡ value
+    pub count : parts_of h ≡ parts
+    pub going : keeps_going h ≡ keep_going
 
   -- which hall the pass is of
   abbrev pub hall_of : Pass S → TableId

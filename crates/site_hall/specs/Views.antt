@@ -1,9 +1,10 @@
--- What a pass knows, and what becomes of it where passes are cut and put together.
-use Rattle.std.specs.Prelude.{◌≡◌, ◌-◌, ◌+◌, ◌++◌, ◌≤◌, ℕ, List, [], ◌∷◌, Option, Some, None, length, nat_le, if◌then◌else◌}
+-- What a pass knows, and what becomes of it in its turns, and where passes are cut and put together.
+use Rattle.std.specs.Prelude.{◌≡◌, ◌-◌, ◌+◌, ◌++◌, ℕ, List, [], ◌∷◌, Some, None, drop, length, nat_le}
+use Rattle.std.specs.Prelude.{if◌then◌else◌, ⊤}
 use Rattle.std.specs.declared.snapshot.Snapshot.{Snapshot}
 use Rattle.basics.specs.Members.{Has}
 use Rattle.merge_core.specs.Trail.{Entry}
-use Rattle.site_hall.specs.Events.{Knows, events_of}
+use Rattle.site_hall.specs.Events.{events_of, with_begun}
 use Rattle.site_hall.specs.declared.views.Stage.{Stage}
 use Rattle.site_hall.specs.declared.views.Stage.TheVariants.{Holding, Idle, Waiting}
 use Rattle.site_hall.specs.declared.views.View.{View}
@@ -27,14 +28,23 @@ got_of (Holding t got) = got
 -- the pass has a ticket, and not the turn
 abbrev pub IsWaiting : Stage → Type 0
 IsWaiting Idle = ⊥
-IsWaiting (Waiting t) = Unit {0}
+IsWaiting (Waiting t) = ⊤
 IsWaiting (Holding t got) = ⊥
 
 -- the pass has the turn
 abbrev pub IsHolding : Stage → Type 0
 IsHolding Idle = ⊥
 IsHolding (Waiting t) = ⊥
-IsHolding (Holding t got) = Unit {0}
+IsHolding (Holding t got) = ⊤
+
+-- the group stands in the list with these events
+abbrev pub Stands : ℕ → List Entry → List (ℕ × List Entry) → Type 0
+Stands g es known = Has known (g, es)
+
+-- each of the groups, with its events
+abbrev pub standings : List ℕ → List Entry → List (ℕ × List Entry)
+standings [] now = []
+standings (g ∷ groups) now = (g, events_of g now) ∷ standings groups now
 
 module _ {S : Type 0} where
   -- the first pass has all parts, and no group
@@ -48,7 +58,8 @@ module _ {S : Type 0} where
 
   -- a pass of one part, which has seen what the other has, and has no group
   abbrev pub given_part : View S → View S
-  given_part v = record { of = v.of; parts = 1; groups = []; seen = v.seen; known = []; stage = Idle }
+  given_part v =
+      record { of = v.of; parts = 1; groups = []; seen = v.seen; known = []; stage = Idle }
 
   -- a pass with what two had
   abbrev pub joined : View S → View S → View S
@@ -66,17 +77,25 @@ module _ {S : Type 0} where
   abbrev pub spent : View S
   spent = record { of = None; parts = 0; groups = []; seen = []; known = []; stage = Idle }
 
--- the group stands in the list with these events
-abbrev pub Stands : ℕ → List Entry → List (ℕ × List Entry) → Type 0
-Stands g es known = Has known (g, es)
+  -- the groups of a pass once a turn made one history of another
+  abbrev pub groups_after : View S → List Entry → List Entry → List ℕ
+  groups_after v got now = with_begun v.groups (drop (length got) now)
 
--- each of the groups, with its events
-abbrev pub standings : List ℕ → List Entry → List (ℕ × List Entry)
-standings [] now = []
-standings (g ∷ groups) now = (g, events_of g now) ∷ standings groups now
+  -- what a pass knows once a turn made one history of another: it has seen all, and of each of its
+  -- groups it knows the events
+  abbrev pub after_turn : View S → List Entry → List Entry → View S
+  after_turn v got now =
+      record v {
+        stage = Idle;
+        seen = now;
+        groups = groups_after v got now;
+        known = standings (groups_after v got now) now;
+      }
 
--- a history fits what a pass knows: it begins with what was seen, of the pass's groups it has no
--- event more, and of each just the events that the pass knows
-unfoldable pub Tells : {S : Type 0} → View S → List Entry → Type 0
-Tells v now =
-    Knows v.groups v.seen now × ((g : ℕ) (es : List Entry) → Stands g es v.known → events_of g now ≡ es)
+-- a history goes on from what a pass knows: it begins with what was seen, behind which none of the
+-- pass's groups has an event, and of each group it has just the events that the pass knows
+pub record GoesOnFrom {S : Type 0} (v : View S) (now : List Entry) : Type 0 where
+  pub rest : List Entry
+  pub begins : now ≡ v.seen ++ rest
+  pub quiet : (g : ℕ) → Has v.groups g → events_of g rest ≡ []
+  pub known : (g : ℕ) (es : List Entry) → Stands g es v.known → events_of g now ≡ es

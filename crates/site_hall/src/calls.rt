@@ -1,12 +1,13 @@
-ghost use Rattle.std.specs.Prelude.{◌≡◌, ◌⊎◌, ◌<◌, ℕ, false, [], ◌∷◌, drop, length};
+ghost use Rattle.std.specs.Prelude.{◌≡◌, ◌⊎◌, ◌<◌, ℕ, false, [], ◌∷◌};
 ghost use Rattle.std.specs.Prelude.{IfErr, IfOk, IfSome, IsSome, Some};
 ghost use Rattle.basics.specs.Members.{Has};
-ghost use Rattle.site_hall.specs.Events.{IsCalm, events_of, with_begun};
-ghost use Rattle.site_hall.specs.Passes.{HasTurn, HoldsAsBefore, KnowsAsMuch, Rests, Waits, got_by};
-ghost use Rattle.site_hall.specs.Passes.{hall_of, id_of, keeps_going, opening_of, parts_of, view_of};
-ghost use Rattle.site_hall.specs.Steps.{Calmly, Got, MayLeave};
-ghost use Rattle.site_hall.specs.Views.{Tells, first_view, given_part, joined, kept_part};
-ghost use Rattle.site_hall.specs.Views.{standings};
+ghost use Rattle.site_hall.specs.Events.{IsCalm, IsCalmTurn, MayLeave, events_of};
+ghost use Rattle.site_hall.specs.Passes.{HasTurn, HoldsAsBefore, IsOpened, KnowsAsMuch, Rests};
+ghost use Rattle.site_hall.specs.Passes.{Waits, got_by, hall_of, id_of, keeps_going, opening_of};
+ghost use Rattle.site_hall.specs.Passes.{parts_of, view_of};
+ghost use Rattle.site_hall.specs.Steps.{Got};
+ghost use Rattle.site_hall.specs.Views.{GoesOnFrom, after_turn, first_view, given_part, joined};
+ghost use Rattle.site_hall.specs.Views.{kept_part};
 
 use crate::hall::{Hall, Pass, Turn};
 use crate::rule::{Both, Look, OnePart, PassOn, Ticket};
@@ -37,9 +38,7 @@ impl<X: Logged> Hall<X> {
         requires parts { 0 < parts }
         requires empty { X.log value ≡ [] }
         requires same { X.same value value }
-        ensures first { IfOk result (λ r. (opening_of r.0).value ≡ value) }
-        ensures parts { IfOk result (λ r. parts_of r.0 ≡ parts) }
-        ensures keep_going { IfOk result (λ r. keeps_going r.0 ≡ keep_going) }
+        ensures opened { IfOk result (λ r. IsOpened value parts keep_going r.0) }
         ensures own { IfOk result (λ r. hall_of r.1 ≡ id_of r.0) }
         ensures rests { IfOk result (λ r. Rests r.1) }
         ensures knows { IfOk result (λ r. view_of r.1 ≡ first_view (opening_of r.0) parts) }
@@ -95,7 +94,7 @@ impl<X: Logged> Hall<X> {
         ensures turn { HasTurn pass.new }
         ensures got { got_by pass.new ≡ X.log result.value }
         ensures same { IfSome (view_of pass.old).of (λ f. X.same result.value f.value) }
-        ensures tells { Tells (view_of pass.old) (X.log result.value) }
+        ensures goes_on { GoesOnFrom (view_of pass.old) (X.log result.value) }
         ensures knows { KnowsAsMuch (view_of pass.old) (view_of pass.new) }
     {
         let shared = &self.table.shared;
@@ -136,16 +135,11 @@ impl<X: Logged> Hall<X> {
         requires same { IfSome (view_of pass.old).of (λ f. X.same turn.value f.value) }
         requires step { MayLeave (view_of pass.old).groups (got_by pass.old) (X.log turn.value) }
         requires calm { keeps_going self.now ≡ false →
-            Calmly (got_by pass.old) (X.log turn.value) }
+            IsCalmTurn (got_by pass.old) (X.log turn.value) }
         ensures own { hall_of pass.new ≡ id_of self.now }
         ensures rests { Rests pass.new }
-        ensures of { (view_of pass.new).of ≡ (view_of pass.old).of }
-        ensures parts { (view_of pass.new).parts ≡ (view_of pass.old).parts }
-        ensures seen { (view_of pass.new).seen ≡ X.log turn.value }
-        ensures groups { (view_of pass.new).groups ≡ with_begun (view_of pass.old).groups
-            (drop (length (got_by pass.old)) (X.log turn.value)) }
-        ensures known { (view_of pass.new).known ≡
-            standings (view_of pass.new).groups (X.log turn.value) }
+        ensures knows { view_of pass.new ≡
+            after_turn (view_of pass.old) (got_by pass.old) (X.log turn.value) }
     {
         let Turn { value } = turn;
         let shared = &self.table.shared;
@@ -161,7 +155,7 @@ impl<X: Logged> Hall<X> {
         requires rests { Rests pass }
         requires all { (view_of pass).parts ≡ parts_of self }
         ensures same { X.same result (opening_of self).value }
-        ensures tells { Tells (view_of pass) (X.log result) }
+        ensures goes_on { GoesOnFrom (view_of pass) (X.log result) }
         ensures others { (g : ℕ) → (events_of g (X.log result) ≡ []) ⊎ Has (view_of pass).groups g }
         ensures calm { keeps_going self ≡ false → IsCalm (X.log result) }
     {

@@ -78,7 +78,9 @@ fn visit_all<X: Logged + Send, R: Threads + Wait + Sync>(
     workers: &mut [Worker<X>],
 )
     requires ready { All (λ w. (hall_of w.pass ≡ id_of hall.now) × Rests w.pass) workers.old }
+    requires parts { All (λ w. (view_of w.pass).parts ≡ 1) workers.old }
     ensures ready { All (λ w. (hall_of w.pass ≡ id_of hall.now) × Rests w.pass) workers.new }
+    ensures parts { All (λ w. (view_of w.pass).parts ≡ 1) workers.new }
 {
     thread::for_each_mut(
         rt,
@@ -91,6 +93,7 @@ fn visit_all<X: Logged + Send, R: Threads + Wait + Sync>(
 fn visit<X: Logged, R: Wait>(rt: &R, hall: &Hall<X>, pass: &mut Pass<X>)
     requires ready { (hall_of pass.old ≡ id_of hall.now) × Rests pass.old }
     ensures ready { (hall_of pass.new ≡ id_of hall.now) × Rests pass.new }
+    ensures parts { (view_of pass.new).parts ≡ (view_of pass.old).parts }
 {
     let turn = hall.enter(rt, pass);
     hall.leave(pass, turn);
@@ -187,6 +190,7 @@ fn tallied<R: Threads + Wait + Sync>(rt: &R, hall: Hall<Tally>, pass: Pass<Tally
             group: 4,
         },
     ];
+    visit_all(rt, &hall, &mut workers);
     work_all(rt, &hall, &mut workers);
     let [mut first, second, third, fourth] = workers;
     hall.join(&mut first.pass, second.pass);

@@ -11,4 +11,4 @@ unreachable-requires g c =
 pub returns : goal.returns
 returns g c =
     let left = leaves_this g.X.Logged.log g.X.Logged.same c.args.self.table.shared.key _ _ c.requires.rests.0 c.requires.rests.2 c.requires.all _ _ c.close_with-closed.ensures.values.2 c.in-Some.value (c.take-found.ensures.value ∙ ap some c.in-Some.is) in
-    record { same = left.same; tells = left.tells; others = left.others; calm = left.calm }
+    record { same = left.same; goes_on = left.goes_on; others = left.others; calm = left.calm }

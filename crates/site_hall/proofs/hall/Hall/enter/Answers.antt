@@ -1,7 +1,7 @@
 use Rattle.std.proofs.Common.{rules, ◌∙◌, [], ◌∷◌, ap, sym, List, ℕ, Option, Some}
 use Rattle.atomic_table.specs.Table.{rest}
 use Rattle.site_hall.proofs.Lists.{first_held}
-use Rattle.site_hall.proofs.Looking.{tells_before}
+use Rattle.site_hall.proofs.Looking.{goes_on_before}
 use Rattle.site_hall.proofs.Tickets.{tickets_allow}
 use Rattle.site_hall.proofs.hall.Hall.enter.Goals as goal
 
@@ -19,10 +19,10 @@ exchange-found-requires g c =
       (Some turn.0, turn.1.0 ∙ ap (λ (taken : List (ℕ × Option g.row.X.Denot)). (0, Some turn.0) ∷ taken) (sym (ap rest turn.1.0))),
     )
 
-pub returns-clause-tells : goal.returns-clause-tells
-returns-clause-tells g c =
+pub returns-clause-goes_on : goal.returns-clause-goes_on
+returns-clause-goes_on g c =
     let turn = c.await_ticket.ensures.turn in
     let took = c.fetch_add-mine.ensures.2 in
     let found = rw c.in-Some.is at c.exchange-found.ensures.2 in
     let same = first_held turn.0 c.in-Some.value [] _ (sym turn.1.0 ∙ found) in
-    tells_before _ c.fetch_add-mine.new.seat.me.0 took.0 _ _ (ap (λ m. m.0) took.1) (ap g.X.Logged.log same) turn.1.3
+    goes_on_before _ c.fetch_add-mine.new.seat.me.0 took.0 _ _ (ap (λ m. m.0) took.1) (ap g.X.Logged.log same) turn.1.3

@@ -1,4 +1,4 @@
-use Rattle.std.proofs.Common.{rules, arith}
+use Rattle.std.proofs.Common.{rules}
 use Rattle.site_hall.proofs.Opening.{opens}
 use Rattle.site_hall.proofs.hall.Hall.open.Goals as goal
 
