@@ -11,7 +11,7 @@ use Rattle.basics.proofs.Lists.{heads_and_tails}
 use Rattle.basics.proofs.Membership.{has-append_cases}
 use Rattle.merge_core.specs.Event.{is_abandon}
 use Rattle.merge_core.specs.Trail.{Entry}
-use Rattle.site_hall.specs.Events.{BeginsNone, IsCalm, IsCalmTurn, Knows, MayCome, MayLeave, abandons, begun_by, events_of, group_of, is_begin, with_begun}
+use Rattle.site_hall.specs.Events.{BeginsNone, IsCalm, IsCalmTurn, Knows, MayLeave, abandons, begun_by, events_of, group_of, is_begin, with_begun}
 use Rattle.site_hall.specs.Views.{Stands, longer, standings}
 
 module _ {A : Type 0} where

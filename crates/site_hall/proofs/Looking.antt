@@ -1,5 +1,5 @@
 -- The serving word is read: where it is the pass's ticket, the turn and the value are the pass's.
-use Rattle.std.proofs.Common.{◌≡◌, ◌≤◌, ◌<◌, ◌%◌, ◌^◌, ℕ, List, [], ◌∷◌, ◌++◌, Option, Some, get_or, set, inl, inr, refl, sym, ap, subst, ◌∙◌, arith, ⊎_elim}
+use Rattle.std.proofs.Common.{◌≡◌, ◌≤◌, ◌<◌, ◌%◌, ◌^◌, ℕ, List, [], ◌∷◌, Option, Some, get_or, set, inl, inr, refl, sym, ap, subst, ◌∙◌, arith, ⊎_elim}
 use Rattle.std.specs.Prelude.{IfSome}
 use Rattle.std.specs.declared.snapshot.Snapshot.{Snapshot}
 use mathlib.Core.Option as maybe
@@ -50,19 +50,18 @@ not_holding issued served now j (Holding t got) h is = absurd (maybe.some-ne-non
 
 pub goes_on_now : {S : Type 0} (v : View S) (now log : List Entry) → log ≡ now → Knows v.groups v.seen now
     → ((g : ℕ) (es : List Entry) → Stands g es v.known → Has v.groups g × (events_of g now ≡ es)) → GoesOnFrom v log
+unfolding GoesOnFrom
 goes_on_now v now log is k h = record {
   rest = k.0;
   begins = is ∙ k.1;
   quiet = k.2;
-  known = λ g es st. ap (λ l. events_of g l) is ∙ (h g es st).1;
+  same = λ g es st. ap (λ l. events_of g l) is ∙ (h g es st).1;
 }
-
-goes_on_at_rest : {S : Type 0} (v : View S) (t : ℕ) (l : List Entry) → GoesOnFrom (waiting t v) l → GoesOnFrom v l
-goes_on_at_rest v t l on = record { rest = on.rest; begins = on.begins; quiet = on.quiet; known = on.known }
 
 -- what goes on from a pass that waits goes on from what it knew before
 pub goes_on_before : {S : Type 0} (v w : View S) (t : ℕ) (l m : List Entry) → w ≡ waiting t v → l ≡ m → GoesOnFrom w l → GoesOnFrom v m
-goes_on_before {S} v w t l m is same on = subst (λ (n : List Entry). GoesOnFrom v n) same (goes_on_at_rest v t l (subst (λ (u : View S). GoesOnFrom u l) is on))
+unfolding GoesOnFrom
+goes_on_before {S} v w t l m is same on = subst (λ (n : List Entry). GoesOnFrom v n) same (subst (λ (u : View S). GoesOnFrom u l) is on)
 
 module _ {S : Type 0} (log : S → List Entry) (Same : S → S → Type 0) (about : About S) where
   module _ (s : State (Option S) (View S)) (k : Kept log Same about s) (id : ℕ) (v : View S) (at : get_elem? s.views id ≡ some v) (is_waiting : IsWaiting v.stage) where

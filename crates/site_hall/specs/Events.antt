@@ -57,16 +57,12 @@ abbrev pub with_begun : List ℕ → List Entry → List ℕ
 with_begun groups [] = groups
 with_begun groups (e ∷ es) = begun_by (is_begin e.0) (group_of e.0) (with_begun groups es)
 
--- the event may come in a turn that began with this history, for a pass with these groups: it is of
--- one of them, or begins a group that has no event
-abbrev pub MayCome : List ℕ → List Entry → Entry → Type 0
-MayCome groups got e =
-    Has groups (group_of e.0) ⊎ ((is_begin e.0 ≡ true) × (events_of (group_of e.0) got ≡ []))
-
--- a turn makes one event at most
+-- a turn makes one event at most: of one of the groups, or one that begins a group without events
 abbrev pub MayLeave : List ℕ → List Entry → List Entry → Type 0
 MayLeave groups got now =
-    (now ≡ got) ⊎ ((e : Entry) × (now ≡ got ++ e ∷ []) × MayCome groups got e)
+    (now ≡ got)
+    ⊎ ((e : Entry) × (now ≡ got ++ e ∷ [])
+    × (Has groups (group_of e.0) ⊎ ((is_begin e.0 ≡ true) × (events_of (group_of e.0) got ≡ []))))
 
 -- where a turn begins a group, none was given up
 abbrev pub IsCalmTurn : List Entry → List Entry → Type 0

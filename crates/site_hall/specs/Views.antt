@@ -92,10 +92,16 @@ module _ {S : Type 0} where
         known = standings (groups_after v got now) now;
       }
 
--- a history goes on from what a pass knows: it begins with what was seen, behind which none of the
--- pass's groups has an event, and of each group it has just the events that the pass knows
-pub record GoesOnFrom {S : Type 0} (v : View S) (now : List Entry) : Type 0 where
+-- a history goes on from what was seen: none of these groups has an event behind that, and of each
+-- that is known it has just the events that are known
+pub record GoesOn
+    (groups : List ℕ) (seen : List Entry) (known : List (ℕ × List Entry)) (now : List Entry) :
+    Type 0 where
   pub rest : List Entry
-  pub begins : now ≡ v.seen ++ rest
-  pub quiet : (g : ℕ) → Has v.groups g → events_of g rest ≡ []
-  pub known : (g : ℕ) (es : List Entry) → Stands g es v.known → events_of g now ≡ es
+  pub begins : now ≡ seen ++ rest
+  pub quiet : (g : ℕ) → Has groups g → events_of g rest ≡ []
+  pub same : (g : ℕ) (es : List Entry) → Stands g es known → events_of g now ≡ es
+
+-- a history goes on from what the pass knows
+unfoldable pub GoesOnFrom : {S : Type 0} → View S → List Entry → Type 0
+GoesOnFrom v now = GoesOn v.groups v.seen v.known now
