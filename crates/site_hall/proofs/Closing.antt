@@ -15,7 +15,8 @@ use Rattle.site_hall.specs.Events.{IsCalm, events_of}
 use Rattle.site_hall.specs.Rule.{Kept, Placed, parts_of, waits}
 use Rattle.site_hall.specs.Views.{IsHolding, GoesOnFrom}
 use Rattle.site_hall.proofs.Fitting.{idle_holds_none, is_holding, is_home}
-use Rattle.site_hall.proofs.Lists.{same_at, some_same, total_two}
+use Rattle.std.proofs.lemmas.Option.{same_Some}
+use Rattle.site_hall.proofs.Lists.{same_at, total_two}
 use Rattle.site_hall.proofs.Looking.{goes_on_now}
 
 module _ {S : Type 0} (log : S → List Entry) (Same : S → S → Type 0) (about : About S) (id : ℕ) (v : View S)
@@ -79,4 +80,4 @@ module _ {S : Type 0} (log : S → List Entry) (Same : S → S → Type 0) (abou
   pub leaves_this : (ws : List ℕ) (xs : List (Option S)) → Final (Seen (Kept log Same about) id v) ws xs → (y : S) → get_elem? xs 0 ≡ some (Some y) → Leaves y
   leaves_this ws xs final y is =
       let left = leaves ws xs final in
-      subst (λ (x : S). Leaves x) (some_same left.0 y (some-injective (Some left.0) (Some y) (sym left.1 ∙ is))) left.2
+      subst (λ (x : S). Leaves x) (same_Some left.0 y (some-injective (Some left.0) (Some y) (sym left.1 ∙ is))) left.2

@@ -1,23 +1,15 @@
 -- Lists of views: what adds up over them, and what no two of them have.
-use Rattle.std.proofs.Common.{◌≡◌, ◌⊎◌, ◌≢◌, ◌+◌, ◌≤◌, ◌<◌, ℕ, zero, suc, List, [], ◌∷◌, ◌++◌, Option, Some, None, set, length, refl, sym, ap, subst, ◌∙◌, arith, ⊎_elim}
+use Rattle.std.proofs.Common.{◌≡◌, ◌⊎◌, ◌≢◌, ◌+◌, ◌≤◌, ◌<◌, ◌%◌, ℕ, zero, suc, List, [], ◌∷◌, ◌++◌, Option, Some, set, length, refl, sym, ap, subst, ◌∙◌, arith, ⊎_elim}
 use mathlib.Core.Option.{some, some-injective, some-ne-none}
 use lib.ListN.{get_elem?}
 use Rattle.atomic_table.proofs.Lists.{at_set, at_snoc}
+use Rattle.std.proofs.lemmas.Option.{same_Some}
 use Rattle.basics.proofs.Lists.{heads}
 use Rattle.site_hall.specs.Rule.{total}
 
-in_option : {A : Type 0} → A → Option A → A
-in_option x None = x
-in_option x (Some y) = y
-
--- one that is there is one value
-pub some_same : {A : Type 0} (x y : A) → Some x ≡ Some y → x ≡ y
-unfolding in_option
-some_same {A} x y e = ap (λ (o : Option A). in_option x o) e
-
 -- what is held first is one value
 pub first_held : {A : Type 0} (x y : A) (xs ys : List (ℕ × Option A)) → (0, Some x) ∷ xs ≡ (0, Some y) ∷ ys → x ≡ y
-first_held {A} x y xs ys e = some_same x y (ap (λ (c : ℕ × Option A). c.1) (heads (0, Some x) (0, Some y) xs ys e))
+first_held {A} x y xs ys e = same_Some x y (ap (λ (c : ℕ × Option A). c.1) (heads (0, Some x) (0, Some y) xs ys e))
 
 module _ {A : Type 0} where
   -- what stands at one place is one thing
@@ -116,3 +108,7 @@ module _ {A : Type 0} (P : A → ℕ → Type 0) where
       (at_set l i j both a s.1))
       (at_set (set l i both) o k spent b eb))
       (at_set (set l i both) o j spent a ea)
+
+-- the remainder of the next number is that of the remainder's next
+pub next_word : (a : ℕ) → (a % 18446744073709551616 + 1) % 18446744073709551616 ≡ (a + 1) % 18446744073709551616
+next_word a = omega arith

@@ -20,7 +20,7 @@ use Rattle.site_hall.specs.declared.views.Stage.TheVariants.{Holding, Idle, Wait
 use Rattle.site_hall.specs.declared.views.View.{View}
 use Rattle.site_hall.proofs.Fitting.{Owned, owned_here, owned_set}
 use Rattle.site_hall.proofs.Histories.{Turned, events_both, events_same, first_empty, stands_with, turned, turned_calm}
-use Rattle.site_hall.proofs.Lists.{apart_set, first_held, total_set}
+use Rattle.site_hall.proofs.Lists.{apart_set, first_held, total_set, next_word}
 
 holding_in : (issued served : ℕ) (now : List Entry) (out : maybe.Option ℕ) (j : ℕ) (st : Stage) → IsHolding st → InTurn issued served now out j st
     → (ticket_of st ≡ served) × (ticket_of st < issued) × (got_of st ≡ now) × (out ≡ maybe.some j)
@@ -43,9 +43,6 @@ turn_behind : (issued served : ℕ) (now new : List Entry) (out : maybe.Option �
 turn_behind issued served now new out j Idle n m h = tt
 turn_behind issued served now new out j (Waiting t) n m h = ((let a = h.0 in let b : ¬ (t ≡ served) = n in omega arith), h.1)
 turn_behind issued served now new out j (Holding t got) n m h = absurd (m h.3)
-
-next_word : (a : ℕ) → (a % 18446744073709551616 + 1) % 18446744073709551616 ≡ (a + 1) % 18446744073709551616
-next_word a = omega arith
 
 -- a group that has events goes on having some
 some_longer : (g : ℕ) (now extra : List Entry) → ¬ (events_of g now ≡ []) → ¬ (events_of g (now ++ extra) ≡ [])

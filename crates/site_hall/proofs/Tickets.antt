@@ -13,16 +13,13 @@ use Rattle.site_hall.specs.declared.views.Stage.{Stage}
 use Rattle.site_hall.specs.declared.views.Stage.TheVariants.{Holding, Idle, Waiting}
 use Rattle.site_hall.specs.declared.views.View.{View}
 use Rattle.site_hall.proofs.Fitting.{fits_more, fits_stage, idle_holds_none, owned_set, placed_set}
-use Rattle.site_hall.proofs.Lists.{apart_set, total_set}
+use Rattle.site_hall.proofs.Lists.{apart_set, total_set, next_word}
 
 -- the ticket of a view is below the next one
 ticket_below : (issued served : ℕ) (now : List Entry) (out : maybe.Option ℕ) (j : ℕ) (st : Stage) (x : ℕ) → InTurn issued served now out j st → IsTicket st x → x < issued
 ticket_below issued served now out j Idle x h is = absurd is
 ticket_below issued served now out j (Waiting t) x h is = let a = h.1 in omega arith
 ticket_below issued served now out j (Holding t got) x h is = let a = h.1 in omega arith
-
-next_word : (a : ℕ) → (a % 18446744073709551616 + 1) % 18446744073709551616 ≡ (a + 1) % 18446744073709551616
-next_word a = omega arith
 
 module _ {S : Type 0} (log : S → List Entry) (Same : S → S → Type 0) (about : About S) where
   module _ (s : State (Option S) (View S)) (k : Kept log Same about s) (id : ℕ) (v : View S) (at : get_elem? s.views id ≡ some v) (idle : v.stage ≡ Idle) (some_part : 0 < v.parts) where
