@@ -8,9 +8,9 @@
 //!
 //! **Proved**: the builders at rest, lent and dropped are, each once, those handed in; the count of
 //! faults is the sum over all of them; a builder that is lent was at rest, and counts, once it is
-//! back or dropped, in place of what was remembered last under its number; builders that are made for a run are known by
-//! different numbers; a copy of an order is that order. What a builder answers is a promise that
-//! whoever implements [`Builder`] proves.
+//! back or dropped, in place of what was remembered last under its number; builders that are made
+//! for a run are known by different numbers; a copy of an order is that order. What a builder
+//! answers is a promise that whoever implements [`Builder`] proves.
 //!
 //! **Only tested**: with ample memory a pool is made.
 //!
