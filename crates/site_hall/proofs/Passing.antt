@@ -1,8 +1,6 @@
 -- The turn is passed on: the value goes home, with what the turn made of its history.
 use Rattle.std.proofs.Common.{◌≡◌, ◌⊎◌, ◌≢◌, ◌+◌, ◌<◌, ◌%◌, ◌^◌, ℕ, false, List, [], ◌∷◌, ◌++◌, Option, Some, None, get_or, set, inl, inr, refl, sym, ap, subst, ◌∙◌, append_assoc, arith, ⊎_elim}
-use Rattle.std.specs.Prelude.{IfSome}
 use Rattle.std.proofs.lemmas.List.{append-nil}
-use Rattle.std.specs.declared.snapshot.Snapshot.{Snapshot}
 use mathlib.Core.Option as maybe
 use mathlib.Core.Option.{none, some}
 use lib.ListN.{get_elem?}
@@ -156,20 +154,17 @@ module _ {S : Type 0} (log : S → List Entry) (Same : S → S → Type 0) (abou
       calm = λ stops. turned_calm v.groups (got_of v.stage) (log x) may (calmly stops) (subst (λ l. IsCalm l) (sym turn.2) (k.calm stops));
     }
 
-  first_of : (v : View S) (x : S) → v.of ≡ Some about.first → IfSome v.of (λ f. Same x f.value) → Same x about.first.value
-  first_of v x of same = subst (λ (o : Option (Snapshot S)). IfSome o (λ f. Same x f.value)) of same
-
-  pub passing_allows : (slots id : ℕ) (me : Seated S) (x : S) → IsHolding me.0.stage → me.1 ≡ (0, Some x) ∷ [] → 0 < me.0.parts
-      → IfSome me.0.of (λ f. Same x f.value) → MayLeave me.0.groups (got_of me.0.stage) (log x)
+  pub passing_allows : (slots id : ℕ) (me : Seated S) (x : S) → IsHolding me.0.stage → me.1 ≡ (0, Some x) ∷ []
+      → Same x about.first.value → MayLeave me.0.groups (got_of me.0.stage) (log x)
       → (about.keep_going ≡ false → IsCalmTurn (got_of me.0.stage) (log x))
       → Allows (Kept log Same about) slots id me 1 (λ n. (n + 1) % 2 ^ 64) (passed log (step slots 1 1 0 none) me)
-  passing_allows slots id me x holds out_is some_part same may calmly s k _ at small = let f = k.each id me.0 at in (
+  passing_allows slots id me x holds out_is same may calmly s k _ at small = (
     after_turn me.0 (got_of me.0.stage) (log x),
     gives,
     tt,
     subst (λ (c : List (ℕ × Option S)). Kept log Same about (stepped s 1 ((get_or s.words 1 0 + 1) % 18446744073709551616) id c (after_turn me.0 (got_of me.0.stage) (log x)) gives))
         (sym out_is)
-        (passes_on s k id me.0 at holds x may (first_of me.0 x (f.of some_part) same) calmly),
+        (passes_on s k id me.0 at holds x may same calmly),
     λ y is. (
       ap rest out_is,
       ap (λ (z : S). after_turn me.0 (got_of me.0.stage) (log z)) (first_held x y [] [] (sym out_is ∙ is)),

@@ -1,5 +1,5 @@
 -- Halls and their passes, as the calls speak of them.
-use Rattle.std.specs.Prelude.{◌≡◌, ◌<◌, ◌%◌, ◌^◌, ℕ, Bool, List, [], ◌∷◌, None}
+use Rattle.std.specs.Prelude.{◌≡◌, ◌<◌, ◌%◌, ◌^◌, ℕ, Bool, List, [], ◌∷◌, Some, None}
 use Rattle.std.specs.declared.snapshot.Snapshot.{Snapshot}
 use Rattle.atomic_table.specs.Seated.{TableId}
 use Rattle.merge_core.specs.Trail.{Entry}
@@ -32,13 +32,13 @@ module _ {S : Type 0} where
     pub count : parts_of h ≡ parts
     pub going : keeps_going h ≡ keep_going
 
-  -- which hall the pass is of
-  abbrev pub hall_of : Pass S → TableId
-  hall_of p = p.seat.table_id
-
   -- what the pass knows
   abbrev pub view_of : Pass S → View S
   view_of p = p.seat.me.0
+
+  -- the pass is one of the hall
+  abbrev pub IsOf : Hall S → Pass S → Type 0
+  IsOf h p = (p.seat.table_id ≡ id_of h) × ((view_of p).of ≡ Some (opening_of h))
 
   -- the history of the value that the pass's turn came with
   abbrev pub got_by : Pass S → List Entry

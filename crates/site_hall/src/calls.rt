@@ -1,10 +1,10 @@
 ghost use Rattle.std.specs.Prelude.{◌≡◌, ◌⊎◌, ◌<◌, ℕ, false, [], ◌∷◌};
-ghost use Rattle.std.specs.Prelude.{IfErr, IfOk, IfSome, IsSome, Some};
+ghost use Rattle.std.specs.Prelude.{IfErr, IfOk, IsSome, Some};
 ghost use Rattle.basics.specs.Members.{Has};
 ghost use Rattle.site_hall.specs.Events.{IsCalm, IsCalmTurn, MayLeave, events_of};
-ghost use Rattle.site_hall.specs.Passes.{HasTurn, HoldsAsBefore, IsOpened, KnowsAsMuch, Rests};
-ghost use Rattle.site_hall.specs.Passes.{Waits, got_by, hall_of, id_of, keeps_going, opening_of};
-ghost use Rattle.site_hall.specs.Passes.{parts_of, view_of};
+ghost use Rattle.site_hall.specs.Passes.{HasTurn, HoldsAsBefore, IsOf, IsOpened, KnowsAsMuch};
+ghost use Rattle.site_hall.specs.Passes.{Rests, Waits, got_by, keeps_going, opening_of, parts_of};
+ghost use Rattle.site_hall.specs.Passes.{view_of};
 ghost use Rattle.site_hall.specs.Steps.{Got};
 ghost use Rattle.site_hall.specs.Views.{GoesOnFrom, after_turn, first_view, given_part, joined};
 ghost use Rattle.site_hall.specs.Views.{kept_part};
@@ -39,7 +39,7 @@ impl<X: Logged> Hall<X> {
         requires empty { X.log value ≡ [] }
         requires same { X.same value value }
         ensures opened { IfOk result (λ r. IsOpened value parts keep_going r.0) }
-        ensures own { IfOk result (λ r. hall_of r.1 ≡ id_of r.0) }
+        ensures own { IfOk result (λ r. IsOf r.0 r.1) }
         ensures rests { IfOk result (λ r. Rests r.1) }
         ensures knows { IfOk result (λ r. view_of r.1 ≡ first_view (opening_of r.0) parts) }
         ensures refused { IfErr result (λ r. r.1 ≡ value) }
@@ -62,9 +62,9 @@ impl<X: Logged> Hall<X> {
 
     /// Gives one part of a pass to a new pass, which has no group, and has seen what this one has.
     pub fn split(&self, pass: &mut Pass<X>) -> Pass<X>
-        requires own { hall_of pass.old ≡ id_of self.now }
+        requires own { IsOf self.now pass.old }
         requires parts { 1 < (view_of pass.old).parts }
-        ensures own { (hall_of pass.new ≡ id_of self.now) × (hall_of result ≡ id_of self.now) }
+        ensures own { IsOf self.now pass.new × IsOf self.now result }
         ensures knows { view_of pass.new ≡ kept_part (view_of pass.old) }
         ensures holds { HoldsAsBefore pass.old pass.new }
         ensures given { view_of result ≡ given_part (view_of pass.old) }
@@ -76,9 +76,9 @@ impl<X: Logged> Hall<X> {
 
     /// Takes another pass in, with its parts and its groups.
     pub fn join(&self, pass: &mut Pass<X>, other: Pass<X>)
-        requires own { (hall_of pass.old ≡ id_of self.now) × (hall_of other ≡ id_of self.now) }
+        requires own { IsOf self.now pass.old × IsOf self.now other }
         requires rests { Rests pass.old × Rests other }
-        ensures own { hall_of pass.new ≡ id_of self.now }
+        ensures own { IsOf self.now pass.new }
         ensures rests { Rests pass.new }
         ensures knows { view_of pass.new ≡ joined (view_of pass.old) (view_of other) }
     {
@@ -88,12 +88,12 @@ impl<X: Logged> Hall<X> {
 
     /// Waits for a turn, and takes the value out.
     pub fn enter<R: Wait>(&self, rt: &R, pass: &mut Pass<X>) -> Turn<X>
-        requires own { hall_of pass.old ≡ id_of self.now }
+        requires own { IsOf self.now pass.old }
         requires rests { Rests pass.old }
-        ensures own { hall_of pass.new ≡ id_of self.now }
+        ensures own { IsOf self.now pass.new }
         ensures turn { HasTurn pass.new }
         ensures got { got_by pass.new ≡ X.log result.value }
-        ensures same { IfSome (view_of pass.old).of (λ f. X.same result.value f.value) }
+        ensures same { X.same result.value (opening_of self.now).value }
         ensures goes_on { GoesOnFrom (view_of pass.old) (X.log result.value) }
         ensures knows { KnowsAsMuch (view_of pass.old) (view_of pass.new) }
     {
@@ -107,9 +107,9 @@ impl<X: Logged> Hall<X> {
 
     /// Waits until the ticket is served. Who is woken for another's ticket wakes the next one.
     fn await_ticket<R: Wait>(&self, rt: &R, pass: &mut Pass<X>, mine: u64)
-        requires own { hall_of pass.old ≡ id_of self.now }
+        requires own { IsOf self.now pass.old }
         requires waits { Waits mine pass.old }
-        ensures own { hall_of pass.new ≡ id_of self.now }
+        ensures own { IsOf self.now pass.new }
         ensures turn { (x : X) × Got X.log X.same (view_of pass.old) x pass.new.seat.me }
     {
         let shared = &self.table.shared;
@@ -130,13 +130,13 @@ impl<X: Logged> Hall<X> {
 
     /// Puts the value back as it is now, and passes the turn on. A turn makes one event at most.
     pub fn leave(&self, pass: &mut Pass<X>, turn: Turn<X>)
-        requires own { hall_of pass.old ≡ id_of self.now }
+        requires own { IsOf self.now pass.old }
         requires turn { HasTurn pass.old }
-        requires same { IfSome (view_of pass.old).of (λ f. X.same turn.value f.value) }
+        requires same { X.same turn.value (opening_of self.now).value }
         requires step { MayLeave (view_of pass.old).groups (got_by pass.old) (X.log turn.value) }
         requires calm { keeps_going self.now ≡ false →
             IsCalmTurn (got_by pass.old) (X.log turn.value) }
-        ensures own { hall_of pass.new ≡ id_of self.now }
+        ensures own { IsOf self.now pass.new }
         ensures rests { Rests pass.new }
         ensures knows { view_of pass.new ≡
             after_turn (view_of pass.old) (got_by pass.old) (X.log turn.value) }
@@ -151,7 +151,7 @@ impl<X: Logged> Hall<X> {
 
     /// Closes the hall, by a pass with all parts, and gives the value.
     pub fn close(self, pass: Pass<X>) -> X
-        requires own { hall_of pass ≡ id_of self }
+        requires own { IsOf self pass }
         requires rests { Rests pass }
         requires all { (view_of pass).parts ≡ parts_of self }
         ensures same { X.same result (opening_of self).value }

@@ -2,8 +2,7 @@ ghost use Rattle.std.specs.Prelude.{◌≡◌, ◌++◌, [], ◌∷◌, All, IsT
 ghost use Rattle.basics.specs.Members.{Has};
 ghost use Rattle.merge_core.specs.Event.{Begin};
 ghost use Rattle.site_hall.specs.Events.{events_of};
-ghost use Rattle.site_hall.specs.Passes.{Rests, hall_of, id_of, keeps_going, parts_of};
-ghost use Rattle.site_hall.specs.Passes.{view_of};
+ghost use Rattle.site_hall.specs.Passes.{IsOf, Rests, keeps_going, parts_of, view_of};
 
 use crate::hall::{Hall, Pass};
 use merge_core::Logged;
@@ -77,9 +76,9 @@ fn visit_all<X: Logged + Send, R: Threads + Wait + Sync>(
     hall: &Hall<X>,
     workers: &mut [Worker<X>],
 )
-    requires ready { All (λ w. (hall_of w.pass ≡ id_of hall.now) × Rests w.pass) workers.old }
+    requires ready { All (λ w. IsOf hall.now w.pass × Rests w.pass) workers.old }
     requires parts { All (λ w. (view_of w.pass).parts ≡ 1) workers.old }
-    ensures ready { All (λ w. (hall_of w.pass ≡ id_of hall.now) × Rests w.pass) workers.new }
+    ensures ready { All (λ w. IsOf hall.now w.pass × Rests w.pass) workers.new }
     ensures parts { All (λ w. (view_of w.pass).parts ≡ 1) workers.new }
 {
     thread::for_each_mut(
@@ -91,8 +90,8 @@ fn visit_all<X: Logged + Send, R: Threads + Wait + Sync>(
 }
 
 fn visit<X: Logged, R: Wait>(rt: &R, hall: &Hall<X>, pass: &mut Pass<X>)
-    requires ready { (hall_of pass.old ≡ id_of hall.now) × Rests pass.old }
-    ensures ready { (hall_of pass.new ≡ id_of hall.now) × Rests pass.new }
+    requires ready { IsOf hall.now pass.old × Rests pass.old }
+    ensures ready { IsOf hall.now pass.new × Rests pass.new }
     ensures parts { (view_of pass.new).parts ≡ (view_of pass.old).parts }
 {
     let turn = hall.enter(rt, pass);
@@ -101,9 +100,9 @@ fn visit<X: Logged, R: Wait>(rt: &R, hall: &Hall<X>, pass: &mut Pass<X>)
 
 /// Takes a turn for a group that had none, which begins it.
 fn begin<R: Wait>(rt: &R, hall: &Hall<Tally>, pass: &mut Pass<Tally>, group: u32) -> bool
-    requires ready { (hall_of pass.old ≡ id_of hall.now) × Rests pass.old }
+    requires ready { IsOf hall.now pass.old × Rests pass.old }
     requires going { keeps_going hall.now ≡ true }
-    ensures ready { (hall_of pass.new ≡ id_of hall.now) × Rests pass.new }
+    ensures ready { IsOf hall.now pass.new × Rests pass.new }
     ensures parts { (view_of pass.new).parts ≡ (view_of pass.old).parts }
     ensures begun { IsTrue result → Has (view_of pass.new).groups group }
 {
@@ -115,10 +114,10 @@ fn begin<R: Wait>(rt: &R, hall: &Hall<Tally>, pass: &mut Pass<Tally>, group: u32
 
 /// Takes one more turn for a group.
 fn take_turn<R: Wait>(rt: &R, hall: &Hall<Tally>, pass: &mut Pass<Tally>, group: u32) -> bool
-    requires ready { (hall_of pass.old ≡ id_of hall.now) × Rests pass.old }
+    requires ready { IsOf hall.now pass.old × Rests pass.old }
     requires going { keeps_going hall.now ≡ true }
     requires own { Has (view_of pass.old).groups group }
-    ensures ready { (hall_of pass.new ≡ id_of hall.now) × Rests pass.new }
+    ensures ready { IsOf hall.now pass.new × Rests pass.new }
     ensures parts { (view_of pass.new).parts ≡ (view_of pass.old).parts }
     ensures own { Has (view_of pass.new).groups group }
 {
@@ -129,9 +128,9 @@ fn take_turn<R: Wait>(rt: &R, hall: &Hall<Tally>, pass: &mut Pass<Tally>, group:
 }
 
 fn work<R: Wait>(rt: &R, hall: &Hall<Tally>, worker: &mut Worker<Tally>)
-    requires ready { (hall_of worker.old.pass ≡ id_of hall.now) × Rests worker.old.pass }
+    requires ready { IsOf hall.now worker.old.pass × Rests worker.old.pass }
     requires going { keeps_going hall.now ≡ true }
-    ensures ready { (hall_of worker.new.pass ≡ id_of hall.now) × Rests worker.new.pass }
+    ensures ready { IsOf hall.now worker.new.pass × Rests worker.new.pass }
     ensures parts { (view_of worker.new.pass).parts ≡ (view_of worker.old.pass).parts }
 {
     let group = worker.group;
@@ -147,9 +146,9 @@ fn work<R: Wait>(rt: &R, hall: &Hall<Tally>, worker: &mut Worker<Tally>)
 
 fn work_all<R: Threads + Wait + Sync>(rt: &R, hall: &Hall<Tally>, workers: &mut [Worker<Tally>])
     requires going { keeps_going hall.now ≡ true }
-    requires ready { All (λ w. (hall_of w.pass ≡ id_of hall.now) × Rests w.pass) workers.old }
+    requires ready { All (λ w. IsOf hall.now w.pass × Rests w.pass) workers.old }
     requires parts { All (λ w. (view_of w.pass).parts ≡ 1) workers.old }
-    ensures ready { All (λ w. (hall_of w.pass ≡ id_of hall.now) × Rests w.pass) workers.new }
+    ensures ready { All (λ w. IsOf hall.now w.pass × Rests w.pass) workers.new }
     ensures parts { All (λ w. (view_of w.pass).parts ≡ 1) workers.new }
 {
     thread::for_each_mut(rt, workers, 4, &|_, worker| work(rt, hall, worker));
@@ -166,7 +165,7 @@ fn empty_tally(alloc: Global) -> Tally
 
 /// The tally once four workers took their turns.
 fn tallied<R: Threads + Wait + Sync>(rt: &R, hall: Hall<Tally>, pass: Pass<Tally>) -> Tally
-    requires own { hall_of pass ≡ id_of hall }
+    requires own { IsOf hall pass }
     requires rests { Rests pass }
     requires parts { ((view_of pass).parts ≡ 4) × (parts_of hall ≡ 4) }
     requires going { keeps_going hall ≡ true }

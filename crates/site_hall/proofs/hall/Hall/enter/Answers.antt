@@ -7,7 +7,7 @@ use Rattle.site_hall.proofs.hall.Hall.enter.Goals as goal
 
 pub fetch_add-mine-requires : goal.fetch_add-mine-requires
 fetch_add-mine-requires g c = (
-  c.requires.own,
+  c.requires.own.0,
   search rules,
   tickets_allow g.X.Logged.log g.X.Logged.same _ _ _ _ c.requires.rests.0 c.requires.rests.2,
 )

@@ -8,5 +8,5 @@ fetch_add-requires g c =
     let mine = put_in c.exchange-gone.new.seat.me old c.args.turn.value c.exchange-gone.ensures.3 c.requires.turn.1 in (
       search rules,
       search rules,
-      rw mine (passing_allows g.X.Logged.log g.X.Logged.same _ _ _ (old.0, (0, Some c.args.turn.value) ∷ []) c.args.turn.value c.requires.turn.0 refl c.requires.turn.2 c.requires.same c.requires.step c.requires.calm),
+      rw mine (passing_allows g.X.Logged.log g.X.Logged.same _ _ _ (old.0, (0, Some c.args.turn.value) ∷ []) c.args.turn.value c.requires.turn.0 refl c.requires.same c.requires.step c.requires.calm),
     )
