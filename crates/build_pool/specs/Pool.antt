@@ -1,6 +1,6 @@
 -- A pool of builders: those at rest, and of each that is lent what it is known by and how often it
 -- had failed.
-use Rattle.std.specs.Prelude.{◌≡◌, ◌==◌, ◌⊎◌, ◌<◌, ◌≤◌, ◌+◌, ◌^◌, ℕ, List, Some, Contains, sum_by, remove, slice_get, if◌then◌else◌}
+use Rattle.std.specs.Prelude.{◌≡◌, ◌==◌, ◌⊎◌, ◌<◌, ◌≤◌, ◌+◌, ◌^◌, ℕ, List, Some, Contains, sum_by, remove, slice_get, slice_set, if◌then◌else◌}
 use Rattle.build_pool.specs.declared.pools.Away.{Away}
 
 pub record PoolValue (B : Type 0) : Type 0 where
@@ -29,7 +29,8 @@ AreOnce number bs = (n : ℕ) → sum_by (λ b. is_number n (number b)) bs ≤ 1
 abbrev pub HasEachOnce : {B : Type 0} → (B → ℕ) → PoolValue B → Type 0
 HasEachOnce number p = (n : ℕ) → id_times number n p ≤ 1
 
--- how often the builders failed; a lent one counts with what it had when it was lent
+-- how often the builders failed; a lent one counts with what it had when it was lent, and one that
+-- was dropped with what it had then
 abbrev pub faults_of : {B : Type 0} → (B → ℕ) → PoolValue B → ℕ
 faults_of faults p = added faults (λ a. a.faults) p
 
@@ -56,3 +57,8 @@ IfLastOf number lent P = (i : ℕ) (a : Away) → IsLastOf number lent i a → P
 abbrev pub LeavesLastOf : ℕ → List Away → List Away → Type 0
 LeavesLastOf number old new =
     (i : ℕ) × (a : Away) × IsLastOf number old i a × (new ≡ remove old i)
+
+-- what is remembered now stands in place of the last entry of its number
+abbrev pub RecountsLastOf : Away → List Away → List Away → Type 0
+RecountsLastOf away old new =
+    (i : ℕ) × (a : Away) × IsLastOf away.number old i a × (new ≡ slice_set old i away)

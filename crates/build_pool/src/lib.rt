@@ -3,13 +3,14 @@
 //! **A contract sees** a [`Builder`] by its number, its count of faults and the image that it
 //! tells for each order; an [`Order`] as its package with its slots, the flags that are on and what
 //! its equals operators are bound to, so that orders of the same contents are one; a [`BuildPool`]
-//! as the builders at rest and, of each that is lent, its number and how often it had failed.
+//! as the builders at rest and, of each that is lent or was dropped, its number and how often it had
+//! failed then.
 //!
-//! **Proved**: the builders at rest and lent are, each once, those handed in; the count of faults
-//! is the sum over all of them; a builder that is lent was at rest, and counts, once it is back, in
-//! place of what was remembered last under its number; builders that are made for a run are known by
-//! different numbers; a copy of an order is that order. What a builder answers is a promise that
-//! whoever implements [`Builder`] proves.
+//! **Proved**: the builders at rest, lent and dropped are, each once, those handed in; the count of
+//! faults is the sum over all of them; a builder that is lent was at rest, and counts, once it is
+//! back or dropped, in place of what was remembered last under its number; builders that are made
+//! for a run are known by different numbers; a copy of an order is that order. What a builder
+//! answers is a promise that whoever implements [`Builder`] proves.
 //!
 //! **Only tested**: with ample memory a pool is made.
 //!

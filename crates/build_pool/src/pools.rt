@@ -1,5 +1,5 @@
 ghost use Rattle.std.specs.Prelude.{◌≡◌, ◌<◌, ◌≤◌, ◌++◌, ◌*◌, ◌+◌, ◌^◌, ◌-◌, [], ◌∷◌, length};
-ghost use Rattle.std.specs.Prelude.{vec_len, vec_capacity, sum_by, Any, remove, ℕ};
+ghost use Rattle.std.specs.Prelude.{vec_len, vec_capacity, sum_by, Any, remove, slice_set, ℕ};
 ghost use Rattle.build_pool.specs.Pool.{IsLastOf};
 ghost use Rattle.build_pool.specs.declared.pools.Away.{Away};
 
@@ -7,7 +7,7 @@ use crate::builders::Builder;
 use std::alloc::{AllocError, Global};
 use std::marker::Model;
 
-/// What a pool remembers of a builder that it lent.
+/// What a pool remembers of a builder that is away: one that it lent, or that was dropped.
 #[derive(Clone, Copy, Debug, PartialEq, Eq)]
 pub struct Away {
     pub number: u32,
@@ -37,6 +37,7 @@ impl<B: Builder> BuildPool<B> {
     ghost use Rattle.std.specs.Prelude.{◌≡◌, ◌<◌, ◌≤◌, ◌++◌, ◌↔◌, [], ◌∷◌, All, Any, IfOk, IfSome};
     ghost use Rattle.std.specs.Prelude.{IsNone, length};
     ghost use Rattle.build_pool.specs.Pool.{AreOnce, HasEachOnce, IfLastOf, LeavesLastOf, SameIds};
+    ghost use Rattle.build_pool.specs.Pool.{RecountsLastOf};
     ghost use Rattle.build_pool.specs.Pool.{faults_of};
 
     /// A pool of these builders, all at rest. The room for lending and taking back is made here.
@@ -98,6 +99,27 @@ impl<B: Builder> BuildPool<B> {
         add(&mut self.resting, builder);
     }
 
+    /// Takes the count of a builder that was lent and failed, and drops it. It stays among those
+    /// that are away, and counts from now on with what it had.
+    pub fn drop_failed(&mut self, builder: B)
+        requires lent { Any (λ a. a.number ≡ B.number builder) self.old.lent }
+        requires count { IfLastOf (B.number builder) self.old.lent
+            (λ a. a.faults ≤ B.faults builder) }
+        ensures resting { self.new.resting ≡ self.old.resting }
+        ensures lent { RecountsLastOf
+            (record { number = B.number builder; faults = B.faults builder })
+            self.old.lent self.new.lent }
+        ensures ids { SameIds B.number self.old self.new }
+        ensures faults { faults_of B.faults self.old ≤ faults_of B.faults self.new }
+        ensures rose { IfLastOf (B.number builder) self.old.lent
+            (λ a. a.faults < B.faults builder) →
+            faults_of B.faults self.old < faults_of B.faults self.new }
+    {
+        let number = builder.id();
+        let faults = builder.fault_count();
+        recount(&mut self.lent, Away { number, faults });
+    }
+
     /// How often the builders failed, all in all.
     pub fn faults(&self) -> u128
         ensures { result ≡ faults_of B.faults self.now }
@@ -117,6 +139,22 @@ fn take_out(lent: &mut Vec<Away>, number: u32) -> Away
 {
     let at = last_place_of(lent, number);
     lent.remove(at)
+}
+
+/// Puts what is remembered now in place of what was remembered last under its number.
+fn recount(lent: &mut Vec<Away>, away: Away) -> Away
+    requires { Any (λ a. a.number ≡ away.number) lent.old.items }
+    ensures last { (i : ℕ) × IsLastOf away.number lent.old.items i result ×
+        (lent.new.items ≡ slice_set lent.old.items i away) }
+    ensures sums { (f : Away → ℕ) →
+        sum_by f lent.new.items + f result ≡ sum_by f lent.old.items + f away }
+    ensures len { vec_len lent.new ≡ vec_len lent.old }
+    ensures room { vec_capacity lent.new ≡ vec_capacity lent.old }
+{
+    let at = last_place_of(lent, away.number);
+    let before = lent[at];
+    lent[at] = away;
+    before
 }
 
 /// Where the last entry of this number stands.

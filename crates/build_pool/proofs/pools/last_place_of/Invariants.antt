@@ -1,5 +1,5 @@
 -- No entry that was looked at has the number.
-use Rattle.std.proofs.Common.{◌≡◌, ◌≤◌, ◌<◌, ℕ, Some}
+use Rattle.std.proofs.Common.{◌≡◌, ◌≤◌, ℕ, Some}
 use Rattle.std.specs.Prelude.{slice_get}
 use Rattle.build_pool.specs.declared.pools.Away.{Away}
 use Rattle.build_pool.proofs.pools.last_place_of.Given as goal

@@ -1,0 +1,10 @@
+pub mod Closing
+pub mod Fitting
+pub mod Histories
+pub mod Joining
+pub mod Lists
+pub mod Looking
+pub mod Opening
+pub mod Passing
+pub mod Splitting
+pub mod Tickets
