@@ -32,6 +32,7 @@ mod programs;
 mod sink;
 mod spare;
 mod tree;
+mod unsynced;
 mod writing;
 
 pub use builders::{CommandBuilder, FolderBuilder};
