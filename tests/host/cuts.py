@@ -21,7 +21,7 @@ from roots import SPARE, Host, expect
 
 # about so many cuts are tried in the model, and one of so many of them by the program
 CUTS = int(os.environ.get("CUTS", 2_000))
-ONE_OF = 50
+ONE_OF = 40
 # so many runs of each kind are killed, and then another one is cut
 KILLS = 5
 CHANCES = (0, 1, 0.5, 0.5)
@@ -95,22 +95,30 @@ def md5(data):
     return hashlib.md5(data).digest()
 
 
+def is_change(call):
+    """Whether a call may change the disk, as far as its name and its answer tell."""
+    _, name, _, number = call
+    return name not in ("execve", "openat", "fchmod", "chmod") and number is not None and number >= 0
+
+
 class Cuts:
     """The cuts of some runs, one after another, of which the first begins on a disk at rest."""
 
     def __init__(self, name, host, trees, every):
         self.name, self.host, self.trees, self.every = name, host, trees, every
         self.disk, self.told, self.tried, self.chosen = Disk(host.root), 0, 0, []
+        # those that left a gate
+        self.half = []
 
     def run(self, words, path, inject=(), cut=True):
         """Records a run, and cuts the power before each of its calls, if that is wanted."""
         ran, calls = recorded(words, f"{self.host.folder}/calls", path, inject)
         replay, told = Replay(self.disk, calls), self.told
-        turns = -(-self.every // max(1, len(calls)))
+        rate = self.every / max(1, sum(map(is_change, calls)))
         for call in calls:
             if replay.take(*call) and cut:
                 self.told = told + replay.told()
-                for _ in range(turns):
+                for _ in range(int(rate + random.random())):
                     self.cut(f"behind {call[1]} {call[2]}")
         self.told = told + replay.told()
         self.check_model()
@@ -135,6 +143,8 @@ class Cuts:
             expect(means in self.trees[self.told :], f"{told}: it means another tree")
             if random.randrange(ONE_OF) == 0:
                 self.chosen.append((told, left, means))
+            if any(path.startswith(JOBS) and path.endswith("/gate") for path in left):
+                self.half.append((told, left, means))
 
 
 def make(root, left):
@@ -197,18 +207,13 @@ def cuts_of(name, host, word, path, inject, count):
 
 def cuts_in_recovery(cuts, word, path, inject, count):
     """The cuts of a recovery of one of the trees that these cuts left, in which the group is open."""
-    half = [it for it in cuts.chosen if has_gate(it[1])]
-    told, left, means = random.choice(half or cuts.chosen)
+    told, left, means = random.choice(cuts.half)
     host = Host(cuts.host.entries)
     shutil.rmtree(host.root)
     make(host.root, left)
     again = Cuts(f"recovery behind {told}", host, [means], count)
     again.run(host.words("--pretend", word), path, inject)[0].expect(0)
     return again
-
-
-def has_gate(left):
-    return any(path.startswith(JOBS) and path.endswith("/gate") for path in left)
 
 
 def cuts_behind_a_kill(name, host, word, path, inject, count):

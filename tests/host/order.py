@@ -104,6 +104,7 @@ def first_syncs(host):
             found.append("sync")
         if name == "fsync" and thread not in order.replay.apart:
             node = order.replay.files[int(given[0])]
-            found += [path for path, it in paths_of(order.disk.top, "") if it is node]
+            known = [("/", order.disk.top), *paths_of(order.disk.top, "")]
+            found += [path for path, it in known if it is node]
         order.replay.take(*call)
     return found

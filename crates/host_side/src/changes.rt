@@ -87,21 +87,26 @@ impl Changes {
     }
 
     /// Makes durable what a stopped run may have left and what isn't. Where it left no journal, that
-    /// is nothing but that the journal is gone.
+    /// is no more than the names on the way to the journal: that it is gone, or folders made for it.
     fn settle(&mut self, tree: &Folder) -> io::Result<()> {
         let reached = tree.reach(JOBS)?;
         match reached.next {
-            Found::Nothing => {
-                let lowest = tree.name_of(reached.folder)?;
-                self.note(tree.alloc(), lowest.as_str())?;
-                Ok(())
-            }
+            Found::Nothing => self.note_all(tree, &reached.folders),
             Found::Folder => {
                 tree.remove_empty(JOBS)?;
                 sync_host(tree.rt())
             }
             _ => sync_host(tree.rt()),
         }
+    }
+
+    /// Notes that names in these folders may have changed.
+    fn note_all(&mut self, tree: &Folder, folders: &[&str]) -> io::Result<()> {
+        for folder in folders {
+            let name = tree.name_of(*folder)?;
+            self.note(tree.alloc(), name.as_str())?;
+        }
+        Ok(())
     }
 }
 

@@ -29,11 +29,11 @@ pub struct Stage {
 }
 
 /// How far a path leads through folders.
-#[derive(Clone, Copy, Debug)]
+#[derive(Drop)]
 pub struct Reached<'a> {
-    /// The lowest folder above the path that is there.
-    pub folder: &'a str,
-    /// What stands below it on the way, at the path itself where all above it are folders.
+    /// The folders above the path that are there, the highest first.
+    pub folders: Vec<&'a str>,
+    /// What stands below them on the way, at the path itself where all above it are folders.
     pub next: Found,
 }
 
@@ -128,22 +128,23 @@ impl Folder {
 
     /// How far a path leads through folders. What a stopped run has left in them goes.
     pub fn reach<'a>(&self, path: &'a str) -> io::Result<Reached<'a>> {
-        let mut folder = "";
+        let mut folders = Vec::new(self.alloc());
+        self.clear_leftover("")?;
+        folders.push("")?;
         for (at, byte) in path.as_bytes().iter().enumerate() {
             if *byte != b'/' {
                 continue;
             }
-            self.clear_leftover(folder)?;
             let above = part_before(path, at);
             let next = self.at(above)?;
             if next != Found::Folder {
-                return Ok(Reached { folder, next });
+                return Ok(Reached { folders, next });
             }
-            folder = above;
+            self.clear_leftover(above)?;
+            folders.push(above)?;
         }
-        self.clear_leftover(folder)?;
         let next = self.at(path)?;
-        Ok(Reached { folder, next })
+        Ok(Reached { folders, next })
     }
 
     /// Removes the spare object in a folder where one is found, so that a tree in which none is needs

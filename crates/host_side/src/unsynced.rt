@@ -4,7 +4,7 @@ use std::io;
 use std::thread::{Threads, join};
 
 /// How many files are open at most until they are synced.
-const MOST_OPEN: usize = 64;
+const MOST_OPEN: usize = 128;
 
 /// Files and folders that are to be made durable. They are kept open until then, so that none is
 /// sought by a name that may be another one's by then, and no failure to write them is missed.
