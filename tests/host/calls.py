@@ -2,7 +2,6 @@
 import os
 import re
 import shutil
-import subprocess
 
 from asked import Wrong
 from disk import File, Folder, Link

@@ -1,10 +1,10 @@
 """Roots with a repository and an image, runs of the program on them, and what is left there."""
 import hashlib
 import os
-import shutil
 import stat
 import subprocess
 import tempfile
+import time
 
 from asked import TOP, Wrong
 from journal import JOBS as JOURNAL, OPEN, journal_path, record, stage_path
@@ -286,3 +286,23 @@ def open_journal(host, removals, placements):
     text = record(1, removals, placements)
     for name, data in (("record", text), ("token", OPEN), ("gate", OPEN)):
         write(host.at(journal_path(1, name)), data)
+
+
+def run_behind_a_kill(host, path, word="app-misc/hello"):
+    """Runs a merge. A program that the killed run was just starting holds the lock until it begins."""
+    for _ in range(100):
+        ran = host.run(word, path=path)
+        if ran.status != 21:
+            break
+        time.sleep(0.05)
+    return ran
+
+
+def check_second_run(host, path, where):
+    """Fails where a run behind another one, which something befell, doesn't leave all well."""
+    ran = run_behind_a_kill(host, path)
+    expect(ran.status == 0, f"{where}: then status {ran.status}, {ran.err!r}")
+    try:
+        host.check_merged()
+    except Wrong as wrong:
+        raise Wrong(f"{where}: {wrong}") from None

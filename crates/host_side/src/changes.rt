@@ -93,7 +93,7 @@ impl Changes {
         match reached.next {
             Found::Nothing => self.note_all(tree, &reached.folders),
             Found::Folder => {
-                tree.remove_empty(JOBS)?;
+                tree.try_removing(JOBS);
                 sync_host(tree.rt())
             }
             _ => sync_host(tree.rt()),

@@ -126,11 +126,11 @@ impl Folder {
         })
     }
 
-    /// How far a path leads through folders. What a stopped run has left in them goes.
+    /// How far a path leads through folders. What a stopped run has left in them goes, if it can.
     pub fn reach<'a>(&self, path: &'a str) -> io::Result<Reached<'a>> {
         let mut folders = Vec::new(self.alloc());
-        self.clear_leftover("")?;
         folders.push("")?;
+        self.try_clearing("");
         for (at, byte) in path.as_bytes().iter().enumerate() {
             if *byte != b'/' {
                 continue;
@@ -140,19 +140,25 @@ impl Folder {
             if next != Found::Folder {
                 return Ok(Reached { folders, next });
             }
-            self.clear_leftover(above)?;
             folders.push(above)?;
+            self.try_clearing(above);
         }
         let next = self.at(path)?;
         Ok(Reached { folders, next })
     }
 
-    /// Removes the spare object in a folder where one is found, so that a tree in which none is needs
-    /// to be written by nobody.
-    fn clear_leftover(&self, folder: &str) -> io::Result<()> {
-        match self.at(self.below(folder, SPARE)?.as_str())? {
-            Found::Nothing => Ok(()),
-            _ => self.clear_spare_in(folder),
+    /// Removes the spare object in a folder, if there is one. What can't go stays, as where a run may
+    /// only read: it is in no path.
+    fn try_clearing(&self, folder: &str) {
+        match self.clear_spare_in(folder) {
+            Ok(()) | Err(_) => {}
+        }
+    }
+
+    /// Removes a folder that is there, where nothing but folders is below it. What can't go stays.
+    pub fn try_removing(&self, path: &str) {
+        match self.remove_empty(path) {
+            Ok(_) | Err(_) => {}
         }
     }
 
