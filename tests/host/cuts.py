@@ -148,18 +148,22 @@ class Cuts:
 
 
 def make(root, left):
-    """Makes a tree as it is seen."""
+    """Makes a tree of what a cut left."""
     os.makedirs(root)
+    names = {}
     for path, it in sorted(left.items()):
         name = f"{root}/{path}"
         if it[0] == "link":
             os.symlink(it[1], name)
-        elif it[0] == "file":
+        elif it[0] != "file":
+            os.mkdir(name, it[1])
+        elif left.files[path] in names:
+            os.link(names[left.files[path]], name)
+        else:
+            names[left.files[path]] = name
             with open(name, "wb") as file:
                 file.write(it[2])
             os.chmod(name, it[1])
-        else:
-            os.mkdir(name, it[1])
 
 
 def check_recovered(host, told, left, means, path, behind):
@@ -207,6 +211,7 @@ def cuts_of(name, host, word, path, inject, count):
 
 def cuts_in_recovery(cuts, word, path, inject, count):
     """The cuts of a recovery of one of the trees that these cuts left, in which the group is open."""
+    expect(cuts.half, f"{cuts.name}: no cut left a gate")
     told, left, means = random.choice(cuts.half)
     host = Host(cuts.host.entries)
     shutil.rmtree(host.root)
@@ -227,7 +232,7 @@ def cuts_behind_a_kill(name, host, word, path, inject, count):
     call, turn = random.choice(list(changes_in(calls)))
     cuts = Cuts(f"{name} behind a kill at {call} {turn}", host, trees, count)
     cuts.run(words, path, [*inject, f"{call}:signal=SIGKILL:when={turn}"], cut=False)
-    cuts.run(words, path, inject)
+    cuts.run(words, path, inject)[0].expect(0)
     return cuts
 
 

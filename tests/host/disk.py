@@ -34,24 +34,36 @@ class Folder:
         self.durable, self.changes = dict(self.names), []
 
 
+class Left(dict):
+    """What is seen at each path, and the file that stands there, which may have several names."""
+
+    def __init__(self):
+        super().__init__()
+        self.files = {}
+
+
 class Disk:
     """What is below a folder of the host, at first all of it durable, and then as calls change it."""
 
     def __init__(self, root):
-        self.root, self.folders, self.open, self.changes = root, [], {}, []
-        self.top = self.node_of(root)
+        self.root, self.folders, self.changes = root, [], []
+        self.top = self.node_of(root, {})
         self.settle()
 
-    def node_of(self, name):
-        mode = os.lstat(name).st_mode
-        if stat.S_ISLNK(mode):
+    def node_of(self, name, files):
+        """What has a name of the host; files are those that were found, by their numbers."""
+        found = os.lstat(name)
+        mode = stat.S_IMODE(found.st_mode)
+        if stat.S_ISLNK(found.st_mode):
             return Link(os.readlink(name))
-        if not stat.S_ISDIR(mode):
+        if stat.S_ISDIR(found.st_mode):
+            folder = self.new_folder(mode)
+            folder.names = {it: self.node_of(f"{name}/{it}", files) for it in os.listdir(name)}
+            return folder
+        if found.st_ino not in files:
             with open(name, "rb") as file:
-                return File(stat.S_IMODE(mode), file.read(), True)
-        folder = self.new_folder(stat.S_IMODE(mode))
-        folder.names = {it: self.node_of(f"{name}/{it}") for it in os.listdir(name)}
-        return folder
+                files[found.st_ino] = File(mode, file.read(), True)
+        return files[found.st_ino]
 
     def new_folder(self, mode):
         folder = Folder(mode)
@@ -118,7 +130,7 @@ class Disk:
         """What a power cut leaves, as of each path what is seen there. By a chance of 0 nothing stays
         that may go, by 1 all of it, and else anything."""
         names = self.kept_apart(chance) if model == FOLDERS else self.kept_in_turn(chance)
-        left, files = {}, {}
+        left, files = Left(), {}
         add_below(left, self.top, "", names, lambda it: bytes_left(it, files, chance))
         return left
 
@@ -138,7 +150,7 @@ class Disk:
 
     def read(self):
         """What is seen at each path now."""
-        left = {}
+        left = Left()
         now = {folder: folder.names for folder in self.folders}
         add_below(left, self.top, "", now, lambda it: it.data)
         return left
@@ -174,6 +186,7 @@ def add_below(left, folder, path, names, data_of):
             left[at] = ("link", node.target)
         elif isinstance(node, File):
             left[at] = ("file", node.mode, data_of(node))
+            left.files[at] = node
         else:
             left[at] = (stat.S_IFDIR, node.mode)
             add_below(left, node, at, names, data_of)
