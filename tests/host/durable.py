@@ -67,7 +67,8 @@ def recovery_over_its_own_links():
     """A placed file may be its stage already, and the spare name may be another name of it."""
     for spare in (True, False):
         host = Host(tools())
-        open_journal(host, [], [(PLAIN, "usr/bin/old", b"whole"), (EXEC, "usr/bin/new", b"new")])
+        # (another one in the same folder would want the spare name for itself)
+        open_journal(host, [], [(PLAIN, "usr/bin/old", b"whole"), (EXEC, "usr/lib/new", b"new")])
         os.makedirs(host.at("usr/bin"), mode=0o755)
         stage = host.at(f"{JOURNAL}/00000001/stage/00000000")
         os.link(stage, host.at("usr/bin/old"))
@@ -75,8 +76,8 @@ def recovery_over_its_own_links():
             os.link(stage, host.at(f"usr/bin/{SPARE}"))
         host.run("--pretend", "app-misc/hello").expect(0, None, "")
         host.check_clean()
-        for path, want in (("old", (PLAIN, b"whole")), ("new", (EXEC, b"new"))):
-            name = host.at(f"usr/bin/{path}")
+        for path, want in (("bin/old", (PLAIN, b"whole")), ("lib/new", (EXEC, b"new"))):
+            name = host.at(f"usr/{path}")
             expect(seen(name) == seen_as(*want), f"{path} is another file")
             expect(os.lstat(name).st_nlink == 1, f"{path} has another name")
         host.run().expect(0, DONE, "")
