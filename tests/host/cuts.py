@@ -22,8 +22,10 @@ from roots import SPARE, Host, expect
 # about so many cuts are tried in the model, and one of so many of them by the program
 CUTS = int(os.environ.get("CUTS", 2_000))
 ONE_OF = 40
-# so many runs of each kind are killed, and then another one is cut
-KILLS = 5
+# so many runs of each kind are killed, and then another one is cut; half of them where the journal is
+# begun or cleared, among so many changes
+KILLS = 5 if CUTS <= 2_000 else 20
+ENDS = 12
 CHANCES = (0, 1, 0.5, 0.5)
 
 
@@ -229,7 +231,8 @@ def cuts_behind_a_kill(name, host, word, path, inject, count):
     shutil.copytree(host.root, other, symlinks=True)
     there = [it.replace(host.root, other) for it in words]
     _, calls = recorded(there, f"{host.folder}/calls", path, inject)
-    call, turn = random.choice(list(changes_in(calls)))
+    changes = list(changes_in(calls))
+    call, turn = random.choice(random.choice([changes, changes[:ENDS] + changes[-ENDS:]]))
     cuts = Cuts(f"{name} behind a kill at {call} {turn}", host, trees, count)
     cuts.run(words, path, [*inject, f"{call}:signal=SIGKILL:when={turn}"], cut=False)
     cuts.run(words, path, inject)[0].expect(0)
@@ -240,10 +243,11 @@ def changes_in(calls):
     """The calls of the main thread that change a tree, each with its number among those of its
     name."""
     turns = {}
-    for thread, name, _, _ in calls:
+    for thread, name, _, number in calls:
         if thread == calls[0][0]:
             turns[name] = turns.get(name, 0) + 1
-            if name in ("mkdir", "openat", "fchmod", "link", "rename", "unlink", "rmdir"):
+            changes = name in ("mkdir", "fchmod", "link", "rename", "unlink", "rmdir")
+            if changes and number is not None and number >= 0:
                 yield name, turns[name]
 
 
