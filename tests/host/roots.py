@@ -1,11 +1,10 @@
 """Roots with a repository and an image, runs of the program on them, and what is left there."""
 import hashlib
 import os
-import re
-import shutil
 import stat
 import subprocess
 import tempfile
+import time
 
 from asked import TOP, Wrong
 from journal import JOBS as JOURNAL, OPEN, journal_path, record, stage_path
@@ -289,73 +288,21 @@ def open_journal(host, removals, placements):
         write(host.at(journal_path(1, name)), data)
 
 
-NAMED = r"\d+<(?P<open>.*?)>|\"(?P<name>.*?)\"(?:, \"(?P<new>.*?)\")?"
+def run_behind_a_kill(host, path, word="app-misc/hello"):
+    """Runs a merge. A program that the killed run was just starting holds the lock until it begins."""
+    for _ in range(100):
+        ran = host.run(word, path=path)
+        if ran.status != 21:
+            break
+        time.sleep(0.05)
+    return ran
 
 
-def system_calls(host, path, names):
-    """The calls of these names that went well in a merge: of each its name and the paths in it."""
-    if not shutil.which("strace"):
-        raise Skipped("strace is not here")
-    log = f"{host.folder}/calls"
-    run(["strace", "-y", "-o", log, "-e", f"trace={names}", *host.words()], path=path).expect(0)
-    found = []
-    for line in read(log).decode().replace("\\76", ">").splitlines():
-        call = re.match(rf"(\w+)\((?:{NAMED}).* = \d+$", line)
-        if call:
-            found.append((call[1], call["open"] or call["name"], call["new"]))
-    return found
-
-
-class Disk:
-    """What of a merge is durable, call by call."""
-
-    def __init__(self):
-        self.files, self.folders = set(), set()
-
-    def take(self, call, name, new):
-        """Takes a call. Fails where a file is renamed whose bytes aren't durable."""
-        if call == "fsync":
-            self.files.discard(name)
-            self.folders.discard(name)
-        elif call in ("write", "fchmod"):
-            self.files.add(name)
-        else:
-            expect(name not in self.files, f"{name} is renamed before its bytes are durable")
-            above = {os.path.dirname(it) for it in (name, new) if it}
-            self.folders = (self.folders | above) - ({name} if call == "rmdir" else set())
-
-    def expect_durable(self, moment):
-        lost = sorted(self.folders)
-        expect(not lost, f"{moment} comes before a sync of {lost}")
-
-
-def moments_of(calls, root):
-    """The calls before which all has to be durable, each with a name: those that place and remove the
-    gate, the first change behind each, and the lines."""
-    gate = f"{root}/{JOURNAL}/00000001/gate"
-    lines, found = 0, {}
-    for at, (call, name, new) in enumerate(calls):
-        if call == "write" and not name.startswith(root):
-            lines += 1
-            found[at] = f"line {lines}"
-        elif call == "rename" and new == gate:
-            found[at] = "the gate"
-        elif call == "unlink" and name == gate:
-            found[at] = "the gate's end"
-        elif call != "fsync" and list(found.values())[-1:] in (["the gate"], ["the gate's end"]):
-            found[at] = "the change behind it"
-    return found
-
-
-def check_durable(host, wanted):
-    """Fails where a merge goes past a moment before all that it did is durable."""
-    calls = system_calls(host, programs("exit 0"), "write,fchmod,fsync,mkdir,rename,unlink,rmdir")
-    moments = moments_of(calls, host.root)
-    found = list(moments.values())
-    expect(found == wanted, f"the moments were {found}")
-    disk = Disk()
-    for at, call in enumerate(calls):
-        if at in moments:
-            disk.expect_durable(moments[at])
-        if not moments.get(at, "").startswith("line"):
-            disk.take(*call)
+def check_second_run(host, path, where):
+    """Fails where a run behind another one, which something befell, doesn't leave all well."""
+    ran = run_behind_a_kill(host, path)
+    expect(ran.status == 0, f"{where}: then status {ran.status}, {ran.err!r}")
+    try:
+        host.check_merged()
+    except Wrong as wrong:
+        raise Wrong(f"{where}: {wrong}") from None

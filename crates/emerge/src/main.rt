@@ -22,6 +22,7 @@ use std::alloc::{AllocError, Global};
 use std::env;
 use std::process::ExitCode;
 use std::rt::Env;
+use std::thread::Threads;
 use telling::{
     is_watched, refuse, refused_line, shown_table, tell_no_memory, tell_table, tell_why,
 };
@@ -31,7 +32,7 @@ use tree_mem::MemTree;
 const NO_MEMORY: u8 = 19;
 
 fn main(rt: HostRuntime) -> ExitCode {
-    match run(rt, rt.alloc()) {
+    match run(rt, rt, rt.alloc()) {
         Ok(code) => ExitCode::from(code),
         Err(_) => {
             tell_no_memory(&rt);
@@ -41,17 +42,22 @@ fn main(rt: HostRuntime) -> ExitCode {
 }
 
 /// Runs the words of the command line, and answers the status's number.
-fn run(rt: HostRuntime, alloc: Global) -> Result<u8, AllocError> {
+fn run<R: Threads + Send + Drop>(
+    rt: HostRuntime,
+    threads: R,
+    alloc: Global,
+) -> Result<u8, AllocError> {
     let words = words(&rt, alloc)?;
     match host_of(alloc, &words) {
-        Ok(host) => run_on_host(rt, alloc, &words, &host),
+        Ok(host) => run_on_host(rt, threads, alloc, &words, &host),
         Err(_) => run_in_memory(rt, alloc, &words),
     }
 }
 
 /// Runs a command over the folder of the host that it names.
-fn run_on_host(
+fn run_on_host<R: Threads + Send + Drop>(
     rt: HostRuntime,
+    threads: R,
     alloc: Global,
     words: &[String],
     host: &Host,
@@ -59,7 +65,7 @@ fn run_on_host(
     requires builders { 0 < host.now.builders }
 {
     let name = host.tree.as_str();
-    match HostTree::open(rt, name) {
+    match HostTree::open(rt, threads, name) {
         Ok(tree) => run_with_images(rt, alloc, words, host, tree),
         Err(fault) => Ok(refuse(&rt, alloc, name, fault)),
     }

@@ -1,4 +1,4 @@
-use crate::spare::is_spare;
+use crate::spare::{SPARE, is_spare};
 use file_tree::{Kind, Look, Object, Path, PathFault};
 use std::alloc::{AllocError, Global};
 use std::collections::BTreeSet;
@@ -16,6 +16,25 @@ pub enum Found {
     Item(Kind),
     /// A device, a pipe or a socket.
     Odd,
+}
+
+/// What is to be placed elsewhere.
+#[derive(Debug, Drop)]
+pub struct Stage {
+    pub kind: Kind,
+    /// The host's name of it.
+    pub name: String,
+    /// Whether it has other names beside that, one of which may be the place.
+    pub has_other_names: bool,
+}
+
+/// How far a path leads through folders.
+#[derive(Drop)]
+pub struct Reached<'a> {
+    /// The folders above the path that are there, the highest first.
+    pub folders: Vec<&'a str>,
+    /// What stands below them on the way, at the path itself where all above it are folders.
+    pub next: Found,
 }
 
 /// A folder of the host, and what is below it. No link is followed below it.
@@ -53,26 +72,105 @@ impl Folder {
 
     /// What stands at a path. A part above it that is a link or no folder is an error.
     pub fn find(&self, path: &str) -> io::Result<Found> {
+        match self.metadata_of(path)? {
+            Some(metadata) => Ok(found_by(&metadata)),
+            None => Ok(Found::Nothing),
+        }
+    }
+
+    /// The metadata of what stands at a path. A part above it that is a link or no folder is an error.
+    fn metadata_of(&self, path: &str) -> io::Result<Option<fs::Metadata>> {
         for (at, byte) in path.as_bytes().iter().enumerate() {
             if *byte != b'/' {
                 continue;
             }
             match self.at(part_before(path, at))? {
                 Found::Folder => {}
-                Found::Nothing => return Ok(Found::Nothing),
+                Found::Nothing => return Ok(None),
                 _ => return Err(not_a_folder()),
             }
         }
-        self.at(path)
+        self.metadata_at(path)
     }
 
     /// What stands at a path whose parts above are folders.
     pub fn at(&self, path: &str) -> io::Result<Found> {
+        match self.metadata_at(path)? {
+            Some(metadata) => Ok(found_by(&metadata)),
+            None => Ok(Found::Nothing),
+        }
+    }
+
+    /// The metadata of what stands at a path whose parts above are folders.
+    fn metadata_at(&self, path: &str) -> io::Result<Option<fs::Metadata>> {
         match fs::symlink_metadata(&self.rt, self.name_of(path)?) {
-            Ok(metadata) => Ok(found_by(&metadata)),
-            Err(error) if error.kind() == io::ErrorKind::NotFound => Ok(Found::Nothing),
+            Ok(metadata) => Ok(Some(metadata)),
+            Err(error) if error.kind() == io::ErrorKind::NotFound => Ok(None),
             Err(error) => Err(error),
         }
+    }
+
+    /// What is to be placed elsewhere, from this path.
+    pub fn stage(&self, path: &str) -> io::Result<Stage> {
+        let Some(metadata) = self.metadata_of(path)? else {
+            return Err(nothing_to_place());
+        };
+        let Found::Item(kind) = found_by(&metadata) else {
+            return Err(nothing_to_place());
+        };
+        let has_other_names = metadata.nlink() > 1;
+        Ok(Stage {
+            kind,
+            name: self.name_of(path)?,
+            has_other_names,
+        })
+    }
+
+    /// How far a path leads through folders. What a stopped run has left in them goes, if it can.
+    pub fn reach<'a>(&self, path: &'a str) -> io::Result<Reached<'a>> {
+        let mut folders = Vec::new(self.alloc());
+        folders.push("")?;
+        self.try_clearing("");
+        for (at, byte) in path.as_bytes().iter().enumerate() {
+            if *byte != b'/' {
+                continue;
+            }
+            let above = part_before(path, at);
+            let next = self.at(above)?;
+            if next != Found::Folder {
+                return Ok(Reached { folders, next });
+            }
+            folders.push(above)?;
+            self.try_clearing(above);
+        }
+        let next = self.at(path)?;
+        Ok(Reached { folders, next })
+    }
+
+    /// Removes the spare object in a folder, if there is one. What can't go stays, as where a run may
+    /// only read: it is in no path.
+    fn try_clearing(&self, folder: &str) {
+        match self.clear_spare_in(folder) {
+            Ok(()) | Err(_) => {}
+        }
+    }
+
+    /// Removes a folder that is there, where nothing but folders is below it. What can't go stays.
+    pub fn try_removing(&self, path: &str) {
+        match self.remove_empty(path) {
+            Ok(_) | Err(_) => {}
+        }
+    }
+
+    /// The host's name of a spare object in a folder.
+    pub fn spare_in(&self, folder: &str) -> Result<String, AllocError> {
+        let inside = self.below(folder, SPARE)?;
+        self.name_of(inside.as_str())
+    }
+
+    /// Removes the spare object in a folder, if there is one.
+    pub fn clear_spare_in(&self, folder: &str) -> io::Result<()> {
+        clear_spare(&self.rt, self.spare_in(folder)?.as_str())
     }
 
     /// How a path looks: a folder is one only where something is below it.
@@ -103,6 +201,18 @@ impl Folder {
             }
         }
         Err(too_many())
+    }
+
+    /// Removes a folder that is there, where nothing but folders is below it. Whether it is gone.
+    pub fn remove_empty(&self, path: &str) -> io::Result<bool> {
+        let Some(folders) = self.empty_folders(path)? else {
+            return Ok(false);
+        };
+        for folder in folders.iter().rev() {
+            self.clear_spare_in(folder.as_str())?;
+            fs::remove_dir(&self.rt, self.name_of(folder.as_str())?)?;
+        }
+        Ok(true)
     }
 
     /// Whether anything but folders and spare objects is right in a folder; its folders are added.
@@ -235,12 +345,13 @@ fn found_by(metadata: &fs::Metadata) -> Found {
     }
 }
 
-/// Removes the spare object of this name, if there is one.
+/// Removes the spare object of this name, if there is one. A folder goes with all below it: it never
+/// had its name, so nothing below it had one either.
 pub fn clear_spare(rt: &HostRuntime, name: &str) -> io::Result<()> {
     match fs::remove_file(rt, name) {
         Ok(()) => Ok(()),
         Err(error) if error.kind() == io::ErrorKind::NotFound => Ok(()),
-        Err(error) if error.kind() == io::ErrorKind::IsADirectory => fs::remove_dir(rt, name),
+        Err(error) if error.kind() == io::ErrorKind::IsADirectory => fs::remove_dir_all(rt, name),
         Err(error) => Err(error),
     }
 }
@@ -270,6 +381,10 @@ pub fn odd_object() -> io::Error {
         io::ErrorKind::Unsupported,
         "it is, or has below it, a device, a pipe or a socket",
     )
+}
+
+fn nothing_to_place() -> io::Error {
+    io::Error::new(io::ErrorKind::NotFound, "nothing is to be placed")
 }
 
 fn too_many() -> io::Error {

@@ -1,10 +1,11 @@
 //! The tree, the sink and the builders of the host: folders, standard output, programs.
 //!
 //! A [`HostTree`] keeps its objects as files and links below a folder, which it holds locked. What it
-//! writes it writes beside the target and renames, so that no file of a running system is ever half
-//! written. A [`HostSink`] is standard output. A [`FolderBuilder`] takes the image of a package from
-//! a folder, and a [`CommandBuilder`] has a program prepare that folder first, which is started with
-//! the words of the order: `category/package-version`, `slot/subslot`, and each flag that is on.
+//! writes it writes beside the target and renames, and a file that it places is the other one under a
+//! second name, so that no file of a running system is ever half written. A sync makes files durable
+//! in threads. A [`HostSink`] is standard output. A [`FolderBuilder`] takes the image of a package
+//! from a folder, and a [`CommandBuilder`] has a program prepare that folder first, which is started
+//! with the words of the order: `category/package-version`, `slot/subslot`, and each flag that is on.
 //!
 //! **A contract sees** the counts of failures and the builders' numbers. What a disk holds no
 //! contract can say, so these types tell no content.
@@ -18,7 +19,7 @@
 //! error: the call, the path, and the system's error.
 //!
 //! ```
-//! let mut tree = HostTree::open(rt, root)?;
+//! let mut tree = HostTree::open(rt, rt, root)?;
 //! let held = tree.read(&path)?;
 //! ```
 #![tactic(auto)]
@@ -32,6 +33,7 @@ mod programs;
 mod sink;
 mod spare;
 mod tree;
+mod unsynced;
 mod writing;
 
 pub use builders::{CommandBuilder, FolderBuilder};

@@ -14,28 +14,35 @@ use std::alloc::{AllocError, Global};
 use std::collections::BTreeSet;
 use std::fs::File;
 use std::io;
+use std::thread::Threads;
 
 /// A tree whose objects are the files and links below a folder of the host.
 ///
 /// It holds the folder locked while it is there. Objects get mode 0644, or 0755 where they can be run,
-/// and folders 0755. What is written gets its name only when it is whole. A path with a link or a file
-/// above it is a fault of each call, and so are devices, pipes, sockets and names that no path has
-/// where `read` or `list` meets them.
+/// and folders 0755. What is written gets its name only when it is whole, and what is placed only when
+/// it is as durable as its stage: a placed file is the stage itself under another name. A path with a
+/// link or a file above it is a fault of each call, and so are devices, pipes, sockets and names that
+/// no path has where `read` or `list` meets them.
 #[derive(Drop)]
-pub struct HostTree {
+pub struct HostTree<R: Threads> {
+    threads: R,
     folder: Folder,
     changes: Changes,
     faults: Faults,
     _lock: File,
 }
 
-impl HostTree {
-    /// The tree below this folder, which is locked from now on.
-    pub fn open(rt: HostRuntime, name: &str) -> Result<HostTree, OpenFault> {
+impl<R: Threads> HostTree<R> {
+    /// The tree below this folder, which is locked from now on. A sync starts threads by the handle.
+    pub fn open(rt: HostRuntime, threads: R, name: &str) -> Result<HostTree<R>, OpenFault>
+    where
+        R: Drop,
+    {
         let lock = open_locked(&rt, name)?;
         let folder = Folder::new(rt, name, true).map_err(io::Error::from)?;
         let changes = Changes::new(rt.alloc());
         Ok(HostTree {
+            threads,
             folder,
             changes,
             faults: Faults::new(),
@@ -66,7 +73,7 @@ impl HostTree {
     }
 }
 
-impl Tree for HostTree {
+impl<R: Threads> Tree for HostTree<R> {
     ghost tells = { false };
 
     ghost story = { λ _.
@@ -96,7 +103,13 @@ impl Tree for HostTree {
     }
 
     fn put(&mut self, path: &Path, object: &Object) -> Result<(), TreeFault> {
-        match put(&self.folder, &mut self.changes, path.text(), object) {
+        match put(
+            &self.threads,
+            &self.folder,
+            &mut self.changes,
+            path.text(),
+            object,
+        ) {
             Ok(()) => Ok(()),
             Err(error) => Err(self.fault("put", path.text(), error)),
         }
@@ -117,7 +130,7 @@ impl Tree for HostTree {
     }
 
     fn sync(&mut self) -> Result<(), Failed> {
-        match self.changes.sync(self.folder.rt()) {
+        match self.changes.sync(&self.threads, &self.folder) {
             Ok(()) => Ok(()),
             Err(error) => Err(self.fail("sync", "the tree", error)),
         }

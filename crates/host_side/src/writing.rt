@@ -1,10 +1,10 @@
 use crate::changes::Changes;
-use crate::folder::{Folder, Found, clear_spare, not_a_folder, odd_object, part_before};
-use crate::spare::SPARE;
+use crate::folder::{Folder, Found, Stage, clear_spare, not_a_folder, odd_object, part_before};
 use file_tree::{Kind, Object};
 use std::fs::{File, OpenFile, OpenOptions, Permissions};
 use std::io::Write;
 use std::os::unix::fs::{OpenOptionsExt, PermissionsExt, symlink};
+use std::thread::Threads;
 use std::{fs, io, str};
 
 /// The mode of a plain file.
@@ -23,23 +23,35 @@ struct Site {
     spare: String,
 }
 
-/// Makes a path hold an object.
-pub fn put(folder: &Folder, changes: &mut Changes, path: &str, object: &Object) -> io::Result<()> {
+/// Makes a path hold an object, which is durable behind the next sync.
+pub fn put<R: Threads>(
+    threads: &R,
+    folder: &Folder,
+    changes: &mut Changes,
+    path: &str,
+    object: &Object,
+) -> io::Result<()> {
     let site = prepare(folder, changes, path)?;
-    let made = write_spare(folder.rt(), site.spare.as_str(), object);
+    let made = match write_spare(folder.rt(), site.spare.as_str(), object) {
+        Ok(Some(file)) => changes.owe(threads, file),
+        Ok(None) => Ok(()),
+        Err(error) => Err(error),
+    };
     finish(folder, &site, made)
 }
 
-/// Makes a path hold what another one holds.
+/// Makes a path hold what another one holds. A file is the very same one then, where the system lets
+/// it have both names, so no byte of it is written again.
 pub fn place(folder: &Folder, changes: &mut Changes, from: &str, to: &str) -> io::Result<()> {
-    let kind = match folder.find(from)? {
-        Found::Item(kind) => kind,
-        _ => return Err(io::Error::new(io::ErrorKind::NotFound, "nothing is to be placed")),
-    };
-    let source = folder.name_of(from)?;
+    let stage = folder.stage(from)?;
     let site = prepare(folder, changes, to)?;
-    let made = copy_to_spare(folder.rt(), kind, source.as_str(), site.spare.as_str());
-    finish(folder, &site, made)
+    let made = make_like(folder.rt(), &stage, site.spare.as_str());
+    finish(folder, &site, made)?;
+    if stage.has_other_names {
+        // A file isn't renamed over itself, and then the spare name stays.
+        clear_spare(folder.rt(), site.spare.as_str())?;
+    }
+    Ok(())
 }
 
 /// Makes a path hold nothing. Folders above it that have nothing left go with it.
@@ -75,10 +87,8 @@ fn make_folder(folder: &Folder, changes: &mut Changes, path: &str) -> io::Result
     }
     note_above(folder, changes, path)?;
     let site = site_of(folder, path)?;
-    let rt = folder.rt();
-    new_folder(rt, site.spare.as_str())?;
-    fs::set_permissions(rt, site.spare.as_str(), Permissions::from_mode(EXEC))?;
-    fs::rename(rt, site.spare.as_str(), site.target.as_str())
+    let made = new_folder(folder.rt(), site.spare.as_str());
+    finish(folder, &site, made)
 }
 
 /// Renames a spare object over its target, or removes it where it couldn't be made.
@@ -103,11 +113,8 @@ fn rename_over(folder: &Folder, site: &Site) -> io::Result<()> {
         Err(error) if error.kind() == io::ErrorKind::IsADirectory => {}
         answer => return answer,
     }
-    let Some(folders) = folder.empty_folders(site.path.as_str())? else {
+    if !folder.remove_empty(site.path.as_str())? {
         return Err(io::Error::from(io::ErrorKind::DirectoryNotEmpty));
-    };
-    for path in folders.iter().rev() {
-        fs::remove_dir(rt, folder.name_of(path.as_str())?)?;
     }
     fs::rename(rt, site.spare.as_str(), site.target.as_str())
 }
@@ -120,7 +127,7 @@ fn prune(folder: &Folder, changes: &mut Changes, path: &str) -> io::Result<()> {
         }
         let above = part_before(path, at);
         note_above(folder, changes, above)?;
-        clear_spare(folder.rt(), spare_in(folder, above)?.as_str())?;
+        folder.clear_spare_in(above)?;
         if fs::remove_dir(folder.rt(), folder.name_of(above)?).is_err() {
             return Ok(());
         }
@@ -147,42 +154,63 @@ fn site_of(folder: &Folder, path: &str) -> io::Result<Site> {
     Ok(Site {
         path: String::from_str(folder.alloc(), path)?,
         target: folder.name_of(path)?,
-        spare: spare_in(folder, folder_of(path))?,
+        spare: folder.spare_in(folder_of(path))?,
     })
 }
 
-/// The host's name of a spare object in a folder.
-fn spare_in(folder: &Folder, path: &str) -> io::Result<String> {
-    let inside = folder.below(path, SPARE)?;
-    Ok(folder.name_of(inside.as_str())?)
-}
-
-/// Makes the spare object of this name, durable but for its name.
-fn write_spare(rt: &HostRuntime, spare: &str, object: &Object) -> io::Result<()> {
+/// Makes the spare object of this name. A file is whole, and answered: it isn't durable yet.
+fn write_spare(rt: &HostRuntime, spare: &str, object: &Object) -> io::Result<Option<File>> {
     match object.kind {
-        Kind::Link => new_link(rt, target_of(object)?, spare),
+        Kind::Link => {
+            let target = target_of(object)?;
+            make_anew(rt, New::Link { target }, spare)?;
+            Ok(None)
+        }
         kind => {
             let mut file = new_file(rt, spare)?;
             file.write_all(&object.bytes)?;
-            close(file, kind)
+            set_mode(&file, kind)?;
+            Ok(Some(file))
         }
     }
 }
 
-/// Makes the spare object of this name as another object is.
-fn copy_to_spare(rt: &HostRuntime, kind: Kind, source: &str, spare: &str) -> io::Result<()> {
-    match kind {
+/// Makes the spare object of this name as a stage is: another name of its file, or a copy of it where
+/// the system gives it none.
+fn make_like(rt: &HostRuntime, stage: &Stage, spare: &str) -> io::Result<()> {
+    let name = stage.name.as_str();
+    match stage.kind {
         Kind::Link => {
-            let target = fs::read_link(rt, source)?;
-            new_link(rt, target.as_str(), spare)
+            let target = fs::read_link(rt, name)?;
+            let target = target.as_str();
+            make_anew(rt, New::Link { target }, spare)
         }
-        kind => {
-            let mut from = File::open(rt, source)?;
-            let mut file = new_file(rt, spare)?;
-            io::copy(&mut from, &mut file)?;
-            close(file, kind)
-        }
+        kind => match make_anew(rt, New::Name { of: name }, spare) {
+            Err(error) if is_no_name(&error) => copy(rt, kind, name, spare),
+            answer => answer,
+        },
     }
+}
+
+/// Whether the system gives a file no further name there: it has too many, the folder is on another
+/// disk, or the disk has no such names.
+fn is_no_name(error: &io::Error) -> bool {
+    matches!(
+        error.kind(),
+        io::ErrorKind::TooManyLinks
+            | io::ErrorKind::CrossesDevices
+            | io::ErrorKind::PermissionDenied
+            | io::ErrorKind::Unsupported
+    )
+}
+
+/// Makes a file of this name as another one is. It is durable before it is renamed, as the other is.
+fn copy(rt: &HostRuntime, kind: Kind, source: &str, spare: &str) -> io::Result<()> {
+    let mut from = File::open(rt, source)?;
+    let mut file = new_file(rt, spare)?;
+    io::copy(&mut from, &mut file)?;
+    set_mode(&file, kind)?;
+    file.sync_all()
 }
 
 fn target_of(object: &Object) -> io::Result<&str> {
@@ -206,25 +234,38 @@ fn new_file(rt: &HostRuntime, name: &str) -> io::Result<File> {
     }
 }
 
-/// Makes a link of this name, in place of what a stopped run may have left there.
-fn new_link(rt: &HostRuntime, target: &str, name: &str) -> io::Result<()> {
-    match symlink(rt, target, name) {
+/// A new folder of this name, with its mode.
+fn new_folder(rt: &HostRuntime, name: &str) -> io::Result<()> {
+    make_anew(rt, New::Folder, name)?;
+    fs::set_permissions(rt, name, Permissions::from_mode(EXEC))
+}
+
+/// What is to have a name, but for a file that is written.
+#[derive(Clone, Copy)]
+enum New<'a> {
+    Folder,
+    /// A link that leads to the target.
+    Link { target: &'a str },
+    /// The file that has another name already.
+    Name { of: &'a str },
+}
+
+/// Makes something of this name, in place of what a stopped run may have left there.
+fn make_anew(rt: &HostRuntime, what: New<'_>, name: &str) -> io::Result<()> {
+    match make(rt, what, name) {
         Err(error) if is_taken(&error) => {
             clear_spare(rt, name)?;
-            symlink(rt, target, name)
+            make(rt, what, name)
         }
         answer => answer,
     }
 }
 
-/// Makes a folder of this name, in place of what a stopped run may have left there.
-fn new_folder(rt: &HostRuntime, name: &str) -> io::Result<()> {
-    match fs::create_dir(rt, name) {
-        Err(error) if is_taken(&error) => {
-            clear_spare(rt, name)?;
-            fs::create_dir(rt, name)
-        }
-        answer => answer,
+fn make(rt: &HostRuntime, what: New<'_>, name: &str) -> io::Result<()> {
+    match what {
+        New::Folder => fs::create_dir(rt, name),
+        New::Link { target } => symlink(rt, target, name),
+        New::Name { of } => fs::hard_link(rt, of, name),
     }
 }
 
@@ -242,12 +283,11 @@ fn open_new(rt: &HostRuntime, name: &str) -> io::Result<File> {
         .open(rt, name)
 }
 
-/// Gives a whole file its mode and makes it durable.
-fn close(file: File, kind: Kind) -> io::Result<()> {
+/// Gives a whole file its mode.
+fn set_mode(file: &File, kind: Kind) -> io::Result<()> {
     let mode = match kind {
         Kind::Exec => EXEC,
         _ => PLAIN,
     };
-    file.set_permissions(Permissions::from_mode(mode))?;
-    file.sync_all()
+    file.set_permissions(Permissions::from_mode(mode))
 }
