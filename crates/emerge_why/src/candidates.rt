@@ -1,4 +1,4 @@
-use crate::telling::say;
+use crate::telling::{say, say_all};
 use dep_atom::Atom;
 use emerge_choose::{NotTaken, Reason};
 use emerge_words::MOST_BACKTRACK;
@@ -88,25 +88,15 @@ fn told_reason(reason: Reason) -> &'static str {
 
 /// No choice of packages serves what was asked for.
 pub(crate) fn push_no_solution(alloc: Global, lines: &mut Vec<String>) -> Result<(), AllocError> {
-    say(
+    say_all(
         alloc,
         lines,
-        "every choice was tried: no versions have all that was asked for, with all that they need",
-    )?;
-    say(
-        alloc,
-        lines,
-        "and nothing that keeps one of them out. Ask for one package at a time to see which it is;",
-    )?;
-    say(
-        alloc,
-        lines,
-        "then ask for another version, accept a keyword or unmask a package that is needed, or give",
-    )?;
-    say(
-        alloc,
-        lines,
-        "--flag-changes 1 (or 2) where a USE flag is in the way. Nothing was merged",
+        &[
+            "every choice was tried: no versions have all that was asked for, with all that they need",
+            "and nothing that keeps one of them out. Ask for one package at a time to see which it is;",
+            "then ask for another version, accept a keyword or unmask a package that is needed, or give",
+            "--flag-changes 1 (or 2) where a USE flag is in the way. Nothing was merged",
+        ],
     )
 }
 

@@ -1,4 +1,4 @@
-use crate::telling::say;
+use crate::telling::{say, say_all};
 use crate::words::{names_plan, root_of};
 use std::alloc::{AllocError, Global};
 
@@ -126,12 +126,14 @@ fn push_line(
 /// There is no profile at all.
 fn push_no_profile(alloc: Global, lines: &mut Vec<String>, root: &str) -> Result<(), AllocError> {
     lines.push(format!(in alloc; "the profile is missing: there is nothing at {root}/{PROFILE}")?)?;
-    say(
+    say_all(
         alloc,
         lines,
-        "the profile says what kind of system this is; that name is a link to it, or a folder that",
+        &[
+            "the profile says what kind of system this is; that name is a link to it, or a folder that",
+            "holds it. Make a small one of your own:",
+        ],
     )?;
-    say(alloc, lines, "holds it. Make a small one of your own:")?;
     lines.push(format!(in alloc; "  mkdir -p {root}/{PROFILE}")?)?;
     lines.push(format!(in alloc; "  printf '{SMALLEST}' > {root}/{PROFILE}/make.defaults")?)?;
     say(
@@ -172,14 +174,12 @@ fn push_no_plan(
     lines.push(format!(in alloc;
         "the plan {root}/{path} can't be followed: there is no such file in the tree,"
     )?)?;
-    say(
+    say_all(
         alloc,
         lines,
-        "or it adds a package with a USE flag that the package doesn't have in the repository",
-    )?;
-    say(
-        alloc,
-        lines,
-        "the name behind --plan is one in the tree; `emerge --pretend ATOM` prints an example",
+        &[
+            "or it adds a package with a USE flag that the package doesn't have in the repository",
+            "the name behind --plan is one in the tree; `emerge --pretend ATOM` prints an example",
+        ],
     )
 }

@@ -1,9 +1,14 @@
-use crate::telling::say;
+use crate::telling::{say, say_all};
 use crate::words::{images_of, value_of};
 use dep_atom::PackageId;
+use file_tree::Path;
 use merge_fit::ImageBad;
 use merge_report::Collision;
 use std::alloc::{AllocError, Global};
+
+/// What stands behind a refusal in the midst of a plan.
+const STANDS: &str =
+    "what a line `done ..` of the output names is installed, and nothing else was changed";
 
 /// Why a file of a package can't be placed.
 pub(crate) fn push_collision(
@@ -12,54 +17,63 @@ pub(crate) fn push_collision(
     root: &str,
     collision: &Collision,
 ) -> Result<(), AllocError> {
-    match collision {
+    let help = match collision {
         Collision::Owned { path, owner } => {
-            let path = path.text();
             let owner = owner.print(alloc)?;
+            push_taken(alloc, lines, root, path)?;
             lines.push(format!(in alloc;
-                "a package that was to come has the file {root}/{path}, which belongs to"
+                "which belongs to {owner}; two packages can't have one file"
             )?)?;
-            lines.push(format!(in alloc;
-                "{owner}; two packages can't have one file: take it out of one of them, or"
-            )?)?;
-            say(alloc, lines, "remove the package that has it")?;
+            "take it out of one of them, or remove the package that has it"
         }
         Collision::Claimed { path, group } => {
-            let path = path.text();
+            push_taken(alloc, lines, root, path)?;
             lines.push(format!(in alloc;
-                "a package that was to come has the file {root}/{path}, which group {group}"
+                "which group {group} of the plan changes at the same time"
             )?)?;
-            say(
-                alloc,
-                lines,
-                "of the plan brings or removes at the same time: let one wait for the other",
-            )?;
+            "let one of both groups wait for the other, by a line `after`"
         }
         Collision::Ancestor { path, other } => {
-            let path = path.text();
-            let other = other.text();
-            lines.push(format!(in alloc;
-                "one of {root}/{path} and {root}/{other} would have to be a"
-            )?)?;
-            say(
-                alloc,
-                lines,
-                "file and a folder at once: correct the image of the package, or remove the other one",
-            )?;
+            push_above(alloc, lines, root, path, other)?;
+            "correct the image of the package, or remove the package that has the other one"
         }
         Collision::Unowned { path } => {
             let path = path.text();
             lines.push(format!(in alloc;
-                "something that belongs to no package is in the way at {root}/{path}"
+                "what is in the way at {root}/{path} belongs to no package"
             )?)?;
-            say(
-                alloc,
-                lines,
-                "see what it is, move it away, and run the command again",
-            )?;
+            "see what it is, move it away, and run the command again"
         }
-    }
-    push_stands(alloc, lines)
+    };
+    say_all(alloc, lines, &[help, STANDS])
+}
+
+fn push_taken(
+    alloc: Global,
+    lines: &mut Vec<String>,
+    root: &str,
+    path: &Path,
+) -> Result<(), AllocError> {
+    let path = path.text();
+    lines.push(format!(in alloc; "a package that was to come has the file {root}/{path},")?)?;
+    Ok(())
+}
+
+fn push_above(
+    alloc: Global,
+    lines: &mut Vec<String>,
+    root: &str,
+    path: &Path,
+    other: &Path,
+) -> Result<(), AllocError> {
+    let path = path.text();
+    let other = other.text();
+    lines.push(format!(in alloc; "{root}/{path} and {root}/{other}")?)?;
+    say(
+        alloc,
+        lines,
+        "are to be installed side by side, for which one would have to be a file and a folder at once",
+    )
 }
 
 /// What is wrong with the files of a package.
@@ -94,7 +108,7 @@ pub(crate) fn push_image(
     lines.push(line?)?;
     let images = images_of(words);
     lines.push(format!(in alloc; "correct the files of the package, which lie below {images}")?)?;
-    push_stands(alloc, lines)
+    say(alloc, lines, STANDS)
 }
 
 /// The files of a package couldn't be had.
@@ -115,14 +129,5 @@ pub(crate) fn push_build(
             "put them into {images}/{id}, or name the folder of the images by --images"
         )?)?,
     }
-    push_stands(alloc, lines)
-}
-
-/// What stands behind a refusal in the midst of a plan.
-fn push_stands(alloc: Global, lines: &mut Vec<String>) -> Result<(), AllocError> {
-    say(
-        alloc,
-        lines,
-        "what a line `done ..` of the output names is installed, and nothing else was changed",
-    )
+    say(alloc, lines, STANDS)
 }

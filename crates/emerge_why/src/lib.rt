@@ -1,8 +1,8 @@
 //! Why a run was refused, and what to do next, in plain words for a person at a terminal.
 //!
-//! The last line of a run names a status in the words of its format. Here each status that is no
-//! success is told in some lines of plain words: what is wrong, with what the status names, and what
-//! a person can do about it.
+//! The last line of a run names a status in the words of its format. Here each status but Ok is told
+//! in some lines of plain words: what is wrong, with what the status names, and what a person can do
+//! about it.
 //!
 //! **A contract sees** the text as its bytes.
 //!

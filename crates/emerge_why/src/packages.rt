@@ -1,4 +1,4 @@
-use crate::telling::say;
+use crate::telling::{say, say_all};
 use dep_atom::{Atom, PackageId};
 use pkg_state::Broken;
 use recovery::RecoverFault;
@@ -118,20 +118,14 @@ pub(crate) fn push_journal(
         }
         RecoverFault::Limit | RecoverFault::Tree(_) => say(alloc, lines, "damaged")?,
     }
-    say(
+    say_all(
         alloc,
         lines,
-        "no run writes it so: look for a failing disk, or a program that wrote there. Put the file",
-    )?;
-    say(
-        alloc,
-        lines,
-        "back as it was; where it is lost, move its folder out of jobs and check the files that",
-    )?;
-    say(
-        alloc,
-        lines,
-        "the run was to place. Nothing was changed; no run begins before that is done",
+        &[
+            "no run writes it so: look for a failing disk, or a program that wrote there. Put the file",
+            "back as it was; where it is lost, move its folder out of jobs and check the files that",
+            "the run was to place. Nothing was changed; no run begins before that is done",
+        ],
     )
 }
 
@@ -142,15 +136,13 @@ pub(crate) fn push_broken(
     broken: &Broken,
 ) -> Result<(), AllocError> {
     push_conflict(alloc, lines, broken)?;
-    say(
+    say_all(
         alloc,
         lines,
-        "packages that are installed have to go together before anything is merged: with another",
-    )?;
-    say(
-        alloc,
-        lines,
-        "package manager install what is missing, or remove one of them. Nothing was merged",
+        &[
+            "packages that are installed have to go together before anything is merged: with another",
+            "package manager install what is missing, or remove one of them. Nothing was merged",
+        ],
     )
 }
 

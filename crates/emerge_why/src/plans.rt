@@ -59,6 +59,17 @@ fn push_rule(
             push_conflict(alloc, lines, broken)?;
             say(alloc, lines, "repair the system first")
         }
+        other => push_addition_rule(alloc, lines, other),
+    }
+}
+
+/// The rules on the flags and the binds of what is added.
+fn push_addition_rule(
+    alloc: Global,
+    lines: &mut Vec<String>,
+    fault: &PlanRefused,
+) -> Result<(), AllocError> {
+    match fault {
         PlanRefused::RequiredUse { package } => {
             let id = package.print(alloc)?;
             lines.push(format!(in alloc;

@@ -28,6 +28,18 @@ fn push_line(alloc: Global, words: &str, text: &mut String) -> Result<(), AllocE
     text.push_str("\n")
 }
 
+/// Puts some lines of fixed words behind the lines.
+pub(crate) fn say_all(
+    alloc: Global,
+    lines: &mut Vec<String>,
+    texts: &[&str],
+) -> Result<(), AllocError> {
+    for words in texts {
+        say(alloc, lines, words)?;
+    }
+    Ok(())
+}
+
 /// Puts a line of fixed words behind the lines.
 pub(crate) fn say(alloc: Global, lines: &mut Vec<String>, words: &str) -> Result<(), AllocError> {
     lines.push(String::from_str(alloc, words)?)?;

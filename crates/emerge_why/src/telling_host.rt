@@ -1,7 +1,7 @@
 ghost use Rattle.std.specs.Prelude.{IfOk, string_bytes};
 ghost use Rattle.emerge_why.specs.Told.{IsTold};
 
-use crate::telling::{say, told};
+use crate::telling::{say, say_all, told};
 use std::alloc::{AllocError, Global};
 
 /// Why a run didn't begin whose tree another run holds; what to do where `is_quiet` is false.
@@ -33,15 +33,13 @@ pub fn why_unopened(
     let mut lines = Vec::new(alloc);
     lines.push(format!(in alloc; "the tree {tree} can't be opened: {error}")?)?;
     if !is_quiet {
-        say(
+        say_all(
             alloc,
             &mut lines,
-            "the tree is the folder that holds the system, / if --tree names none: it has to be a",
-        )?;
-        say(
-            alloc,
-            &mut lines,
-            "folder that is there and that you may read; make it, correct its name, or run as root",
+            &[
+                "the tree is the folder that holds the system, / if --tree names none: it has to be a",
+                "folder that is there and that you may read; make it, correct its name, or run as root",
+            ],
         )?;
     }
     told(alloc, &lines)
