@@ -1,4 +1,5 @@
 use crate::telling::{say, say_all};
+use crate::words::{is_unmerge, root_of};
 use dep_atom::Atom;
 use emerge_choose::{NotTaken, Reason};
 use emerge_words::MOST_BACKTRACK;
@@ -11,11 +12,15 @@ const MOST_TOLD: usize = 20;
 pub(crate) fn push_no_candidate(
     alloc: Global,
     lines: &mut Vec<String>,
-    root: &str,
+    words: &[String],
     atom: &Atom,
     reasons: &[NotTaken],
 ) -> Result<(), AllocError> {
+    let root = root_of(words);
     let text = atom.print(alloc)?;
+    if is_unmerge(words) {
+        return push_not_installed(alloc, lines, root, text.as_str());
+    }
     if reasons.is_empty() {
         lines.push(format!(in alloc;
             "no package of the name that {text} asks for is in the repository"
@@ -38,6 +43,20 @@ pub(crate) fn push_no_candidate(
     lines.push(format!(in alloc;
         "the files that these lines name stand in {root}/etc/portage; nothing was merged"
     )?)?;
+    Ok(())
+}
+
+/// Nothing that an atom matches is there to be taken away.
+fn push_not_installed(
+    alloc: Global,
+    lines: &mut Vec<String>,
+    root: &str,
+    atom: &str,
+) -> Result<(), AllocError> {
+    lines.push(format!(in alloc;
+        "nothing that {atom} asks for is installed, so nothing was taken away"
+    )?)?;
+    lines.push(format!(in alloc; "the folders below {root}/var/db/pkg are what is installed")?)?;
     Ok(())
 }
 

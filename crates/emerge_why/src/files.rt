@@ -1,6 +1,7 @@
 use crate::telling::{say, say_all};
 use crate::words::{names_plan, root_of};
 use std::alloc::{AllocError, Global};
+use world_text::WORLD;
 
 /// The folder that names the profile.
 const PROFILE: &str = "etc/portage/make.profile";
@@ -47,6 +48,8 @@ pub(crate) fn push_text(
     }
     if path == PROFILE {
         push_no_profile(alloc, lines, root)
+    } else if path == WORLD {
+        push_no_world(alloc, lines, root)
     } else {
         push_no_folder(alloc, lines, root, path)
     }
@@ -144,6 +147,18 @@ fn push_no_profile(alloc: Global, lines: &mut Vec<String>, root: &str) -> Result
     lines.push(format!(in alloc; "  mkdir -p {root}/etc/portage")?)?;
     lines.push(format!(in alloc; "  ln -s {PROFILES}/default/linux/amd64/23.0 {root}/{PROFILE}")?)?;
     Ok(())
+}
+
+/// There is no world file.
+fn push_no_world(alloc: Global, lines: &mut Vec<String>, root: &str) -> Result<(), AllocError> {
+    lines.push(format!(in alloc;
+        "there is no world file, which @world stands for: {root}/{WORLD}"
+    )?)?;
+    say(
+        alloc,
+        lines,
+        "write one with a package in each line, such as app-misc/hello; nothing was merged",
+    )
 }
 
 /// A folder is missing that the profile leads to.

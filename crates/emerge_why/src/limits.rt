@@ -89,8 +89,8 @@ pub(crate) fn push_part(
                 alloc,
                 lines,
                 &[
-                    "--unmerge, --repair, --load and @world aren't there yet: the program can install and",
-                    "update packages that are named, and follow a plan (--plan). Nothing was changed",
+                    "--repair and --load aren't there yet: the program can install, update and take away",
+                    "packages that are named, and follow a plan (--plan). Nothing was changed",
                 ],
             )
         }

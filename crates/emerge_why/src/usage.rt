@@ -24,10 +24,12 @@ const OPTIONS: [&str; 8] = [
 const OF_MERGE: [&str; 4] = ["update", "repair", "backtrack", "flag-changes"];
 
 /// What there is to write.
-const SUMMARY: [&str; 15] = [
+const SUMMARY: [&str; 17] = [
     "emerge [OPTION ..] ATOM ..       installs what each ATOM matches, and what that needs",
     "emerge [OPTION ..] --plan FILE   does what a plan says, which is a file of the tree",
+    "emerge [OPTION ..] --unmerge ATOM ..   takes away what each ATOM matches",
     "  an ATOM is a package: app-misc/hello, '>=app-misc/hello-2.12' or app-misc/hello:0",
+    "  @world among them stands for those of the file var/lib/portage/world",
     "  --tree FOLDER          the folder that holds the system, if not /",
     "  --images FOLDER        where the packages' files lie, if not /var/cache/portage/images",
     "  --build-with PROGRAM   has a program prepare the files of each package first",
@@ -37,7 +39,7 @@ const SUMMARY: [&str; 15] = [
     "  --flag-changes N       how many USE flags of a package may change, from 0 to 2, if not 0",
     "  --jobs N               how many jobs may run, from 1 to 16; one is used today",
     "  --keep-going           is read, and changes nothing today",
-    "  --repair, --unmerge, --load N and @world are words of commands that aren't there yet",
+    "  --repair and --load N are words of commands that aren't there yet",
     "EMERGE_QUIET=1 in the environment keeps such explanations away",
     "`man emerge` has the rest",
 ];

@@ -56,7 +56,7 @@ fn push_why(
         Status::BadJournal(fault) => push_journal(alloc, lines, root, *fault),
         Status::Inconsistent(broken) => push_broken(alloc, lines, broken),
         Status::NoCandidate { atom, reasons } => {
-            push_no_candidate(alloc, lines, root, atom, reasons)
+            push_no_candidate(alloc, lines, words, atom, reasons)
         }
         Status::NoSolution => push_no_solution(alloc, lines),
         Status::BacktrackLimit { refuted } => push_backtrack(alloc, lines, refuted.len()),

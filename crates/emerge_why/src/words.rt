@@ -53,3 +53,8 @@ pub(crate) fn names_plan(words: &[String], path: &str) -> bool {
         None => false,
     }
 }
+
+/// Whether the words ask for packages to be taken away.
+pub(crate) fn is_unmerge(words: &[String]) -> bool {
+    words.iter().any(|word| word.as_str() == "--unmerge")
+}
