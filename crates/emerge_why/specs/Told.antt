@@ -9,4 +9,5 @@ told_line words = codes "emerge: " ++ (words ++ 10 ∷ [])
 
 -- lines of the program, none of which has a control character
 abbrev pub IsTold : List ℕ → Type 0
-IsTold text = (lines : List (List ℕ)) × AllByRecursion IsPlain lines × (text ≡ flat_map told_line lines)
+IsTold text = (lines : List (List ℕ)) × AllByRecursion IsPlain lines
+    × (text ≡ flat_map told_line lines)
