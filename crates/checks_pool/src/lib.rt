@@ -9,7 +9,7 @@
 //! and of sites just those are stopped that were found so.
 //!
 //! **Only tested**: with ample memory a pool is made, lends each of its builders, and counts the
-//! faults of one that is back.
+//! faults of one that is back, or was dropped.
 //!
 //! ```
 //! count_builders(rt, &mut lanes);

@@ -106,3 +106,14 @@ fn faults_of_a_lent_builder_count_when_it_is_back(rt: HostRuntime) -> Result<(),
     assert_eq!(rt; pool.faults(), 8, "back");
     Ok(())
 }
+
+#[test]
+fn faults_of_a_dropped_builder_stay(rt: HostRuntime) -> Result<(), Fail> {
+    let mut pool = pair(&rt)?;
+    let mut builder = pool.lend().ok_or("none")?;
+    assert!(rt; builder.start(&order(&rt)?).is_err());
+    pool.drop_failed(builder);
+    assert_eq!(rt; pool.resting(), 1);
+    assert_eq!(rt; pool.faults(), 8);
+    Ok(())
+}
