@@ -1,5 +1,5 @@
--- Histories of groups: the events of one group, what a turn may add, and when no group begins behind
--- one that was given up.
+-- Histories of groups: the events of one group, what a turn may add, and when no group begins
+-- behind one that was given up.
 use Rattle.std.specs.Prelude.{◌≡◌, ◌==◌, ◌⊎◌, ◌++◌, ℕ, Bool, true, false, List, [], ◌∷◌, ⊤, filter}
 use Rattle.basics.specs.Members.{Has}
 use Rattle.merge_core.specs.Event.{Abandon, Acknowledge, Begin, Claim, CloseGate, Event, OpenGate}

@@ -28,7 +28,7 @@ module _ {S : Type 0} (log : S → List Entry) (Same : S → S → Type 0) where
       (m.1 ≡ (0, Some x) ∷ []) × (m.0 ≡ holding (ticket_of v.stage) (log x) v)
       × IfSome v.of (λ f. Same x f.value) × GoesOnFrom v (log x)
 
-  -- where the word is the remainder of the pass's ticket the turn has come, and else nothing changed
+  -- where the word is the remainder of the pass's ticket its turn has come; else nothing changed
   abbrev pub looked : Step (Option S) → Seated S → ℕ → Seated S → Type 0
   looked st m r m' =
       (r ≢ ticket_of m.0.stage % 2 ^ 64 → m' ≡ m)

@@ -1,4 +1,4 @@
--- What a pass knows, and what becomes of it in its turns, and where passes are cut and put together.
+-- What a pass knows, and what becomes of it in its turns and where passes are cut or put together.
 use Rattle.std.specs.Prelude.{◌≡◌, ◌-◌, ◌+◌, ◌++◌, ℕ, List, [], ◌∷◌, Some, None, drop, length, nat_le}
 use Rattle.std.specs.Prelude.{if◌then◌else◌, ⊤}
 use Rattle.std.specs.declared.snapshot.Snapshot.{Snapshot}
