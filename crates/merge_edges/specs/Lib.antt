@@ -1,0 +1,5 @@
+pub mod Changes
+pub mod Needs
+pub mod Waits
+pub mod Edges
+pub mod Views
