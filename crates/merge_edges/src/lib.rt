@@ -8,13 +8,18 @@
 //! case, and in the last where it is barred: by a strong block, or by any block of its build.
 //!
 //! **A contract sees** a universe and a choice as `choice_tree` has them, a change as its line with
-//! what goes and what comes, and edges as `merge_graph` has them: nodes are places among the changes.
+//! what goes and what comes, and edges as `merge_graph` has them: a node is a place among the
+//! changes.
 //!
 //! **Proved**: [`changes_of`] lists just the lines that change, in line order; [`edges_of`] has an
 //! edge from one change to another just where the first waits for the second, and one that builds
 //! just where it builds on it (`AreEdges` of `specs/Edges.antt`).
 //!
-//! **Only tested**: that with ample memory it answers.
+//! **Not proved**, nor tested yet: that with ample memory it answers.
+//!
+//! Each line and each leaf is gone through once, and what an atom may match is looked up by its name;
+//! a package whose needs a change may break is judged anew for each changed line that it needs. What
+//! is decided of a line is sought among the decisions.
 //!
 //! ```
 //! let changes = changes_of(alloc, &universe, &choice)?;
@@ -23,9 +28,17 @@
 //! ```
 #![tactic(auto)]
 
+mod alone;
+mod apart;
+mod breaking;
 mod change;
+mod coming;
 mod joining;
 mod listing;
+mod needs;
+mod nodes;
+mod places;
+mod stander;
 
 pub use change::Change;
 pub use joining::edges_of;
