@@ -1,0 +1,9 @@
+pub mod Ranked
+pub mod Best
+pub mod Needed
+pub mod Keyed
+pub mod Numbered
+pub mod Replaced
+pub mod Sides
+pub mod Waited
+pub mod Edged

@@ -1,0 +1,14 @@
+use Rattle.std.proofs.Common.{arith, length}
+use Rattle.std.proofs.lemmas.List.{length-map}
+use Rattle.choice_tree.specs.Seen.{place_of, places_of}
+use Rattle.choice_tree.proofs.Gathered.{more_lines}
+use Rattle.merge_edges.specs.Found.{line_edges}
+use Rattle.merge_edges.proofs.joining.all_edges.Goals as goal
+
+pub loop-line-preserved : goal.loop-line-preserved
+loop-line-preserved c =
+    let os = places_of c.args.before.now.places.now in
+    let ss = places_of c.args.after.now.places.now in
+    let long = length-map c.args.after.now.places.now place_of in
+    let test = c.loop-line-test.true in
+    more_lines (line_edges os ss) (length ss) c.loop-line.line (omega (arith, long, test)) _ _ _ c.in_ok-push_line.ensures c.loop-line.invariant
