@@ -40,11 +40,7 @@ enum At {
 
 impl Watch {
     /// What is told by this line of a run, whose plan comes from this file if from any.
-    pub fn new(
-        alloc: Global,
-        progress: Progress,
-        plan: Option<&str>,
-    ) -> Result<Watch, AllocError> {
+    pub fn new(alloc: Global, progress: Progress, plan: Option<&str>) -> Result<Watch, AllocError> {
         let plan = match plan {
             Some(path) => Some(String::from_str(alloc, path)?),
             None => None,
@@ -167,15 +163,24 @@ impl fmt::Display for Seen {
             }
             At::Completing { group, done } => {
                 let done = Count(done);
-                write!(f, "completing group {group} of an earlier run: {done} of its files")
+                write!(
+                    f,
+                    "completing group {group} of an earlier run: {done} of its files"
+                )
             }
             At::Staging { group, files } => {
-                let group = Of { group, groups: self.groups };
+                let group = Of {
+                    group,
+                    groups: self.groups,
+                };
                 let files = Count(files);
                 write!(f, "{group}: {files} of the files in the journal")
             }
             At::Placing { group, done, files } => {
-                let group = Of { group, groups: self.groups };
+                let group = Of {
+                    group,
+                    groups: self.groups,
+                };
                 let (done, files) = (Count(done), Count(files));
                 write!(f, "{group}: {done} of {files} files")
             }
@@ -209,11 +214,10 @@ fn part_of_job(path: &str) -> Option<(u32, &str)> {
 
 /// How many files a record removes.
 fn removals_of(record: &[u8]) -> u64 {
-    let mut count = 0;
-    for byte in record.iter().skip(REMOVALS).take(4) {
-        count = count * 256 + u64::from(*byte);
+    match record.get(REMOVALS..REMOVALS + 4) {
+        Some([a, b, c, d]) => u64::from(u32::from_be_bytes([*a, *b, *c, *d])),
+        _ => 0,
     }
-    count
 }
 
 /// How many groups the text of a plan has.
