@@ -113,7 +113,7 @@ fn refuted_text(alloc: Global, refuted: &[Choice]) -> Result<String, AllocError>
 
 fn fault_text(alloc: Global, fault: ResolveFault) -> Result<String, AllocError> {
     match fault {
-        ResolveFault::NoSolution => String::from_str(alloc, "none"),
+        ResolveFault::NoSolution { .. } => String::from_str(alloc, "none"),
         ResolveFault::BacktrackLimit { refuted } => refuted_text(alloc, &refuted),
         ResolveFault::Memory => Err(AllocError),
     }

@@ -203,5 +203,6 @@ module _ {C V : Type 0} (shape : Shape C) (decided : C → ℕ → Option V) (fi
         cause_holds = λ why f e s. r.1 why e f s;
         same_end = r.0.first;
         met_are = r.0.part;
+        dead = λ d h. (met_dead (suc (shape.room c)) c fit d h).1;
         refuted = λ d f h s. dead_refuted d f (met_dead (suc (shape.room c)) c fit d h) s;
       }

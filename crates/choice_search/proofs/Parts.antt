@@ -1,5 +1,5 @@
 -- Leaves of options, one after the other, and parts of lists.
-use Rattle.std.proofs.Common.{◌≡◌, ◌∙◌, ◌++◌, ℕ, List, [], ◌∷◌, Option, None, Some, inl, inr, refl, sym, ap, subst}
+use Rattle.std.proofs.Common.{◌≡◌, ◌∙◌, ◌++◌, ℕ, zero, suc, List, [], ◌∷◌, Option, None, Some, inl, inr, refl, sym, ap, subst, take}
 use Rattle.std.specs.List.{flat_map}
 use Rattle.basics.specs.Members.{Has}
 use Rattle.basics.proofs.Membership.{has-append_cases}
@@ -20,6 +20,13 @@ both_parts : {A : Type 0} (xs ys vs ws : List A) → IsPart xs ys → IsPart vs 
 both_parts xs ys vs ws nothing q = q
 both_parts xs ys vs ws (without y xs_ ys_ p) q = without y (xs ++ vs) (ys_ ++ ws) (both_parts xs ys_ vs ws p q)
 both_parts xs ys vs ws (with_it y xs_ ys_ p) q = with_it y (xs_ ++ vs) (ys_ ++ ws) (both_parts xs_ ys_ vs ws p q)
+
+-- the first items of a list are items of it
+pub has_of_first : {A : Type 0} (n : ℕ) (xs : List A) (x : A) → Has (take n xs) x → Has xs x
+has_of_first zero xs x h = absurd h
+has_of_first (suc n) [] x h = absurd h
+has_of_first (suc n) (y ∷ ys) x (inl e) = inl e
+has_of_first (suc n) (y ∷ ys) x (inr h) = inr (has_of_first n ys x h)
 
 module _ {C : Type 0} where
   none_then : (ls ms : List (Leaf C)) → first_good ls ≡ None → first_good (ls ++ ms) ≡ first_good ms

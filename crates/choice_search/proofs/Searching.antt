@@ -54,10 +54,11 @@ module _ {C : Type 0} (shape : Shape C) (root : C) (limit : ℕ) where
     subst (λ (xs : List C). length xs < limit) (sym (append-nil met) ∙ ap (λ (xs : List C). met ++ xs) (sym none) ∙ ap (λ (w : Visit C). w.met) e) fewer,
   )
 
-  pub none_good : (met : List C) (levels : List (Level C)) → IsSearching met levels None → (ending (visit shape root).end ≡ None) × (length (visit shape root).met < limit)
+  pub none_good : (met : List C) (levels : List (Level C)) → IsSearching met levels None → (ending (visit shape root).end ≡ None) × (met ≡ (visit shape root).met) × (length (visit shape root).met < limit)
   none_good met levels s =
-      let r = ends_at met (seen_as [] (barren s.ahead.0)) (ap (λ (w : Visit C). behind met w) (sym s.ahead.1) ∙ s.whole) refl s.fewer in
-      (r.0, r.1)
+      let same = ap (λ (w : Visit C). behind met w) (sym s.ahead.1) ∙ s.whole in
+      let r = ends_at met (seen_as [] (barren s.ahead.0)) same refl s.fewer in
+      (r.0, sym (append-nil met) ∙ ap (λ (w : Visit C). w.met) same, r.1)
 
   module _ (deep : IsDeep shape.options shape.room) where
     seen : (c : C) (x : Option (List C)) → shape.options c ≡ x → visit shape c ≡ visit_by shape (visit shape) c x

@@ -51,6 +51,8 @@ pub record LosesNothing {C V : Type 0} (shape : Shape C) (decided : C → ℕ �
   pub same_end : ending (visit shape c).end ≡ first_good (leaves shape.options shape.room c)
   -- what it meets are dead leaves before that
   pub met_are : IsPart (visit shape c).met (dead_before (leaves shape.options shape.room c))
+  -- each of them has something open, and no option for it
+  pub dead : (d : C) → Has (visit shape c).met d → shape.options d ≡ Some []
   -- and no solution has all that one of these decides
   pub refuted : (d : C) (f : ℕ → V) → Has (visit shape c).met d → is_solution f →
       ¬ Agrees (decided d) f

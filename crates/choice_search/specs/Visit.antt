@@ -69,6 +69,7 @@ visit shape c = visit_within shape (suc (shape.room c)) c
 -- what a search ends with that makes this visit, where so many dead leaves are too many
 abbrev pub IsOutcome : {C : Type 0} → Visit C → ℕ → Outcome C → Type 0
 IsOutcome v limit (Found c) = (ending v.end ≡ Some c) × (length v.met < limit)
-IsOutcome v limit NoneGood = (ending v.end ≡ None) × (length v.met < limit)
+IsOutcome v limit (NoneGood met) =
+    (ending v.end ≡ None) × (met.items ≡ v.met) × (length v.met < limit)
 IsOutcome v limit (Limit refuted) =
     (refuted.items ≡ take limit v.met) × (limit ≤ length v.met)

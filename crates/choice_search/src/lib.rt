@@ -15,7 +15,7 @@
 //! and `leaves` are all of its leaves, in their order.
 //!
 //! **Proved**: [`first_good`] ends with what `visit` says: the good leaf at its end, that there is
-//! none, or, where as many dead leaves as it is allowed are met, just these. By the law
+//! none, with all dead leaves that are met, or, where as many as it is allowed are met, just these. By the law
 //! [`jumps_lose_nothing`] that is the first good leaf of all, and what is met are dead leaves before
 //! it, wherever the reasons are reasons for the solutions of what the choices decide.
 //!
@@ -24,7 +24,7 @@
 //! ```
 //! match first_good(alloc, &mut tree, 10)? {
 //!     Outcome::Found(choice) => ..,
-//!     Outcome::NoneGood => ..,
+//!     Outcome::NoneGood(dead) => ..,
 //!     Outcome::Limit(dead) => ..,
 //! }
 //! ```

@@ -50,5 +50,5 @@ pub fn first_good<C: Drop, S: Drop, T: Tree<C, S>>(
             more = go_back(alloc, tree, &mut frames, cause)?;
         }
     }
-    Ok(Outcome::NoneGood)
+    Ok(Outcome::NoneGood(dead))
 }

@@ -5,6 +5,7 @@
 //! that of `--images`, and `--build-with CMD` has a program prepare each of them first. There are as
 //! many builders as `--jobs` says, all over the same images. Words that are no command are answered over
 //! an empty tree in memory. Behind a run that was refused, standard error tells why in plain words.
+//! Where that is a terminal, one line tells how far a run has come that takes more than a second.
 #![tactic(auto)]
 
 mod telling;
@@ -14,9 +15,9 @@ ghost use Rattle.build_pool.specs.Pool.{AreOnce};
 
 use build_pool::{BuildPool, Builder, numbered_builders};
 use emerge_run::{Ended, emerge};
-use emerge_words::{Host, host_of};
+use emerge_words::{Command, Host, Request, host_of, read};
 use file_tree::{Sink, Tree};
-use host_side::{CommandBuilder, FolderBuilder, HostSink, HostTree};
+use host_side::{CommandBuilder, FolderBuilder, HostSink, HostTree, Progress};
 use merge_report::Status;
 use std::alloc::{AllocError, Global};
 use std::env;
@@ -65,8 +66,10 @@ fn run_on_host<R: Threads + Send + Drop>(
     requires builders { 0 < host.now.builders }
 {
     let name = host.tree.as_str();
-    match HostTree::open(rt, threads, name) {
-        Ok(tree) => run_with_images(rt, alloc, words, host, tree),
+    let progress = Progress::new(rt, is_watched(&rt));
+    let plan = plan_of(alloc, words);
+    match HostTree::open(rt, threads, name, progress, plan.as_deref()) {
+        Ok(tree) => run_with_images(rt, alloc, words, host, tree, progress),
         Err(fault) => Ok(refuse(&rt, alloc, name, fault)),
     }
 }
@@ -78,20 +81,21 @@ fn run_with_images<T: Tree + Send + Drop>(
     words: &[String],
     host: &Host,
     tree: T,
+    progress: Progress,
 ) -> Result<u8, AllocError>
     requires builders { 0 < host.now.builders }
 {
     let images = host.images.as_str();
     match &host.build_with {
         Some(program) => {
-            let make = |id: u32| CommandBuilder::new(rt, program.as_str(), images, id);
+            let make = |id: u32| CommandBuilder::new(rt, program.as_str(), images, id, progress);
             let builders = numbered_builders(alloc, host.builders, make)?;
-            run_with(rt, alloc, words, tree, builders)
+            run_with(rt, alloc, words, tree, builders, progress)
         }
         None => {
-            let make = |id: u32| FolderBuilder::new(rt, images, id);
+            let make = |id: u32| FolderBuilder::new(rt, images, id, progress);
             let builders = numbered_builders(alloc, host.builders, make)?;
-            run_with(rt, alloc, words, tree, builders)
+            run_with(rt, alloc, words, tree, builders, progress)
         }
     }
 }
@@ -103,14 +107,15 @@ fn run_with<T: Tree + Send + Drop, B: Builder + Send>(
     words: &[String],
     tree: T,
     builders: Vec<B>,
+    progress: Progress,
 ) -> Result<u8, AllocError>
     requires some { 0 < length builders.items }
     requires once { AreOnce B.number builders.items }
 {
     let pool = BuildPool::new(alloc, builders)?;
-    let out = HostSink::stdout(rt);
-    let is_watched = is_watched(&rt);
-    let end = end_of(alloc, words, tree, out, pool, is_watched);
+    let out = HostSink::stdout(rt, progress);
+    let end = end_of(alloc, words, tree, out, pool, progress.is_watched());
+    progress.clear();
     Ok(told(&rt, alloc, words, end))
 }
 
@@ -169,8 +174,10 @@ fn told(rt: &HostRuntime, alloc: Global, words: &[String], end: End) -> u8 {
 /// Runs words that name no folder over an empty tree in memory.
 fn run_in_memory(rt: HostRuntime, alloc: Global, words: &[String]) -> Result<u8, AllocError> {
     let tree = MemTree::new(alloc, Vec::new(alloc)).map_err(|_| AllocError)?;
-    let builders = numbered_builders(alloc, 1, |id: u32| FolderBuilder::new(rt, "", id))?;
-    run_with(rt, alloc, words, tree, builders)
+    let progress = Progress::new(rt, false);
+    let make = |id: u32| FolderBuilder::new(rt, "", id, progress);
+    let builders = numbered_builders(alloc, 1, make)?;
+    run_with(rt, alloc, words, tree, builders, progress)
 }
 
 /// The status's number; its parts are given up by a call of their own, which keeps the proof small.
@@ -178,6 +185,19 @@ fn number_of(status: Status) -> u8 {
     let code = status.code();
     drop(status);
     code
+}
+
+/// The file that the plan comes from, where the words name one.
+fn plan_of(alloc: Global, words: &[String]) -> Option<String> {
+    let request = read(alloc, words).ok()?;
+    let Request {
+        command: Command::PlanFile { path },
+        ..
+    } = &request
+    else {
+        return None;
+    };
+    String::from_str(alloc, path.text()).ok()
 }
 
 /// The words after the program's name; none where they are no text.

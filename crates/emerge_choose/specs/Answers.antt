@@ -2,6 +2,7 @@
 use Rattle.std.specs.Prelude.{◌≡◌, ℕ, Bool, List, None, Some, ⊤}
 use Rattle.dep_atom.specs.Values.{atom_value}
 use Rattle.pkg_state.specs.Package.{Package}
+use Rattle.choice_law.specs.Tree.{Choice}
 use Rattle.choice_law.specs.Universe.{Universe}
 use Rattle.plan_text.specs.Plans.{GroupValue, plan_value}
 use Rattle.plan_model.specs.Accepting.{Breaks, IsGood}
@@ -41,7 +42,7 @@ Tells installed offered hidden update limit u (NoCandidate atom reasons) =
     (first_unserved u ≡ Some (atom_value atom))
     × AreReasons atom.name offered hidden reasons.items
 Tells installed offered hidden update limit u NoSolution =
-    (first_unserved u ≡ None) × HasNone update u limit
+    (first_unserved u ≡ None) × ((refuted : List Choice) × HasNone update u limit refuted)
 Tells installed offered hidden update limit u (BacktrackLimit refuted) =
     (first_unserved u ≡ None) × IsTooMany update u limit refuted.items
 Tells installed offered hidden update limit u (Unlinked fault) =

@@ -50,7 +50,7 @@ fn of_resolve(fault: ResolveFault) -> NotChosen
         Tells installed offered hidden update limit u result }
 {
     match fault {
-        ResolveFault::NoSolution => NotChosen::NoSolution,
+        ResolveFault::NoSolution { .. } => NotChosen::NoSolution,
         ResolveFault::BacktrackLimit { refuted } => NotChosen::BacktrackLimit { refuted },
         ResolveFault::Memory => NotChosen::Memory,
     }

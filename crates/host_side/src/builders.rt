@@ -8,13 +8,14 @@ ghost use Rattle.host_side.specs.Words.{order_words};
 use crate::faults::{Faults, is_memory};
 use crate::folder::Folder;
 use crate::programs;
+use crate::progress::{Count, Progress};
 use crate::tree::in_order;
 use build_pool::{BuildStop, Builder, Order};
 use dep_atom::PackageId;
 use file_tree::{Entry, Path};
 use std::alloc::{AllocError, Global};
-use std::io;
 use std::process::{Command, Stdio};
+use std::{fmt, io};
 
 /// A builder whose image of a package is what the folder `category/package-version` holds below a
 /// folder of images.
@@ -24,22 +25,31 @@ pub struct FolderBuilder {
     images: String,
     id: u32,
     faults: Faults,
-    /// The folder of the image that was started last, and its paths.
+    progress: Progress,
+    /// The folder of the image that was started last, its package and its paths.
     image: Folder,
+    package: String,
     paths: Vec<Path>,
 }
 
 impl FolderBuilder {
     /// A builder of this id over a folder of images.
-    pub fn new(rt: HostRuntime, images: &str, id: u32) -> Result<FolderBuilder, AllocError>
+    pub fn new(
+        rt: HostRuntime,
+        images: &str,
+        id: u32,
+        progress: Progress,
+    ) -> Result<FolderBuilder, AllocError>
         ensures { IfOk result (λ b. b.id ≡ id) }
     {
         Ok(FolderBuilder {
             rt,
             images: String::from_str(rt.alloc(), images)?,
             id,
-            faults: Faults::new(),
+            faults: Faults::new(progress),
+            progress,
             image: Folder::new(rt, images, false)?,
+            package: String::new(rt.alloc()),
             paths: Vec::new(rt.alloc()),
         })
     }
@@ -110,6 +120,7 @@ impl Builder for FolderBuilder {
             return Err(self.fault("image", word.as_str(), error));
         };
         self.image = image;
+        self.package = word;
         self.paths = paths;
         Ok(count)
     }
@@ -119,13 +130,40 @@ impl Builder for FolderBuilder {
             return Err(BuildStop::Memory);
         };
         match self.image.read(path.text()) {
-            Ok(Some(object)) => Ok(Entry { path, object }),
+            Ok(Some(object)) => {
+                let taken = Taken {
+                    package: self.package.as_str(),
+                    done: Count(u64::from(index) + 1),
+                    files: Count(self.paths.len() as u64),
+                };
+                self.progress.draw(&taken);
+                Ok(Entry { path, object })
+            }
             Ok(None) => {
                 let error = io::Error::from(io::ErrorKind::NotFound);
                 Err(self.fault("entry", path.text(), error))
             }
             Err(error) => Err(self.fault("entry", path.text(), error)),
         }
+    }
+}
+
+/// How much of an image is taken.
+#[derive(Clone, Copy)]
+struct Taken<'a> {
+    package: &'a str,
+    done: Count,
+    files: Count,
+}
+
+impl fmt::Display for Taken<'_> {
+    fn fmt<W: fmt::Write>(&self, f: &mut fmt::Formatter<W>) -> fmt::Result {
+        let Taken {
+            package,
+            done,
+            files,
+        } = self;
+        write!(f, "image of {package:.40}: {done} of {files} files")
     }
 }
 
@@ -145,12 +183,13 @@ impl CommandBuilder {
         program: &str,
         images: &str,
         id: u32,
+        progress: Progress,
     ) -> Result<CommandBuilder, AllocError>
         ensures { IfOk result (λ b. b.folder.id ≡ id) }
     {
         Ok(CommandBuilder {
             program: String::from_str(rt.alloc(), program)?,
-            folder: FolderBuilder::new(rt, images, id)?,
+            folder: FolderBuilder::new(rt, images, id, progress)?,
         })
     }
 }
@@ -215,6 +254,7 @@ impl Builder for CommandBuilder {
         let Ok(word) = order.id.print(self.folder.rt.alloc()) else {
             return Err(BuildStop::Memory);
         };
+        self.folder.progress.clear();
         match run_program(&self.folder.rt, self.program.as_str(), order) {
             Ok(()) => self.folder.start(order),
             Err(error) => Err(self.folder.fault("build", word.as_str(), error)),

@@ -1,18 +1,21 @@
 ghost use Rattle.std.specs.Prelude.{◌≤◌};
 ghost use Rattle.file_tree.specs.Disk.{Rose};
 
+use crate::progress::Progress;
 use std::{fmt, io};
 
 /// How often a part of the host failed.
-#[derive(Clone, Copy, Debug, PartialEq, Eq)]
+#[derive(Clone, Copy)]
 pub struct Faults {
     pub count: u64,
+    /// The line that is cleared before a failure is told.
+    progress: Progress,
 }
 
 impl Faults {
     /// Nothing has failed yet.
-    pub fn new() -> Faults {
-        Faults { count: 0 }
+    pub fn new(progress: Progress) -> Faults {
+        Faults { count: 0, progress }
     }
 
     /// Counts a failure, and tells on standard error what failed, on what, and why.
@@ -21,6 +24,7 @@ impl Faults {
         ensures rose { Rose self.old.count self.new.count }
     {
         self.count = self.count.saturating_add(1);
+        self.progress.clear();
         // Where standard error is closed there is nobody to tell.
         match rt.eprintln(Told {
             call,

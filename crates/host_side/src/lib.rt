@@ -6,6 +6,8 @@
 //! in threads. A [`HostSink`] is standard output. A [`FolderBuilder`] takes the image of a package
 //! from a folder, and a [`CommandBuilder`] has a program prepare that folder first, which is started
 //! with the words of the order: `category/package-version`, `slot/subslot`, and each flag that is on.
+//! Where a person looks on, each of them tells by a [`Progress`] how far it is: one line on standard
+//! error, from the first second of a run on.
 //!
 //! **A contract sees** the counts of failures and the builders' numbers. What a disk holds no
 //! contract can say, so these types tell no content.
@@ -19,7 +21,7 @@
 //! error: the call, the path, and the system's error.
 //!
 //! ```
-//! let mut tree = HostTree::open(rt, rt, root)?;
+//! let mut tree = HostTree::open(rt, rt, root, progress, None)?;
 //! let held = tree.read(&path)?;
 //! ```
 #![tactic(auto)]
@@ -30,14 +32,17 @@ mod faults;
 mod folder;
 mod open;
 mod programs;
+mod progress;
 mod sink;
 mod spare;
 mod tree;
 mod unsynced;
+mod watch;
 mod writing;
 
 pub use builders::{CommandBuilder, FolderBuilder};
 pub use open::OpenFault;
+pub use progress::Progress;
 pub use sink::HostSink;
 pub use spare::no_path_is_spare;
 pub use tree::HostTree;

@@ -1,6 +1,7 @@
 ghost use Rattle.std.specs.Prelude.{[], false};
 
 use crate::faults::Faults;
+use crate::progress::Progress;
 use file_tree::{Failed, Sink};
 use std::io;
 use std::io::Write;
@@ -10,14 +11,16 @@ use std::io::Write;
 pub struct HostSink {
     rt: HostRuntime,
     faults: Faults,
+    progress: Progress,
 }
 
 impl HostSink {
-    /// Standard output, which has not failed yet.
-    pub fn stdout(rt: HostRuntime) -> HostSink {
+    /// Standard output, which has not failed yet. What tells how far the run is goes before a line.
+    pub fn stdout(rt: HostRuntime, progress: Progress) -> HostSink {
         HostSink {
             rt,
-            faults: Faults::new(),
+            faults: Faults::new(progress),
+            progress,
         }
     }
 }
@@ -30,6 +33,7 @@ impl Sink for HostSink {
     ghost faults = { λ s. s.faults.count };
 
     fn write(&mut self, bytes: &[u8]) -> Result<(), Failed> {
+        self.progress.clear();
         match io::writer(&self.rt).write_all(bytes) {
             Ok(()) => Ok(()),
             Err(error) => {

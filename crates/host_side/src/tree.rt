@@ -8,6 +8,8 @@ use crate::changes::Changes;
 use crate::faults::{Faults, is_memory};
 use crate::folder::Folder;
 use crate::open::{OpenFault, open_locked};
+use crate::progress::Progress;
+use crate::watch::Watch;
 use crate::writing::{place, put, remove};
 use file_tree::{Failed, Look, Object, Path, Tree, TreeFault};
 use std::alloc::{AllocError, Global};
@@ -29,23 +31,34 @@ pub struct HostTree<R: Threads> {
     folder: Folder,
     changes: Changes,
     faults: Faults,
+    watch: Watch,
     _lock: File,
 }
 
 impl<R: Threads> HostTree<R> {
     /// The tree below this folder, which is locked from now on. A sync starts threads by the handle.
-    pub fn open(rt: HostRuntime, threads: R, name: &str) -> Result<HostTree<R>, OpenFault>
+    /// What is done to the tree is told as the run's progress; its plan comes from this file, if from
+    /// any.
+    pub fn open(
+        rt: HostRuntime,
+        threads: R,
+        name: &str,
+        progress: Progress,
+        plan: Option<&str>,
+    ) -> Result<HostTree<R>, OpenFault>
     where
         R: Drop,
     {
         let lock = open_locked(&rt, name)?;
         let folder = Folder::new(rt, name, true).map_err(io::Error::from)?;
         let changes = Changes::new(rt.alloc());
+        let watch = Watch::new(rt.alloc(), progress, plan).map_err(io::Error::from)?;
         Ok(HostTree {
             threads,
             folder,
             changes,
-            faults: Faults::new(),
+            faults: Faults::new(progress),
+            watch,
             _lock: lock,
         })
     }
@@ -90,7 +103,10 @@ impl<R: Threads> Tree for HostTree<R> {
 
     fn read(&mut self, path: &Path) -> Result<Option<Object>, TreeFault> {
         match self.folder.read(path.text()) {
-            Ok(object) => Ok(object),
+            Ok(object) => {
+                self.watch.read(path.text(), object.as_ref());
+                Ok(object)
+            }
             Err(error) => Err(self.fault("read", path.text(), error)),
         }
     }
@@ -110,21 +126,30 @@ impl<R: Threads> Tree for HostTree<R> {
             path.text(),
             object,
         ) {
-            Ok(()) => Ok(()),
+            Ok(()) => {
+                self.watch.put(path.text(), object);
+                Ok(())
+            }
             Err(error) => Err(self.fault("put", path.text(), error)),
         }
     }
 
     fn place(&mut self, from: &Path, to: &Path) -> Result<(), Failed> {
         match place(&self.folder, &mut self.changes, from.text(), to.text()) {
-            Ok(()) => Ok(()),
+            Ok(()) => {
+                self.watch.place(from.text());
+                Ok(())
+            }
             Err(error) => Err(self.fail("place", to.text(), error)),
         }
     }
 
     fn remove(&mut self, path: &Path) -> Result<(), Failed> {
         match remove(&self.folder, &mut self.changes, path.text()) {
-            Ok(()) => Ok(()),
+            Ok(()) => {
+                self.watch.remove(path.text());
+                Ok(())
+            }
             Err(error) => Err(self.fail("remove", path.text(), error)),
         }
     }

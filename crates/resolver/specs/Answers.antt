@@ -8,6 +8,7 @@ use Rattle.choice_law.specs.Tree.{Choice, filling}
 use Rattle.choice_search.specs.Jumping.{IsPart}
 use Rattle.choice_search.specs.Leaves.{dead_before, first_good}
 use Rattle.choice_search.specs.Visit.{visit}
+use Rattle.choice_tree.specs.Tree.{tree_options}
 use Rattle.resolver.specs.Tree.{tree_leaves, tree_shape}
 use Rattle.resolver.specs.declared.fault.ResolveFault.{ResolveFault}
 use Rattle.resolver.specs.declared.fault.ResolveFault.TheVariants.{BacktrackLimit, Memory, NoSolution}
@@ -16,6 +17,10 @@ use Rattle.resolver.specs.declared.fault.ResolveFault.TheVariants.{BacktrackLimi
 abbrev pub met : Bool → Universe → List Choice
 met update u = (visit (tree_shape update u) []).met
 
+-- each of these choices has something open, and no option for it
+abbrev pub AreDead : Bool → Universe → List Choice → Type 0
+AreDead update u cs = (c : Choice) → Has cs c → tree_options update u c ≡ Some []
+
 -- the first good leaf of the tree, before which fewer dead ones are met than are too many
 pub record IsChosen (update : Bool) (u : Universe) (limit : ℕ) (c : Choice) : Type 0 where
   pub first : first_good (tree_leaves update u) ≡ Some c
@@ -23,10 +28,13 @@ pub record IsChosen (update : Bool) (u : Universe) (limit : ℕ) (c : Choice) : 
   -- it is a solution, with the lines that it doesn't decide as they are
   pub solution : IsSolution u (filling u c)
 
--- no leaf is good, and the dead ones that are met are fewer than are too many
-pub record HasNone (update : Bool) (u : Universe) (limit : ℕ) : Type 0 where
+-- no leaf is good, and the dead ones that are met are fewer than are too many: these
+pub record HasNone (update : Bool) (u : Universe) (limit : ℕ)
+    (refuted : List Choice) : Type 0 where
   pub no_leaf : first_good (tree_leaves update u) ≡ None
+  pub these : refuted ≡ met update u
   pub few : length (met update u) < limit
+  pub dead : AreDead update u refuted
   -- so there is no solution
   pub no_solution : (f : Filling) → ¬ IsSolution u f
 
@@ -37,10 +45,11 @@ pub record IsTooMany (update : Bool) (u : Universe) (limit : ℕ)
   pub many : limit ≤ length (met update u)
   -- those that are met stand in the tree before the first good leaf, in this order
   pub before : IsPart (met update u) (dead_before (tree_leaves update u))
+  pub dead : AreDead update u refuted
   -- no solution has all that one of them decides
   pub in_vain : (c : Choice) (f : Filling) → Has refuted c → IsSolution u f → ¬ Allows c f
 
 abbrev pub HasCause : Bool → Universe → ℕ → ResolveFault → Type 0
-HasCause update u limit NoSolution = HasNone update u limit
+HasCause update u limit (NoSolution refuted) = HasNone update u limit refuted.items
 HasCause update u limit (BacktrackLimit refuted) = IsTooMany update u limit refuted.items
 HasCause update u limit Memory = ⊤

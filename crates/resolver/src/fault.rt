@@ -8,8 +8,9 @@ use thiserror::Error;
 /// Why there is no choice.
 #[derive(Debug, Drop, Error)]
 pub enum ResolveFault {
+    /// These choices were tried, in their order, all in vain.
     #[error("there is no solution")]
-    NoSolution,
+    NoSolution { refuted: Vec<Choice> },
     /// So many choices were tried in vain: these, in their order.
     #[error("the limit of choices that are tried in vain is reached")]
     BacktrackLimit { refuted: Vec<Choice> },

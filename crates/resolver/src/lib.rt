@@ -4,9 +4,9 @@
 //! tree of choices as the whole list of its leaves, in the order in which they are tried.
 //!
 //! **Proved**: [`resolve`] answers with the first good leaf, which is a solution with the lines
-//! that it doesn't decide as they are; it says that there is no solution only where there is none;
-//! and it gives up exactly where as many dead leaves as are allowed stand before a good one, and
-//! tells these.
+//! that it doesn't decide as they are; it says that there is no solution only where there is none,
+//! and tells all dead leaves that the search met; and it gives up exactly where as many of them as are
+//! allowed are met before a good one, and tells these.
 //!
 //! **Only tested**: that with ample memory it answers with one of these.
 //!

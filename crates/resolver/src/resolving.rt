@@ -58,7 +58,7 @@ pub fn resolve(alloc: Global, universe: &Universe, backtrack: usize) -> Result<C
     universe_is_plain(universe);
     match search(alloc, universe, backtrack)? {
         Outcome::Found(choice) => Ok(choice),
-        Outcome::NoneGood => Err(ResolveFault::NoSolution),
+        Outcome::NoneGood(refuted) => Err(ResolveFault::NoSolution { refuted }),
         Outcome::Limit(refuted) => Err(ResolveFault::BacktrackLimit { refuted }),
     }
 }

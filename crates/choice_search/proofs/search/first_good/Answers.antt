@@ -7,7 +7,7 @@ use Rattle.choice_search.specs.Visit.{barren, joined, seen_as}
 use Rattle.choice_search.specs.declared.frame.Frame.{Frame}
 use Rattle.choice_search.proofs.Going.{begun_at, down_at, enough_at, lower_at}
 use Rattle.choice_search.proofs.Resuming.{nothing_left}
-use Rattle.choice_search.proofs.Searching.{IsSearching, at_limit, back, fewer_left, found_good, steps_left}
+use Rattle.choice_search.proofs.Searching.{IsSearching, at_limit, back, fewer_left, found_good, none_good, steps_left}
 use Rattle.choice_search.proofs.search.first_good.Goals as goal
 
 pub loop-more-init : goal.loop-more-init
@@ -129,3 +129,11 @@ loop-more-smaller g c =
     let choice_is = c.in_ok-choice-2.ensures ∙ ap (λ (x : Path _). x.here) (c.join_reason.ensures.stays ∙ c.options.ensures.stays) in
     subst (λ (b : Bool). left (c.args.limit - length c.push-in_default-pop.new.self.items) (next_if c.in_ok-more.more q) < left (c.args.limit - length c.loop-more.dead.items) (next_if b p)) (sym c.loop-more-test.true)
     (fewer_left shape root c.args.limit (g.met.T.Tree.smaller c.args.tree.now) c.loop-more.dead.items c.push-in_default-pop.new.self.items (levels_at by q c.go_back.new.frames.items) p.here (next_if c.in_ok-more.more q) s.fewer (c.in_ok-push-2.ensures.items ∙ ap (λ x. c.loop-more.dead.items ++ x ∷ []) choice_is) (loop-more-preserved g c).2)
+
+pub returns-clause-outcome : goal.returns-clause-outcome
+returns-clause-outcome g c =
+    let shape = g.T.Tree.shape c.args.tree.now in
+    let p = g.T.Tree.path c.loop-more.tree in
+    let root = (g.T.Tree.path c.args.tree.now).here in
+    let ls = levels_at g.T.Tree.option_by p c.loop-more.frames.items in
+    none_good shape root c.args.limit c.loop-more.dead.items ls (subst (λ (b : Bool). IsSearching shape root c.args.limit c.loop-more.dead.items ls (next_if b p)) c.loop-more-test.false c.loop-more.invariant.2)

@@ -1,4 +1,5 @@
-use Rattle.std.proofs.Common.{[], subst, sym, ◌∙◌}
+use Rattle.std.proofs.Common.{[], List, subst, sym, ◌∙◌}
+use Rattle.basics.specs.Members.{Has}
 use Rattle.choice_law.specs.Tree.{Choice}
 use Rattle.choice_tree.specs.Views.{universe_of}
 use Rattle.choice_search.specs.Visit.{IsOutcome, visit}
@@ -28,7 +29,9 @@ returns-in-NoneGood-clause-cause c =
     let none = sym c.in_ok-choice.ensures.lossless.same_end ∙ r.0 in
     record {
       no_leaf = none;
-      few = r.1;
+      these = r.1;
+      few = r.2;
+      dead = λ d h. c.in_ok-choice.ensures.lossless.dead d (subst (λ (cs : List Choice). Has cs d) r.1 h);
       no_solution = none_solves update u c.solutions_have_leaves.ensures c.first_open_is_a_pick.ensures c.universe_is_plain.ensures none;
     }
 
