@@ -128,6 +128,28 @@ def jump_over_an_unrelated_choice():
     return check(rows)
 
 
+def one_need_that_nothing_meets():
+    """The greater version needs six packages, each of which may stay or be replaced, and one that
+    isn't there. None of the six is to blame, so it is given up at the first dead choice."""
+    names = [f"p{at}" for at in range(6)]
+    needs = " ".join(f"c/{it}" for it in [*names, "zz"])
+    lines = [*(f"+{it}-1,{it}-2" for it in names), f"w-2;RDEPEND {needs},w-1"]
+    return check([(case("resolve", "keep", "2", "c/w", *lines), " 6=v1")])
+
+
+def each_member_of_a_choice_is_to_blame():
+    """What the first member asks for isn't there, and the second one asks for the version of `b`
+    that isn't chosen first. The other version is tried, and serves."""
+    lines = ["b-2,b-1", "x-1;RDEPEND || ( c/zz =c/b-1 )"]
+    return check([(case("resolve", "keep", "10", "c/b c/x", *lines), " 0=v1 1=v0")])
+
+
+def what_is_kept_can_match_too():
+    """The new `b` is chosen first, and `x` needs the old one, which is installed."""
+    lines = ["+b-1,b-2", "x-1;RDEPEND <c/b-2"]
+    return check([(case("resolve", "update", "10", "c/b c/x", *lines), " 0=+ 1=v0")])
+
+
 def flag_change_solves():
     """No variant has the flag on that the dependency asks for; then one has."""
     lines = ["a-1;IUSE x;RDEPEND c/b[x]", "b-1;IUSE x"]
@@ -253,6 +275,9 @@ TESTS = [
     whole_trees,
     backtrack_limits,
     jump_over_an_unrelated_choice,
+    one_need_that_nothing_meets,
+    each_member_of_a_choice_is_to_blame,
+    what_is_kept_can_match_too,
     flag_change_solves,
     a_deep_conflict_is_found,
     two_that_need_each_other,

@@ -1,5 +1,5 @@
 -- A solution that agrees with a choice on the reason of what is open agrees with what some option adds.
-use Rattle.std.proofs.Common.{◌≡◌, ◌⊎◌, ◌<◌, ℕ, Bool, true, false, [], ◌∷◌, Option, None, Some, nat_eq, inl, inr, refl, sym, ap, subst, ◌∙◌}
+use Rattle.std.proofs.Common.{◌≡◌, ◌⊎◌, ◌<◌, ℕ, Bool, true, false, List, [], ◌∷◌, Option, None, Some, nat_eq, inl, inr, refl, sym, ap, subst, ◌∙◌}
 use Rattle.std.specs.Option.{option_map_or}
 use Rattle.std.proofs.lemmas.Bool.{cases_eq, eq-eqb, or_cases, or_left, or_parts, or_right}
 use Rattle.basics.specs.Members.{Has}
@@ -18,10 +18,10 @@ use Rattle.choice_law.specs.Universe.{Filling, Stands, Universe, Value, absent, 
 use Rattle.choice_law.specs.Solutions.{IsSolution}
 use Rattle.choice_law.specs.Tree.{Choice, IsOpen, IsOption, MayBe, MayChange, Obligation, Serves, absence, conflict, decided, filling, held, held_by, required, tree, wanted}
 use Rattle.choice_law.specs.Laws.{IsUniverse}
-use Rattle.choice_law.specs.Reasons.{AgreesNew, AgreesOn, ReasonsSuffice, offers_against, offers_needed, reason, rests_on}
+use Rattle.choice_law.specs.Reasons.{AgreesNew, AgreesOn, ReasonsSuffice, offers_against, offers_blamed, reason, rests_on}
 use Rattle.choice_law.proofs.Leaves.{all_tell}
 use Rattle.choice_law.proofs.Lines.{decided_here, decided_or_not, decided_there, filling_decided, filling_free, listed_stands, stands_listed}
-use Rattle.choice_law.proofs.Reasons.{in_reason, matched_named, needed_named, offered_passes}
+use Rattle.choice_law.proofs.Reasons.{blamed_can, in_reason, matched_can, offered_passes}
 
 same_or_not : (v w : Value) → (v ≡ w) ⊎ (¬ (v ≡ w))
 same_or_not keep keep = inl refl
@@ -87,7 +87,7 @@ module _ (u : Universe) (f : Filling) (form : IsUniverse u) (s : IsSolution u f)
       let w = s.wanted a open_now.0 in
       elim (decided_or_not c w.0) [
         | inr some ↦ absurd (
-            let rests = matched_named a [] (offer_at u w.0) (f w.0) w.1 w.2.is w.3 in
+            let rests = matched_can a [] (offer_at u w.0) (f w.0) w.1 w.2.is w.3 in
             let same = agrees w.0 some.0 (in_reason u c (wanted a) w.0 some.0 w.2.there some.1 rests) some.1 in
             let is : package_of (offer_at u w.0) some.0 ≡ Some w.1 = ap (λ (v : Value). package_of (offer_at u w.0) v) (sym same) ∙ w.2.is in
             let none = open_now.1 w.0 some.0 w.1 w.2.there some.1 is in
@@ -136,11 +136,17 @@ module _ (u : Universe) (f : Filling) (form : IsUniverse u) (s : IsSolution u f)
     ]
   ]
 
-  -- the package on the line asks for something whose name is offered on the other line
-  rests_on_named : (l m : ℕ) (class : Class) (p : Package) → package_of (offer_at u l) (filling u c l) ≡ Some p → offers_needed class p (offer_at u m) ≡ true → rests_on u c (tree l class) m ≡ true
-  rests_on_named l m class p is named =
-      let needs : Option Package → Bool = λ x. option_map_or (λ q. offers_needed class q (offer_at u m)) x false in
-      or_right (nat_eq l m) (needs (package_of (offer_at u l) (filling u c l))) (ap needs is ∙ named)
+  -- the facts of the packages that stand now
+  abbrev now : List Facts
+  now = facts_of (packages u (filling u c))
+
+  -- what the package on the line lacks may be matched on the other line
+  abbrev mends : (l m : ℕ) → Class → Option Package → Bool
+  mends l m class x = option_map_or (λ q. offers_blamed now class q (offer_at u m)) x false
+
+  rests_on_blamed : (l m : ℕ) (class : Class) (p : Package) → package_of (offer_at u l) (filling u c l) ≡ Some p → offers_blamed now class p (offer_at u m) ≡ true → rests_on u c (tree l class) m ≡ true
+  rests_on_blamed l m class p is blamed =
+      or_right (nat_eq l m) (mends l m class (package_of (offer_at u l) (filling u c l))) (ap (mends l m class) is ∙ blamed)
 
   -- the solution's value of the line serves the leaf
   serving : (l m : ℕ) (class : Class) (a : AtomValue) (p : Package) → Stands u (filling u c) l p → Has (leaves_in class p) a → is_block a ≡ false → MayBe u c m (f m) → Serves u m (f m) a p.facts.enabled → SomeOption (tree l class)
@@ -149,18 +155,18 @@ module _ (u : Universe) (f : Filling) (form : IsUniverse u) (s : IsSolution u f)
   tree_option : (l : ℕ) (class : Class) → IsOpen u c (tree l class) → Agrees (tree l class) → SomeOption (tree l class)
   tree_option l class open_now agrees = elim (same_or_not (f l) (filling u c l)) [
     | inr other ↦ (
-        let rests = or_left (nat_eq l l) (option_map_or (λ q. offers_needed class q (offer_at u l)) (package_of (offer_at u l) (filling u c l)) false) (eq-eqb l l refl) in
+        let rests = or_left (nat_eq l l) (mends l l class (package_of (offer_at u l) (filling u c l))) (eq-eqb l l refl) in
         let free = free_if_other (tree l class) agrees l open_now.1.there rests other in
         ((l, f l) ∷ c, inr (f l, may_change l open_now.1.there free other, refl), adds l))
     | inl e ↦ (
         let p = open_now.0 in
         let asker = p.facts.enabled in
         let there = facts_of (packages u f) in
-        let here = facts_of (packages u (filling u c)) in
+        let here = now in
         let met = s.met l p class (stands_alike l p e open_now.1) (ap (counts class) e ∙ open_now.2) in
         let told = all_tell (tree_of class p).empty_holds (has asker) (is_fact there asker) (is_fact here asker) (tree_of class p).groups (form l (filling u c l) p class open_now.1.is) met open_now.3 in
-        let fails = or_parts (is_block told.0) (some_match here asker told.0) told.3 in
-        let matched : some_match there asker told.0 ≡ true = elim (or_cases (is_block told.0) (some_match there asker told.0) told.2) [ inl b ↦ absurd (let none = fails.0 in cc (b, none)) | inr m ↦ m ] in
+        let fails = or_parts (is_block told.0) (some_match here asker told.0) told.4 in
+        let matched : some_match there asker told.0 ≡ true = elim (or_cases (is_block told.0) (some_match there asker told.0) told.3) [ inl b ↦ absurd (let none = fails.0 in cc (b, none)) | inr m ↦ m ] in
         let x = some_passes (λ (q : Facts). value_matches told.0 q asker) there matched in
         let q = has-map_back (λ (r : Package). r.facts) (packages u f) x.0 x.1 in
         let serves : value_matches told.0 q.0.facts asker ≡ true = ap (λ (y : Facts). value_matches told.0 y asker) q.2 ∙ x.2 in
@@ -172,10 +178,10 @@ module _ (u : Universe) (f : Filling) (form : IsUniverse u) (s : IsSolution u f)
               let none = fails.1 in
               cc (found, none))
           | inr other ↦ (
-              let named = needed_named class p (offer_at u st.0) told.0 told.1 fails.0 (matched_named told.0 asker (offer_at u st.0) (f st.0) q.0 st.1.is serves) in
-              let rests = rests_on_named l st.0 class p open_now.1.is named in
+              let can = blamed_can here class p (offer_at u st.0) told.0 told.1 (matched_can told.0 asker (offer_at u st.0) (f st.0) q.0 st.1.is serves) in
+              let rests = rests_on_blamed l st.0 class p open_now.1.is can in
               let may = may_be st.0 st.1.there (free_if_other (tree l class) agrees st.0 st.1.there rests other) in
-              serving l st.0 class told.0 p open_now.1 told.1 fails.0 may (record { package_is = q.0; is = st.1.is; matched = serves }))
+              serving l st.0 class told.0 p open_now.1 told.2 fails.0 may (record { package_is = q.0; is = st.1.is; matched = serves }))
         ])
   ]
 

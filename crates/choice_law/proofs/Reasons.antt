@@ -1,22 +1,20 @@
 -- The lines of a reason, and packages that are offered on a line.
-use Rattle.std.proofs.Common.{◌≡◌, ◌<◌, ◌&&◌, ℕ, zero, suc, Bool, true, false, cond, not, List, [], ◌∷◌, Option, None, Some, is_some, inl, inr, sym, ap, subst, arith, ◌∙◌}
-use Rattle.std.specs.List.{list_all, list_any}
+use Rattle.std.proofs.Common.{◌≡◌, ◌<◌, ◌&&◌, ℕ, zero, suc, Bool, true, false, cond, List, [], ◌∷◌, Option, None, Some, is_some, inl, inr, sym, ap, subst, arith, ◌∙◌}
+use Rattle.std.specs.List.{list_any}
 use Rattle.std.specs.Option.{option_map_or}
-use Rattle.std.proofs.lemmas.Bool.{and_from, and_parts, cases_eq, not_from_false, or_left, or_right}
+use Rattle.std.proofs.lemmas.Bool.{cases_eq, or_left, or_right}
 use Rattle.basics.specs.Members.{Has}
 use Rattle.basics.proofs.Membership.{has-append_left, has-append_right, has-slice_get}
-use Rattle.pms_names.specs.Flags.{has}
-use Rattle.dep_atom.specs.Match.{accepts_slot, accepts_use, accepts_version, same_name, value_matches}
+use Rattle.dep_atom.specs.Match.{value_matches}
 use Rattle.dep_atom.specs.Values.{AtomValue}
 use Rattle.dep_atom.specs.declared.package.Facts.{Facts}
-use Rattle.dep_tree.specs.Grammar.{is_block}
-use Rattle.pkg_state.specs.Consistent.{leaves_in}
 use Rattle.pkg_state.specs.Package.{Package}
 use Rattle.pkg_state.specs.declared.class.Class.{Class}
 use Rattle.basics.proofs.Members.{passes_some}
 use Rattle.choice_law.specs.Universe.{Offer, Universe, Value, absent, is_new, keep, lines, package_of, variant}
 use Rattle.choice_law.specs.Tree.{Choice, Obligation, decided}
-use Rattle.choice_law.specs.Reasons.{offers, offers_named, offers_needed, reason, rests_on, those_below}
+use Rattle.choice_law.specs.Blame.{blamed_in}
+use Rattle.choice_law.specs.Reasons.{can_match, offers, offers_blamed, reason, rests_on, those_below}
 
 module _ (test : ℕ → Bool) where
   has_those : (n l : ℕ) → l < n → test l ≡ true → Has (those_below test n) l
@@ -41,17 +39,10 @@ offered_passes test o absent p is e = absurd (let bad : ◌≡◌ {A = Option Pa
 offered_passes test o (variant i) p is e =
     or_right (option_map_or (test false) o.installed false) (list_any (test true) o.variants) (passes_some (test true) o.variants p (has-slice_get o.variants i p is) e)
 
--- an atom matches only what has its name
-same_as_matched : (a : AtomValue) (q : Facts) (asker : List (List ℕ)) → value_matches a q asker ≡ true → same_name a.name q.id.name ≡ true
-same_as_matched a q asker e =
-    (and_parts (same_name a.name q.id.name) (accepts_version a.op a.star a.version q.id.version && (accepts_slot a.slot q.slot q.subslot && list_all (accepts_use q.iuse q.enabled asker) a.uses)) e).0
+-- what an atom matches may be matched on its line
+pub matched_can : (a : AtomValue) (asker : List (List ℕ)) (o : Offer) (v : Value) (p : Package) → package_of o v ≡ Some p → value_matches a p.facts asker ≡ true → can_match a asker o ≡ true
+matched_can a asker o v p is e = offered_passes (λ new q. value_matches a q.facts asker) o v p is e
 
--- what an atom matches is offered under its name
-pub matched_named : (a : AtomValue) (asker : List (List ℕ)) (o : Offer) (v : Value) (p : Package) → package_of o v ≡ Some p → value_matches a p.facts asker ≡ true → offers_named a o ≡ true
-matched_named a asker o v p is e = offered_passes (λ new q. same_name a.name q.facts.id.name) o v p is (same_as_matched a p.facts asker e)
-
--- what a leaf that asks for something matches is offered under a name that is needed
-pub needed_named : (class : Class) (p : Package) (o : Offer) (a : AtomValue) → Has (leaves_in class p) a → is_block a ≡ false → offers_named a o ≡ true → offers_needed class p o ≡ true
-needed_named class p o a h asks named =
-    passes_some (λ b. not (is_block b) && offers_named b o) (leaves_in class p) a h
-    (and_from (not (is_block a)) (offers_named a o) (not_from_false (is_block a) asks) named)
+-- what may be matched by a leaf to blame
+pub blamed_can : (facts : List Facts) (class : Class) (p : Package) (o : Offer) (a : AtomValue) → Has (blamed_in facts class p) a → can_match a p.facts.enabled o ≡ true → offers_blamed facts class p o ≡ true
+blamed_can facts class p o a h can = passes_some (λ b. can_match b p.facts.enabled o) (blamed_in facts class p) a h can

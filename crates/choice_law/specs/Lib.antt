@@ -2,4 +2,5 @@ pub mod Universe
 pub mod Solutions
 pub mod Tree
 pub mod Laws
+pub mod Blame
 pub mod Reasons

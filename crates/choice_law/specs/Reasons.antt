@@ -1,16 +1,16 @@
 -- On which decided lines it rests that something is open, and what is still promised then.
-use Rattle.std.specs.Prelude.{◌≡◌, ◌||◌, ◌&&◌, ◌++◌, ℕ, zero, suc, Bool, false, true, not, List, [], ◌∷◌, None, Some, is_some, nat_eq, if◌then◌else◌}
+use Rattle.std.specs.Prelude.{◌≡◌, ◌||◌, ◌&&◌, ◌++◌, ℕ, zero, suc, Bool, false, true, List, [], ◌∷◌, None, Some, is_some, nat_eq, if◌then◌else◌}
 use Rattle.std.specs.List.{list_any}
 use Rattle.std.specs.Option.{option_map_or}
 use Rattle.basics.specs.Members.{Has}
-use Rattle.pms_names.specs.Flags.{has}
-use Rattle.dep_atom.specs.Match.{same_name}
+use Rattle.dep_atom.specs.Match.{value_matches}
 use Rattle.dep_atom.specs.Values.{AtomValue}
-use Rattle.dep_tree.specs.Grammar.{is_block}
-use Rattle.pkg_state.specs.Consistent.{leaves_in}
+use Rattle.dep_atom.specs.declared.package.Facts.{Facts}
+use Rattle.pkg_state.specs.Consistent.{facts_of}
 use Rattle.pkg_state.specs.Package.{Package}
 use Rattle.pkg_state.specs.declared.class.Class.{Class}
-use Rattle.choice_law.specs.Universe.{Filling, Offer, Universe, Value, conflicts, lines, offer_at, package_of}
+use Rattle.choice_law.specs.Universe.{Filling, Offer, Universe, Value, conflicts, lines, offer_at, package_of, packages}
+use Rattle.choice_law.specs.Blame.{blamed_in}
 use Rattle.choice_law.specs.Solutions.{IsSolution}
 use Rattle.choice_law.specs.Tree.{Choice, IsOpen, IsOption, Obligation, absence, conflict, decided, filling, required, tree, wanted}
 use Rattle.choice_law.specs.Laws.{IsUniverse}
@@ -19,15 +19,15 @@ use Rattle.choice_law.specs.Laws.{IsUniverse}
 abbrev pub offers : (Bool → Package → Bool) → Offer → Bool
 offers test o = option_map_or (test false) o.installed false || list_any (test true) o.variants
 
--- .. has the name of the atom
-abbrev pub offers_named : AtomValue → Offer → Bool
-offers_named a o = offers (λ new p. same_name a.name p.facts.id.name) o
+-- .. is matched by the atom, for an asker with these flags
+abbrev pub can_match : AtomValue → List (List ℕ) → Offer → Bool
+can_match a asker o = offers (λ new p. value_matches a p.facts asker) o
 
--- .. has the name of an atom that the package asks for in this class
-abbrev pub offers_needed : Class → Package → Offer → Bool
-offers_needed class p o =
-    list_any (λ a. not (is_block a) && offers_named a o)
-    (leaves_in class p)
+-- .. is matched by a leaf to blame for what the package lacks in this class, among packages with
+-- these facts
+abbrev pub offers_blamed : List Facts → Class → Package → Offer → Bool
+offers_blamed facts class p o =
+    list_any (λ a. can_match a p.facts.enabled o) (blamed_in facts class p)
 
 -- .. can't stand beside the package
 abbrev pub offers_against : Package → Offer → Bool
@@ -35,11 +35,13 @@ offers_against z o = offers (λ new q. conflicts new q z) o
 
 -- that the obligation is open rests on what is decided of the last line, if anything is
 abbrev pub rests_on : Universe → Choice → Obligation → ℕ → Bool
-rests_on u c (wanted a) k = offers_named a (offer_at u k)
+rests_on u c (wanted a) k = can_match a [] (offer_at u k)
 rests_on u c (required l) k = nat_eq l k
 rests_on u c (conflict l m) k = nat_eq l k || nat_eq m k
 rests_on u c (tree l class) k =
-    nat_eq l k || option_map_or (λ p. offers_needed class p (offer_at u k))
+    nat_eq l k
+    || option_map_or
+    (λ p. offers_blamed (facts_of (packages u (filling u c))) class p (offer_at u k))
     (package_of (offer_at u l) (filling u c l)) false
 rests_on u c (absence l) k =
     nat_eq l k || option_map_or (λ z. offers_against z (offer_at u k))

@@ -1,7 +1,6 @@
 -- The tree of choices: decisions on some lines, what is open of them, and how that may be closed.
 use Rattle.std.specs.Prelude.{◌≡◌, ◌⊎◌, ◌<◌, ℕ, true, false, List, [], ◌∷◌, Option, None, Some, nat_eq, unwrap_or, if◌then◌else◌}
 use Rattle.basics.specs.Members.{Has}
-use Rattle.pms_names.specs.Flags.{has}
 use Rattle.dep_atom.specs.Match.{value_matches}
 use Rattle.dep_atom.specs.Values.{AtomValue}
 use Rattle.dep_tree.specs.Grammar.{is_block}

@@ -1,3 +1,4 @@
 pub mod Marks
 pub mod Settled
 pub mod Way
+pub mod Blame

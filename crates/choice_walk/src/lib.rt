@@ -29,6 +29,7 @@
 //! ```
 #![tactic(auto)]
 
+mod blame;
 mod branching;
 mod marks;
 mod places;

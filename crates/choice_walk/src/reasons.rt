@@ -1,91 +1,70 @@
-ghost use Rattle.std.specs.Prelude.{◌≡◌, ◌<◌, ◌&&◌, IfOk, false, is_some, length, map, not};
+ghost use Rattle.std.specs.Prelude.{◌≡◌, ◌<◌, ◌&&◌, IfOk, false, is_some, length, map};
 ghost use Rattle.std.specs.Prelude.{true};
 ghost use Rattle.std.specs.List.{list_any};
 ghost use Rattle.std.specs.Option.{option_map, option_map_or};
-ghost use Rattle.dep_atom.specs.Match.{same_name};
-ghost use Rattle.dep_atom.specs.Values.{atom_value};
-ghost use Rattle.dep_tree.specs.Grammar.{is_block};
 ghost use Rattle.dep_atom.specs.Ids.{id_text};
-ghost use Rattle.choice_law.specs.Reasons.{offers_against, offers_named, offers_needed, reason};
-ghost use Rattle.choice_law.specs.Reasons.{rests_on};
+ghost use Rattle.dep_atom.specs.Match.{value_matches};
+ghost use Rattle.dep_atom.specs.Values.{atom_value};
+ghost use Rattle.choice_law.specs.Reasons.{can_match, offers_against, reason, rests_on};
 ghost use Rattle.choice_law.specs.Tree.{decided, filling};
 ghost use Rattle.choice_law.specs.Universe.{conflicts, offer_at, package_of};
 ghost use Rattle.choice_tree.specs.Open.{obligation_of};
+ghost use Rattle.choice_tree.specs.Places.{places};
+ghost use Rattle.choice_tree.specs.Seen.{places_of};
 ghost use Rattle.choice_tree.specs.Tree.{tree_reason};
 ghost use Rattle.choice_tree.specs.Views.{offer_of, universe_of};
+ghost use Rattle.choice_walk.specs.Blame.{blamed_for};
 
+use crate::blame::blamed_of;
 use crate::marks::Marked;
 use crate::walk::Walk;
-use choice_tree::{Choice, Obligation, Offer, Standing, Universe, conflict};
+use choice_tree::{Around, Choice, Obligation, Offer, Standing, Universe, conflict};
 use dep_atom::Atom;
-use dep_tree::is_block;
-use pkg_state::{Class, Pkg};
-use pms_names::Name;
+use pkg_state::Pkg;
+use pms_names::Flags;
 use std::alloc::{AllocError, Global};
 
-fn is_same_name(name: &Name, other: &Name) -> bool
-    ensures { result ≡ same_name name.now other.now }
-{
-    name.category == other.category && name.package == other.package
-}
-
-fn is_named(name: &Name, one: &Pkg) -> bool
-    ensures { result ≡ same_name name.now one.now.facts.id.name }
-{
-    is_same_name(name, &one.facts.id.name)
-}
-
-fn any_named(name: &Name, variants: &[Pkg]) -> bool
-    ensures { result ≡ list_any (λ p. same_name name.now p.facts.id.name) variants.now }
+fn any_matched(atom: &Atom, asker: &Flags, variants: &[Pkg]) -> bool
+    ensures { result ≡
+        list_any (λ p. value_matches (atom_value atom.now) p.facts asker.now) variants.now }
 {
     for variant in variants {
-        if is_named(name, variant) {
+        if atom.matches(&variant.facts, asker) {
             return true;
         }
     }
     false
 }
 
-fn keeps_named(name: &Name, offer: &Offer) -> bool
-    ensures { result ≡ option_map_or (λ p. same_name name.now p.facts.id.name)
+fn keeps_matched(atom: &Atom, asker: &Flags, offer: &Offer) -> bool
+    ensures { result ≡
+        option_map_or (λ p. value_matches (atom_value atom.now) p.facts asker.now)
         (offer_of offer.now).installed false }
 {
     match &offer.installed {
-        Some(installed) => is_named(name, installed),
+        Some(installed) => atom.matches(&installed.facts, asker),
         None => false,
     }
 }
 
-/// Whether a package that may stand on the line has the name of the atom.
-fn offers_named(atom: &Atom, offer: &Offer) -> bool
-    ensures { result ≡ offers_named (atom_value atom.now) (offer_of offer.now) }
+/// Whether the atom matches a package that may stand on the line.
+fn can_match(atom: &Atom, asker: &Flags, offer: &Offer) -> bool
+    ensures { result ≡ can_match (atom_value atom.now) asker.now (offer_of offer.now) }
 {
-    keeps_named(&atom.name, offer) || any_named(&atom.name, &offer.variants)
+    keeps_matched(atom, asker, offer) || any_matched(atom, asker, &offer.variants)
 }
 
-fn any_asks(atoms: &[&Atom], offer: &Offer) -> bool
-    ensures { result ≡ list_any (λ a. not (is_block a) && offers_named a (offer_of offer.now))
+/// Whether one of the atoms does.
+fn any_can_match(atoms: &[&Atom], asker: &Flags, offer: &Offer) -> bool
+    ensures { result ≡ list_any (λ a. can_match a asker.now (offer_of offer.now))
         (map (λ a. atom_value a.now) atoms.now) }
 {
     for atom in atoms {
-        if !is_block(atom) && offers_named(atom, offer) {
+        if can_match(atom, asker, offer) {
             return true;
         }
     }
     false
-}
-
-/// Whether it has the name of an atom that the package asks for in this class.
-fn offers_needed(
-    alloc: Global,
-    owner: &Pkg,
-    class: Class,
-    offer: &Offer,
-) -> Result<bool, AllocError>
-    ensures { IfOk result (λ it. it ≡ offers_needed class owner.now (offer_of offer.now)) }
-{
-    let leaves = owner.tree(class).leaves(alloc, &owner.facts.enabled)?;
-    Ok(any_asks(&leaves, offer))
 }
 
 fn is_against(
@@ -162,19 +141,16 @@ fn installed_at<'a>(universe: &'a Universe, line: usize) -> Option<&'a Pkg>
     }
 }
 
-fn may_serve(
-    alloc: Global,
-    owner: Option<&Pkg>,
-    class: Class,
-    offer: &Offer,
-) -> Result<bool, AllocError>
-    ensures { IfOk result (λ it. it ≡
-        option_map_or (λ p. offers_needed class p (offer_of offer.now))
-        (option_map (λ p. p.now) owner.entry) false) }
+/// Whether a package that may stand on the line is matched by one of these leaves of the owner.
+fn may_serve(owner: Option<&Pkg>, leaves: &[&Atom], offer: &Offer) -> bool
+    ensures { result ≡ option_map_or
+        (λ p. list_any (λ a. can_match a p.facts.enabled (offer_of offer.now))
+        (map (λ a. atom_value a.now) leaves.now))
+        (option_map (λ p. p.now) owner.entry) false }
 {
     match owner {
-        None => Ok(false),
-        Some(owner) => offers_needed(alloc, owner, class, offer),
+        None => false,
+        Some(owner) => any_can_match(leaves, &owner.facts.enabled, offer),
     }
 }
 
@@ -196,28 +172,53 @@ fn offer_at(universe: &Universe, line: usize) -> &Offer
     &universe.offers[line]
 }
 
-/// Whether what is decided of a line has to do with it that the obligation is open.
+/// The leaves to blame for it that the obligation is open, as far as it is a package that lacks
+/// what it needs.
+fn blamed_for<'u>(
+    alloc: Global,
+    universe: &'u Universe,
+    choice: &Marked,
+    around: &Around<'_, '_>,
+    obligation: &Obligation<'_>,
+) -> Result<Vec<&'u Atom>, AllocError>
+    requires { places_of around.now.places.now ≡
+        places (universe_of universe.now) choice.now.choice }
+    ensures { IfOk result (λ v. map (λ a. atom_value a.now) v.items ≡
+        blamed_for (universe_of universe.now) choice.now.choice (obligation_of obligation.now)) }
+{
+    let Obligation::Tree(own, class) = *obligation else {
+        return Ok(Vec::new(alloc));
+    };
+    let Some(owner) = package_at(universe, choice, own) else {
+        return Ok(Vec::new(alloc));
+    };
+    let leaves = blamed_of(alloc, owner, class, around)?;
+    Ok(leaves)
+}
+
+/// Whether what is decided of a line has to do with it that the obligation is open. The leaves to
+/// blame for it are given.
 fn rests_on(
     alloc: Global,
     universe: &Universe,
     choice: &Marked,
     obligation: &Obligation<'_>,
+    blamed: &[&Atom],
     line: usize,
 ) -> Result<bool, AllocError>
-    requires { line < length universe.now.offers.items }
+    requires there { line < length universe.now.offers.items }
+    requires blamed { map (λ a. atom_value a.now) blamed.now ≡
+        blamed_for (universe_of universe.now) choice.now.choice (obligation_of obligation.now) }
     ensures { IfOk result (λ it. it ≡ rests_on (universe_of universe.now) choice.now.choice
         (obligation_of obligation.now) line) }
 {
     let offer = offer_at(universe, line);
     match *obligation {
-        Obligation::Wanted(atom) => Ok(offers_named(atom, offer)),
+        Obligation::Wanted(atom) => Ok(can_match(atom, &Flags::new(alloc), offer)),
         Obligation::Required(own) => Ok(own == line),
         Obligation::Conflict(own, other) => Ok(own == line || other == line),
-        Obligation::Tree(own, class) => {
-            if own == line {
-                return Ok(true);
-            }
-            may_serve(alloc, package_at(universe, choice, own), class, offer)
+        Obligation::Tree(own, _) => {
+            Ok(own == line || may_serve(package_at(universe, choice, own), blamed, offer))
         }
         Obligation::Absence(own) => {
             if own == line {
@@ -233,31 +234,39 @@ fn is_part(
     universe: &Universe,
     choice: &Marked,
     obligation: &Obligation<'_>,
+    blamed: &[&Atom],
     line: usize,
 ) -> Result<bool, AllocError>
-    requires { line < length universe.now.offers.items }
+    requires there { line < length universe.now.offers.items }
+    requires blamed { map (λ a. atom_value a.now) blamed.now ≡
+        blamed_for (universe_of universe.now) choice.now.choice (obligation_of obligation.now) }
     ensures { IfOk result (λ it. it ≡ (is_some (decided choice.now.choice line) &&
         rests_on (universe_of universe.now) choice.now.choice (obligation_of obligation.now) line)) }
 {
     match choice.decided(line) {
         None => Ok(false),
-        Some(_) => rests_on(alloc, universe, choice, obligation, line),
+        Some(_) => rests_on(alloc, universe, choice, obligation, blamed, line),
     }
 }
 
-/// The decided lines on which it rests that the obligation is open, in their order.
+/// The decided lines on which it rests that the obligation is open, in their order. What stands on
+/// the lines under the choice is given.
 pub(crate) fn reason_of(
     alloc: Global,
     universe: &Universe,
     choice: &Marked,
+    around: &Around<'_, '_>,
     obligation: &Obligation<'_>,
 ) -> Result<Vec<usize>, AllocError>
+    requires { places_of around.now.places.now ≡
+        places (universe_of universe.now) choice.now.choice }
     ensures { IfOk result (λ v. v.items ≡ reason (universe_of universe.now) choice.now.choice
         (obligation_of obligation.now)) }
 {
+    let blamed = blamed_for(alloc, universe, choice, around, obligation)?;
     let mut lines = Vec::new(alloc);
     for line in 0..universe.offers.len() {
-        if is_part(alloc, universe, choice, obligation, line)? {
+        if is_part(alloc, universe, choice, obligation, &blamed, line)? {
             lines.push(line)?;
         }
     }

@@ -295,7 +295,7 @@ impl<'u> Walk<'u> {
         };
         let choice = self.choice(alloc)?;
         let marked = Marked::new(alloc, choice, self.places.len())?;
-        let lines = reason_of(alloc, self.universe, &marked, &obligation)?;
+        let lines = reason_of(alloc, self.universe, &marked, &self.around(), &obligation)?;
         Ok(lines)
     }
 }
