@@ -1,17 +1,12 @@
 -- How a run's outcome comes of its stages.
-use Rattle.std.proofs.Common.{◌≡◌, ◌∙◌, ◌⊎◌, ℕ, Bool, true, false, List, [], Option, None, Some, inl, inr, length, refl, ap, sym, subst}
-use Rattle.std.specs.Prelude.{if◌then◌else◌}
+use Rattle.std.proofs.Common.{◌≡◌, ◌∙◌, ◌⊎◌, ℕ, List, [], Option, None, Some, inl, inr, length, refl, ap, sym, subst}
 use Rattle.file_tree.specs.Disk.{IsUntouched, Map, Story}
 use Rattle.file_tree.specs.Moments.{Since}
-use Rattle.file_tree.specs.Paths.{is_below}
 use Rattle.file_tree.proofs.Moments.{since_same, since_start, since_then, since_weaker}
 use Rattle.file_tree.specs.declared.limits.Quantity.TheVariants.{Candidates, Groups, Packages, Paths, RecordBytes}
 use Rattle.dep_atom.specs.declared.package.PackageId.{PackageId}
 use Rattle.vdb_law.specs.Packages.{Installed}
-use Rattle.merge_journal.specs.Group as journal
-use Rattle.merge_journal.specs.Group.{applied}
 use Rattle.merge_core.specs.Trail.{IsAtRest}
-use Rattle.file_tree.specs.Fixed.{jobs}
 use Rattle.merge_journal.specs.Recovered.{IsRecovered}
 use Rattle.merge_fit.specs.declared.fault.ImageBad.{ImageBad}
 use Rattle.recovery.specs.Promise as promises
@@ -19,17 +14,16 @@ use Rattle.recovery.specs.Promise.{IsFaultOf}
 use Rattle.file_tree.specs.declared.fault.TreeFault.TheVariants as trees
 use Rattle.recovery.specs.declared.fault.RecoverFault.{RecoverFault}
 use Rattle.recovery.specs.declared.fault.RecoverFault.TheVariants as recovery
-use Rattle.merge_group.specs.Applied.{LeavesWith, ReadsWith, RecoversWith}
+use Rattle.merge_group.specs.Applied.{RecoversWith}
 use Rattle.law_run.specs.Ends.{IsImageOrAlike}
 use Rattle.plan_law.specs.Plans.{Group}
 use Rattle.emerge_find.specs.declared.asked.Asked.{Asked}
 use Rattle.run_turns.specs.declared.job.Job.{Job}
 use Rattle.run_plan.specs.Runs.{upto}
-use Rattle.run_sound.specs.Ends.{Course, Images, IsReached, IsRunOf}
+use Rattle.run_sound.specs.Ends.{AreMade, Course, Images, IsReached}
 use Rattle.emerge_run.specs.Answers.{Asks, AsksEarly, AsksMerge, AsksPlan}
 use Rattle.emerge_run.specs.Outcomes.{EndsEarly, HasRecovered, IsChoice, IsChosenFor, IsEarly, IsOfMerge, IsOfTree, IsRefusal, IsToShow, KeepsJournal, MergedTo, Outcome}
 use Rattle.emerge_run.specs.Openings.{HasPlan, IsUnread}
-use Rattle.emerge_run.specs.Package.{AreMade, Making}
 use Rattle.emerge_run.specs.Words.{AskForMerge, AskForOther, EndsAtWords, IsOfWords, IsRequest, IsUsage}
 use Rattle.emerge_words.specs.declared.request.WordFault.{WordFault}
 use Rattle.merge_report.specs.Faults.{status_of_recovery}
@@ -235,47 +229,40 @@ early_asks words opening Image status.Memory of asks = tt
 early_asks words opening Image (status.NotBuilt part.Command) of asks = asks
 early_asks words opening Image (status.NotBuilt part.Result) of asks = asks
 
--- a tree at rest reads as itself, with no group
-rest_reads : (m : Map) → ((q : List ℕ) → is_below jobs q ≡ true → m q ≡ None) → (q : List ℕ) → m q ≡ applied m [] q
-rest_reads m empty q = at (is_below jobs q) refl
-  where
-    at : (b : Bool) → is_below jobs q ≡ b → m q ≡ applied m [] q
-    at true e = empty q e ∙ sym (ap (λ (b : Bool). if b then None else m q) e)
-    at false e = sym (ap (λ (b : Bool). if b then None else m q) e)
-
 -- a run came to this answer, which is asked for, and leaves this
-abbrev pub Comes : List (List ℕ) → Images → Story → Story → List ℕ → Status → Type 0
-Comes words Image old new history s = Asks words old.now.holds Image history s × Outcome words Image old new history s
+abbrev pub Comes : List (List ℕ) → Images → Option (List Group) → Story → Story → List ℕ → Status → Type 0
+Comes words Image back old new history s = Asks words old.now.holds Image history s × Outcome words Image back old new history s
 
-module _ (words : List (List ℕ)) (Image : Images) (old new : Story) (s : Status) where
+module _ (words : List (List ℕ)) (Image : Images) (back : Option (List Group)) (old new : Story) (s : Status) where
+  -- nothing is merged
+  abbrev nothing : Option (Course (IsChoice words) Image old.now.holds)
+  nothing = None
+
   -- a run that merged nothing
-  outcome_kept : Asks words old.now.holds Image [] s → Since (IsImageOrAlike old.now) old new → (IsOfTree s → HasRecovered old new) → (IsOfWords s → new ≡ old) → KeepsJournal old new s → Comes words Image old new [] s
+  outcome_kept : Asks words old.now.holds Image [] s → Since (IsImageOrAlike old.now) old new → (IsOfTree s → HasRecovered old new) → (IsOfWords s → new ≡ old) → KeepsJournal old new s → Comes words Image back old new [] s
   outcome_kept asks since tree unchanged journal = (
     asks,
     record {
-      moments = since_weaker (IsImageOrAlike old.now) (IsReached (IsChoice words) Image [] old.now) (λ c h. inl (refl, h)) old new since;
+      course = nothing;
+      plan = tt;
+      moments = since_weaker (IsImageOrAlike old.now) (IsReached old.now nothing []) (λ c h. inl (refl, h)) old new since;
       crash = λ c is. inl (refl, since.now c is);
       left = λ healthy. inl (refl, since.now);
-      tree = λ of.
-          let has = tree of in (
-            new.now.holds,
-            has.recovered,
-            (None, record { groups = []; of = λ x there. absurd there; are = refl; reads = rest_reads new.now.holds has.rest.empty; untouched = has.rest.untouched }),
-          );
+      tree = λ of. let has = tree of in inl (refl, record { recovered = has.recovered; settled = has.rest.untouched });
       unchanged = unchanged;
       journal = journal;
     },
   )
 
-  outcome_early : IsEarly s → EndsEarly words old new s → Comes words Image old new [] s
+  outcome_early : IsEarly s → EndsEarly words old new s → Comes words Image back old new [] s
   outcome_early of ends = outcome_kept (early_asks words old.now.holds Image s of ends.answer) ends.moments ends.tree ends.unchanged ends.journal
 
-  outcome_over : HasRecovered old new → (IsOfWords s → ⊥) → KeepsJournal old new s → Asks words old.now.holds Image [] s → Comes words Image old new [] s
+  outcome_over : HasRecovered old new → (IsOfWords s → ⊥) → KeepsJournal old new s → Asks words old.now.holds Image [] s → Comes words Image back old new [] s
   outcome_over has other journal asks = outcome_kept asks has.moments (λ of. has) (λ of. absurd (other of)) journal
 
 -- a run that merged nothing has no history
-outcome_none : (words : List (List ℕ)) (Image : Images) (old new : Story) (history : List ℕ) (s : Status) → history ≡ [] → Comes words Image old new [] s → Comes words Image old new history s
-outcome_none words Image old new history s none comes = subst (λ (h : List ℕ). Comes words Image old new h s) (sym none) comes
+outcome_none : (words : List (List ℕ)) (Image : Images) (back : Option (List Group)) (old new : Story) (history : List ℕ) (s : Status) → history ≡ [] → Comes words Image back old new [] s → Comes words Image back old new history s
+outcome_none words Image back old new history s none comes = subst (λ (h : List ℕ). Comes words Image back old new h s) (sym none) comes
 
 -- ---- a plan that is only shown, and one without groups
 
@@ -300,19 +287,19 @@ shown_keeps : (old new : Story) (s : Status) → (s ≡ status.Ok 0) ⊎ (s ≡ 
 shown_keeps old new s (inl ok) = subst (KeepsJournal old new) (sym ok) tt
 shown_keeps old new s (inr fault) = subst (KeepsJournal old new) (sym fault) tt
 
-module _ (words : List (List ℕ)) (Image : Images) (old mid : Story) (history : List ℕ) (none : history ≡ []) where
-  pub outcome_shown : (ps : List Installed) (text : List ℕ) (plan : List Group) (s : Status) → HasRecovered old mid → IsToShow words mid.now.holds ps text plan → (s ≡ status.Ok 0) ⊎ (s ≡ status.OutputFault) → Comes words Image old mid history s
+module _ (words : List (List ℕ)) (Image : Images) (back : Option (List Group)) (old mid : Story) (history : List ℕ) (none : history ≡ []) where
+  pub outcome_shown : (ps : List Installed) (text : List ℕ) (plan : List Group) (s : Status) → HasRecovered old mid → IsToShow words mid.now.holds ps text plan → (s ≡ status.Ok 0) ⊎ (s ≡ status.OutputFault) → Comes words Image back old mid history s
   outcome_shown ps text plan s has is ends =
-      outcome_none words Image old mid history s none (outcome_over words Image old mid s has (shown_not_of_words s ends) (shown_keeps old mid s ends)
+      outcome_none words Image back old mid history s none (outcome_over words Image back old mid s has (shown_not_of_words s ends) (shown_keeps old mid s ends)
       (shown_asks words old.now.holds mid.now.holds Image ps text plan s has.recovered is ends))
 
-  pub outcome_rest : (ps : List Installed) (plan : List Group) → HasRecovered old mid → IsChoice words mid.now.holds ps plan [] → plan ≡ [] → Comes words Image old mid history (status.Ok 0)
+  pub outcome_rest : (ps : List Installed) (plan : List Group) → HasRecovered old mid → IsChoice words mid.now.holds ps plan [] → plan ≡ [] → Comes words Image back old mid history (status.Ok 0)
   outcome_rest ps plan has choice empty =
-      outcome_none words Image old mid history (status.Ok 0) none (outcome_over words Image old mid (status.Ok 0) has (λ of. of) tt
+      outcome_none words Image back old mid history (status.Ok 0) none (outcome_over words Image back old mid (status.Ok 0) has (λ of. of) tt
       (rest_asks words old.now.holds mid.now.holds Image ps plan has.recovered choice empty))
 
-  pub outcome_unfound : (s : Status) → EndsEarly words old mid s → IsEarly s → Comes words Image old mid history s
-  outcome_unfound s ends early = outcome_none words Image old mid history s none (outcome_early words Image old mid s early ends)
+  pub outcome_unfound : (s : Status) → EndsEarly words old mid s → IsEarly s → Comes words Image back old mid history s
+  outcome_unfound s ends early = outcome_none words Image back old mid history s none (outcome_early words Image back old mid s early ends)
 
 -- ---- a run that merges a plan
 
@@ -344,20 +331,12 @@ module _ (words : List (List ℕ)) (Image : Images) (old mid new : Story) (ps : 
   abbrev m : Map
   m = mid.now.holds
 
-  -- what was made is what the run merges
-  abbrev course : Option (Making Image ps plan js m) → Option (Course (IsChoice words) Image m)
-  course None = None
-  course (Some k) = Some (record { packages = ps; plan = plan; jobs = js; book = k.book; groups = k.groups; turns = k.turns; chosen = choice; made = k.is })
+  -- what the run merges
+  abbrev merges : Course (IsChoice words) Image old.now.holds
+  merges = record { tree = m; recovered = has.recovered; packages = ps; plan = plan; jobs = js; chosen = choice; made = merged.made }
 
   abbrev Reached : List ℕ → Map → Type 0
-  Reached among c = IsReached (IsChoice words) Image among old.now c
-
-  same_run : (k : Option (Making Image ps plan js m)) (P : (List journal.Group → Type 0) → Type 0) → P (AreMade k) → P (IsRunOf (course k))
-  same_run None P h = h
-  same_run (Some k) P h = h
-
-  reached : (among : List ℕ) (c : Map) → RecoversWith (AreMade merged.made) m among c → Reached among c
-  reached among c h = inr (m, has.recovered, (course merged.made, same_run merged.made (λ Run. RecoversWith Run m among c) h))
+  Reached among c = IsReached old.now (Some merges) among c
 
   whole : IsChosenFor words m ps choice.0 → AsksPlan choice.1.asked m Image history s
   whole chosen = record {
@@ -373,15 +352,17 @@ module _ (words : List (List ℕ)) (Image : Images) (old mid new : Story) (ps : 
       let chosen = choice.1 in
       merge_asks words old.now.holds m Image history chosen.asked chosen.is has.recovered ps plan js s asks (whole chosen)
 
-  pub outcome_merged : Comes words Image old new history s
-  outcome_merged = (
+  pub outcome_merged : (back : Option (List Group)) → back ≡ Some plan → Comes words Image back old new history s
+  outcome_merged back same = (
     answered,
     record {
+      course = Some merges;
+      plan = same;
       moments = since_then (Reached []) old mid new (since_weaker (IsImageOrAlike old.now) (Reached []) (λ c h. inl (refl, h)) old mid has.moments)
-          (since_weaker (RecoversWith (AreMade merged.made) m []) (Reached []) (λ c h. reached [] c h) mid new merged.moments);
-      crash = λ c k. reached history c (merged.crash c k);
-      left = λ healthy. inr (m, has.recovered, (course merged.made, same_run merged.made (λ Run. LeavesWith Run m history new.now) (merged.left healthy)));
-      tree = λ of_tree. (m, has.recovered, (course merged.made, same_run merged.made (λ Run. ReadsWith Run m history new.now) (merged.tree (λ e. subst IsOfTree e of_tree) (λ e. subst IsOfTree e of_tree))));
+          (since_weaker (RecoversWith (AreMade merged.made) m []) (Reached []) (λ c h. inr h) mid new merged.moments);
+      crash = λ c k. inr (merged.crash c k);
+      left = λ healthy. inr (merged.left healthy);
+      tree = λ of_tree. inr (merged.tree (λ e. subst IsOfTree e of_tree) (λ e. subst IsOfTree e of_tree));
       unchanged = λ of_words. absurd (merge_not_of_words s of of_words);
       journal = merge_keeps old new s of;
     },

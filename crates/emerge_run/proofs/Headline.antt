@@ -1,5 +1,6 @@
 -- The headline of a run, from its outcome.
-use Rattle.std.proofs.Common.{◌≡◌, ◌∙◌, ℕ, List, [], ◌∷◌, inl, inr, refl, ap, subst, sym}
+use Rattle.std.proofs.Common.{◌≡◌, ◌⊎◌, ◌∙◌, ℕ, List, [], ◌∷◌, Option, None, Some, inl, inr, refl, ap, subst, sym}
+use Rattle.std.specs.Prelude.{IfSome}
 use Rattle.basics.specs.Members.{Has}
 use Rattle.basics.proofs.Each.{all_by_has}
 use Rattle.basics.proofs.Membership.{has-append_cases}
@@ -21,8 +22,9 @@ use Rattle.emerge_find.specs.Laws.{FoundPlansAreFit, IsFit}
 use Rattle.emerge_find.specs.declared.asked.Asked.{Asked}
 use Rattle.emerge_find.specs.declared.found.Found.{Found}
 use Rattle.run_turns.specs.Plans.{coming}
-use Rattle.run_sound.specs.Ends.{ChoosesPlans, FirstTurnsLeaveSoundTrees, Images, IsFitPlan, IsReached, StaysSound}
-use Rattle.run_sound.proofs.Ended.{all_ended, all_reached}
+use Rattle.run_sound.specs.Ends.{ChoosesPlans, Course, Images, IsFitPlan, IsReached, RunsLeaveSoundTrees, plan_of}
+use Rattle.run_sound.specs.Sound.{StaysSound}
+use Rattle.run_sound.proofs.Ended.{all_ended, all_reached, wanted}
 use Rattle.emerge_run.specs.Headline.{Headline, TurnsOn}
 use Rattle.emerge_run.specs.Outcomes.{IsChoice, IsChosenFor, IsWantedPlan, Outcome}
 use Rattle.merge_report.specs.declared.status.Status.{Status}
@@ -75,13 +77,30 @@ chooses_plans fits words flags m ps on sound qs plan jobs (found, chosen, plan_i
       subst (IsFitPlan flags ps) plan_is (is_plan flags m ps on sound chosen.asked found is (fits m chosen.asked found is)),
     )
 
-pub headline_of : (law : FirstTurnsLeaveSoundTrees) (fits : FoundPlansAreFit) (words : List (List ℕ)) (Image : Images) (old new : Story) (history : List ℕ) (s : Status)
-    → Outcome words Image old new history s → (m : Map) (ps : List Installed) (flags : List (List ℕ)) → TurnsOn m flags → BeginsWith flags old.now m ps → Headline words flags m ps old new history s
-headline_of law fits words Image old new history s outcome m ps flags on begins =
-    let fit = chooses_plans fits words flags m ps on begins.sound in
-    let reached = all_reached law flags (IsChoice words) Image old.now m ps (IsWantedPlan words m ps) fit begins in
-    record {
-      moments = since_weaker (IsReached (IsChoice words) Image [] old.now) (StaysSound flags ps (IsWantedPlan words m ps) []) (λ c h. reached [] c h) old new outcome.moments;
-      crash = λ c is. reached history c (outcome.crash c is);
-      tree = λ of. all_ended law flags (IsChoice words) Image old.now m ps (IsWantedPlan words m ps) fit begins history new.now (outcome.tree of);
-    }
+module _ (law : RunsLeaveSoundTrees) (fits : FoundPlansAreFit) (words : List (List ℕ)) (Image : Images) (back : Option (List Group)) (old new : Story) (history : List ℕ) (s : Status)
+    (outcome : Outcome words Image back old new history s) (m : Map) (ps : List Installed) (flags : List (List ℕ)) (on : TurnsOn m flags) (begins : BeginsWith flags old.now m ps) where
+  abbrev course : Option (Course (IsChoice words) Image old.now.holds)
+  course = outcome.course
+
+  fit : ChoosesPlans flags (IsChoice words) m ps (IsWantedPlan words m ps)
+  fit = chooses_plans fits words flags m ps on begins.sound
+
+  reached : (among : List ℕ) (c : Map) → IsReached old.now course among c → StaysSound flags ps (plan_of course) among c
+  reached among c h = all_reached law flags (IsChoice words) Image old.now m ps (IsWantedPlan words m ps) fit begins course among c h
+
+  found_of : (k : Option (Course (IsChoice words) Image old.now.holds)) → IfSome k (λ x. back ≡ Some x.plan) → (plan_of k ≡ []) ⊎ ((back ≡ Some (plan_of k)) × IsWantedPlan words m ps (plan_of k))
+  found_of None same = inl refl
+  found_of (Some k) same = inr (same, wanted law flags (IsChoice words) Image old.now m ps (IsWantedPlan words m ps) fit begins k)
+
+  headline : Headline words flags m ps back old new history s
+  headline = record {
+    plan = plan_of course;
+    found = found_of course outcome.plan;
+    moments = since_weaker (IsReached old.now course []) (StaysSound flags ps (plan_of course) []) (λ c h. reached [] c h) old new outcome.moments;
+    crash = λ c is. reached history c (outcome.crash c is);
+    tree = λ of. all_ended law flags (IsChoice words) Image old.now m ps (IsWantedPlan words m ps) fit begins course history new.now (outcome.tree of);
+  }
+
+pub headline_of : (law : RunsLeaveSoundTrees) (fits : FoundPlansAreFit) (words : List (List ℕ)) (Image : Images) (back : Option (List Group)) (old new : Story) (history : List ℕ) (s : Status)
+    → Outcome words Image back old new history s → (m : Map) (ps : List Installed) (flags : List (List ℕ)) → TurnsOn m flags → BeginsWith flags old.now m ps → Headline words flags m ps back old new history s
+headline_of law fits words Image back old new history s outcome m ps flags on begins = headline law fits words Image back old new history s outcome m ps flags on begins

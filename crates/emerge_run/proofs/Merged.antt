@@ -31,10 +31,10 @@ use Rattle.run_turns.specs.declared.job.Job.{Job}
 use Rattle.run_plan.specs.Runs.{SaysBuild, WentFor, WentOn, merge_end, upto}
 use Rattle.run_plan.specs.declared.stop.PlanStop.{PlanStop}
 use Rattle.run_plan.specs.declared.stop.PlanStop.TheVariants as plans
-use Rattle.run_sound.specs.Ends.{Images}
+use Rattle.run_sound.specs.Ends.{AreMade, Images, Making}
 use Rattle.emerge_run.specs.Answers.{AsksMerge}
 use Rattle.emerge_run.specs.Outcomes.{IsOfMerge, IsTold, MergedTo}
-use Rattle.emerge_run.specs.Package.{AreMade, Making, StopsAt}
+use Rattle.emerge_run.specs.Package.{StopsAt}
 use Rattle.emerge_run.specs.Collisions.{ids_with, owned_by, status_of_collision}
 use Rattle.emerge_run.specs.Refusals.{EndsAtCollision, IsStatusOf, status_of_claim, status_of_end, status_of_stop}
 use Rattle.merge_report.specs.declared.collision.Collision.{Collision}

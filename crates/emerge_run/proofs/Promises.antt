@@ -15,7 +15,7 @@ use Rattle.file_tree.specs.declared.traits.Tree.{Ghosts as Tree}
 use Rattle.vdb_law.specs.Packages.{Installed}
 use Rattle.merge_core.specs.CoreValue.{CoreValue}
 use Rattle.merge_group.specs.Applied.{number}
-use Rattle.file_tree.specs.Output.{Wrote}
+use Rattle.file_tree.specs.Output.{IsBeginning, Wrote}
 use Rattle.merge_group.specs.Went.{HaveRun}
 use Rattle.merge_group.proofs.Rising.{rose_earlier, rose_later}
 use Rattle.merge_image.specs.Images.{IsBuilt, IsPastLimit}
@@ -27,6 +27,7 @@ use Rattle.plan_law.specs.Plans.{Group}
 use Rattle.run_turns.specs.Plans.{orders_at}
 use Rattle.run_plan.specs.Merges.{MergesPlan}
 use Rattle.run_plan.specs.Runs.{upto}
+use Rattle.run_plan.proofs.Promised.{nothing_begins}
 use Rattle.run_plan.specs.declared.merge.Merged.{Merged}
 use Rattle.run_plan.specs.declared.merge.Task.{Task}
 use Rattle.run_sound.specs.Ends.{HasGroups, Images}
@@ -42,7 +43,7 @@ use Rattle.emerge_run.specs.Collisions.{ids_with}
 use Rattle.emerge_run.specs.Commands.{RunsCommand}
 use Rattle.emerge_run.specs.Merges.{MergesTask}
 use Rattle.emerge_run.specs.Openings.{AreInstalled, AreInstalledAfter, GivesBack, HasPlan, HasRead, HasTooMuchAfter, IsUnread}
-use Rattle.emerge_run.specs.Outcomes.{EndsEarly, HasRecovered, IsChoice, IsEarly, IsNamed, IsOfMerge, IsOfTree, IsPlanOf, IsRefusal, IsTold, IsToDo, KeepsJournal}
+use Rattle.emerge_run.specs.Outcomes.{EndsEarly, HasRecovered, IsEarly, IsNamed, IsOfMerge, IsOfTree, IsPlanOf, IsRefusal, IsTold, IsToDo, KeepsJournal}
 use Rattle.emerge_run.specs.Output.{IsCut, IsSaid}
 use Rattle.emerge_run.specs.Package.{IsTask}
 use Rattle.emerge_run.specs.Refusals.{IsStatusOf}
@@ -72,6 +73,16 @@ counts_for P Q a b to counts = record { later = counts.later; rose = λ q. count
 counts_before : (P : Type 0) (a b d : ℕ) → a ≤ b → CountsFault P b d → CountsFault P a d
 counts_before P a b d le counts = let later = counts.later in record { later = omega (arith, le, later); rose = λ p. rose_earlier a b d le (counts.rose p) }
 
+-- the plan that comes back is this one
+some_plan : (plan : List Group) (o : Option (List Group)) → MatchOption o ⊥ (λ p. p ≡ plan) → o ≡ Some plan
+some_plan plan None is = absurd is
+some_plan plan (Some p) is = ap Some is
+
+-- without a history there are no first groups
+first_none : (o : Option (List Group)) (history : List ℕ) → history ≡ [] → IfSome o (λ p. IsBeginning (upto (length p)) history)
+first_none None history none = tt
+first_none (Some p) history none = nothing_begins (upto (length p)) history none
+
 -- a machine with this history has it as its order
 machine_order : (N : Type 0) (gs history : List ℕ) (n : ℕ) (o : Option CoreValue) → MatchOption o N (HaveRun gs n history) → MatchOption o N (λ k. history ≡ map number k.order)
 machine_order N gs history n None none = none
@@ -99,6 +110,7 @@ module _ {T S B : Type 0} (trees : Tree T) (sinks : Sink S) (builders : Builder 
       record {
         answer = record {
           asked = λ t. asked_so Image ps plan jobs task.book old last (is_task.owners t) history Failed r.end s is (run.tree t) a.merged (builds_end builders.told pool.resting builders.tells Failed jobs history r.end a.build);
+          first = a.first;
           of = end_of_merge ids n r.end s is;
           ok = λ k ok. (all_counted r.end n k history a.merged (ok_ended ids n r.end s is k ok), told_ended ids n r.end s is a.all_told a.so_far (subst IsTold (sym ok) tt));
           kept = a.kept;
@@ -271,13 +283,14 @@ module _ {T S B : Type 0} (trees : Tree T) (sinks : Sink S) (builders : Builder 
       let s = run.status in
       let new = trees.story mid in
       let w = work.Merge plan task in
-      let comes : IsTrue trees.tells → Comes words Image old (trees.story run.tree) run.history.items s = λ t.
-      outcome_merged words Image old new (trees.story run.tree) ps plan task.jobs.items run.history.items s (recovered t) (todo t) (a.asked t) a.of (merges.tree t) in
+      let comes : IsTrue trees.tells → Comes words Image run.plan old (trees.story run.tree) run.history.items s = λ t.
+      outcome_merged words Image old new (trees.story run.tree) ps plan task.jobs.items run.history.items s (recovered t) (todo t) (a.asked t) a.of (merges.tree t) run.plan (some_plan plan run.plan merges.back.plan) in
       let beside : IsTrue trees.tells → AreInstalledAfter before run.opening.items = λ t. beside_work words old new ps run.opening.items w (recovered t) (todo t) merges.back.opening in
       let there = is_there (λ p. p ≡ plan) run.plan merges.back.plan in
       record {
         answer = record {
           asked = λ t. (comes t).0;
+          first = subst (λ (o : Option (List Group)). IfSome o (λ p. IsBeginning (upto (length p)) run.history.items)) (sym (some_plan plan run.plan merges.back.plan)) a.first;
           ok = a.ok;
           refused = λ of. absurd (merge_not_refused s a.of of);
           kept = a.kept;
@@ -310,7 +323,7 @@ module _ {T S B : Type 0} (trees : Tree T) (sinks : Sink S) (builders : Builder 
     abbrev idle : Ended T S (PoolValue B)
     idle = record { status = s; tree = mid; out = said; pool = pool; opening = opening; plan = plan; machine = None; history = history; acknowledged = acknowledged }
 
-    runs_idle : (IsTrue trees.tells → Comes words Image old (trees.story mid) history.items s) → ((n : ℕ) → s ≡ status.Ok n → n ≡ 0) → ((f : WordFault) → s ≡ status.Usage f → IsUsage words f)
+    runs_idle : (IsTrue trees.tells → Comes words Image plan old (trees.story mid) history.items s) → ((n : ℕ) → s ≡ status.Ok n → n ≡ 0) → ((f : WordFault) → s ≡ status.Usage f → IsUsage words f)
         → (¬ AskForMerge words → IsOfWords s ⊎ (s ≡ status.Memory)) → ((id : PackageId) → ¬ (s ≡ status.BuildFailed id)) → CountsFault (s ≡ status.DeviceFault) (trees.faults tree) (trees.faults mid)
         → CountsFault (s ≡ status.OutputFault) (sinks.faults out) (sinks.faults said) → (IsTrue sinks.tells → Wrote (IsSaid (Rose (sinks.faults out) (sinks.faults said)) words trees.tells before history.items acknowledged.items s) (sinks.written out) (sinks.written said))
         → (IsTrue trees.tells → GivesBack (AreInstalledAfter before) (HasTooMuchAfter before) s opening.items) → (IsUnread s → opening.items ≡ []) → (IsTrue trees.tells → IfSome plan (IsPlanOf words before)) → (HasPlan s → ¬ (plan ≡ None))
@@ -318,6 +331,7 @@ module _ {T S B : Type 0} (trees : Tree T) (sinks : Sink S) (builders : Builder 
     runs_idle comes zero usage no_merge not_built device output written gives unread is_plan planned = record {
       answer = record {
         asked = λ t. (comes t).0;
+        first = first_none plan history.items none;
         ok = λ n e. (zero n e ∙ sym (ap length none), untold ∙ sym none);
         refused = λ of. none;
         kept = inl (untold ∙ sym none);
@@ -347,7 +361,7 @@ module _ {T S B : Type 0} (trees : Tree T) (sinks : Sink S) (builders : Builder 
 
     -- .. since its plan has no group, or is only shown
     runs_resting : (w : Work) → ChoosesWork trees words tree mid (as_seen opening (Ok w)) → MatchOption plan ⊥ (λ p. p ≡ plan_in w) → (s ≡ status.Ok 0) ⊎ (s ≡ status.OutputFault)
-        → (IsTrue trees.tells → Comes words Image old (trees.story mid) history.items s) → CountsFault (s ≡ status.OutputFault) (sinks.faults out) (sinks.faults said)
+        → (IsTrue trees.tells → Comes words Image plan old (trees.story mid) history.items s) → CountsFault (s ≡ status.OutputFault) (sinks.faults out) (sinks.faults said)
         → (IsTrue sinks.tells → Wrote (IsSaid (Rose (sinks.faults out) (sinks.faults said)) words trees.tells before history.items acknowledged.items s) (sinks.written out) (sinks.written said)) → RunsCommand trees sinks builders false words tree out pool idle
     runs_resting w chooses is_plan ends comes output written =
         runs_idle comes (λ n e. elim ends [ inl ok ↦ (let q : 0 ≡ n = cc (ok, e) in sym q) | inr fault ↦ absurd (cc (fault, e)) ]) (λ f e. absurd (elim ends [ inl ok ↦ cc (ok, e) | inr fault ↦ cc (fault, e) ]))
@@ -365,7 +379,7 @@ module _ {T S B : Type 0} (trees : Tree T) (sinks : Sink S) (builders : Builder 
       let history = run.history in
       let told = run.acknowledged in
       subst (RunsCommand trees sinks builders false words tree out pool) (sym is) (runs_resting mid said opening (Some plan) history told s none untold (work.Show text plan) chooses refl ends
-      (λ t. outcome_shown words Image old (trees.story mid) history.items none opening.items (string_bytes text) plan s (chooses.tree t) (chooses.answer.found t) ends) output
+      (λ t. outcome_shown words Image (Some plan) old (trees.story mid) history.items none opening.items (string_bytes text) plan s (chooses.tree t) (chooses.answer.found t) ends) output
       (λ t. wrote_showing _ words trees.tells before (string_bytes text) history.items told.items s (sinks.written out) (sinks.written said) chooses.answer.work none (written t)))
 
   -- one whose plan has no group
@@ -375,7 +389,7 @@ module _ {T S B : Type 0} (trees : Tree T) (sinks : Sink S) (builders : Builder 
       let history = run.history in
       let told = run.acknowledged in
       subst (RunsCommand trees sinks builders false words tree out pool) (sym is) (runs_resting mid out opening (Some plan) history told (status.Ok 0) none untold (work.Rest plan) chooses refl (inl refl)
-      (λ t. (let todo = chooses.answer.found t in outcome_rest words Image old (trees.story mid) history.items none opening.items plan (chooses.tree t) todo.0 todo.1)) (record { later = omega arith; rose = λ e. absurd (cc e) })
+      (λ t. (let todo = chooses.answer.found t in outcome_rest words Image (Some plan) old (trees.story mid) history.items none opening.items plan (chooses.tree t) todo.0 todo.1)) (record { later = omega arith; rose = λ e. absurd (cc e) })
       (λ t. wrote_resting _ words trees.tells before plan history.items told.items (status.Ok 0) (sinks.written out) (sinks.written out) chooses.answer.work none untold refl))
 
   -- a command that finds no plan
@@ -388,7 +402,7 @@ module _ {T S B : Type 0} (trees : Tree T) (sinks : Sink S) (builders : Builder 
       let early : IsEarly s = a.early in
       let not : (x : Status) → s ≡ x → IsEarly x = λ x e. subst IsEarly e early in
       subst (RunsCommand trees sinks builders false words tree out pool) (sym is) (runs_idle mid out opening None history told s none untold
-      (λ t. outcome_unfound words Image old (trees.story mid) history.items none s (chooses.tree t) early) (λ n e. absurd (not (status.Ok n) e)) (λ f e. a.usage f (ap Err e)) a.no_merge (λ id e. not (status.BuildFailed id) e)
+      (λ t. outcome_unfound words Image None old (trees.story mid) history.items none s (chooses.tree t) early) (λ n e. absurd (not (status.Ok n) e)) (λ f e. a.usage f (ap Err e)) a.no_merge (λ id e. not (status.BuildFailed id) e)
       (counts_for _ (s ≡ status.DeviceFault) (trees.faults tree) (trees.faults mid) (λ e. ap Err e) a.device)
       (record { later = omega arith; rose = λ e. absurd (not status.OutputFault e) }) (λ t. wrote_nothing _ words trees.tells before history.items told.items s (sinks.written out) (sinks.written out) early none refl)
       chooses.back.opening chooses.back.unread (λ t. tt) (λ of. absurd (early_no_plan s early of)))
@@ -418,6 +432,7 @@ module _ {T S B : Type 0} (trees : Tree T) (sinks : Sink S) (builders : Builder 
         record {
           answer = record {
             asked = λ t. keeps (Asks words before Image history) (a.asked t) tt tt;
+            first = a.first;
             ok = keeps (λ x. (n : ℕ) → x ≡ status.Ok n → (n ≡ length history) × (told ≡ history)) a.ok (λ n e. absurd (cc e)) (λ n e. absurd (cc e));
             refused = keeps (λ x. IsRefusal x → history ≡ []) a.refused (λ of. absurd of) (λ of. absurd of);
             kept = a.kept;
@@ -436,10 +451,12 @@ module _ {T S B : Type 0} (trees : Tree T) (sinks : Sink S) (builders : Builder 
               let o = runs.tree t in
               let new = trees.story run.tree in
               record {
+                course = o.course;
+                plan = o.plan;
                 moments = o.moments;
                 crash = o.crash;
                 left = λ healthy. o.left (λ e. healthy (stays e));
-                tree = keeps (λ x. IsOfTree x → HasGroups (IsChoice words) Image history old.now new.now) o.tree (λ of. absurd of) (λ of. absurd of);
+                tree = keeps (λ x. IsOfTree x → HasGroups old.now o.course history new.now) o.tree (λ of. absurd of) (λ of. absurd of);
                 unchanged = keeps (λ x. IsOfWords x → new ≡ old) o.unchanged (λ of. absurd of) (λ of. absurd of);
                 journal = keeps (KeepsJournal old new) o.journal tt tt;
               };

@@ -9,8 +9,9 @@ use Rattle.file_tree.specs.declared.traits.Sink.{Ghosts as Sink}
 use Rattle.file_tree.specs.declared.traits.Tree.{Ghosts as Tree}
 use Rattle.merge_group.specs.Applied.{number}
 use Rattle.merge_group.specs.Lines.{AreTold}
-use Rattle.file_tree.specs.Output.{Wrote}
+use Rattle.file_tree.specs.Output.{IsBeginning, Wrote}
 use Rattle.merge_image.specs.Images.{IsBuilt}
+use Rattle.run_plan.specs.Runs.{upto}
 use Rattle.run_sound.specs.Ends.{Images}
 use Rattle.emerge_run.specs.Answers.{Asks}
 use Rattle.emerge_run.specs.Openings.{AreInstalledAfter, GivesBack, HasPlan, HasTooMuchAfter, IsUnread}
@@ -32,12 +33,14 @@ module _ {T S B : Type 0} (trees : Tree T) (sinks : Sink S) (builders : Builder 
   abbrev Image : Images
   Image = IsBuilt builders.tells builders.told pool.resting
 
-  -- The answer is the one that the words, the tree and the images ask for. Ok tells how many groups
-  -- the history has, and all of them are acknowledged; so are those of any history where the answer
-  -- tells why there is no more, and else its last one may not be. Each answer but want of memory
-  -- has its cause, and each failure was counted.
+  -- The answer is the one that the words, the tree and the images ask for. The history is first
+  -- groups of the plan that comes back, since they are merged in its order. Ok tells how many
+  -- groups the history has, and all of them are acknowledged; so are those of any history where the
+  -- answer tells why there is no more, and else its last one may not be. Each answer but want of
+  -- memory has its cause, and each failure was counted.
   pub record AnswersCommand : Type 0 where
     pub asked : IsTrue trees.tells → Asks words before Image run.history.items run.status
+    pub first : IfSome run.plan (λ p. IsBeginning (upto (length p)) run.history.items)
     pub ok : (n : ℕ) → run.status ≡ status.Ok n →
         (n ≡ length run.history.items) × (run.acknowledged.items ≡ run.history.items)
     pub refused : IsRefusal run.status → run.history.items ≡ []
@@ -79,7 +82,7 @@ module _ {T S B : Type 0} (trees : Tree T) (sinks : Sink S) (builders : Builder 
   -- anything cut.
   pub record RunsCommand : Type 0 where
     pub answer : AnswersCommand
-    pub tree : IsTrue trees.tells → Outcome words Image (trees.story start)
+    pub tree : IsTrue trees.tells → Outcome words Image run.plan (trees.story start)
         (trees.story run.tree) run.history.items run.status
     pub written : IsTrue sinks.tells → Wrote (IsWritten last
         (sinks.faults out) (sinks.faults run.out) words trees.tells before

@@ -9,9 +9,10 @@ use Rattle.file_tree.specs.declared.traits.Tree.{Ghosts as Tree}
 use Rattle.vdb_law.specs.Packages.{Installed}
 use Rattle.merge_group.specs.Applied.{number}
 use Rattle.merge_group.specs.Lines.{AreLines, AreTold}
-use Rattle.file_tree.specs.Output.{Wrote}
+use Rattle.file_tree.specs.Output.{IsBeginning, Wrote}
 use Rattle.merge_image.specs.Images.{IsBuilt}
 use Rattle.plan_law.specs.Plans.{Group}
+use Rattle.run_plan.specs.Runs.{upto}
 use Rattle.run_plan.specs.declared.merge.Task.{Task}
 use Rattle.run_sound.specs.Ends.{Images}
 use Rattle.emerge_run.specs.Answers.{AsksMerge}
@@ -28,12 +29,13 @@ module _ {T S B : Type 0} (trees : Tree T) (sinks : Sink S) (builders : Builder 
   abbrev Image : Images
   Image = IsBuilt builders.tells builders.told pool.resting
 
-  -- The answer is the one that the groups ask for. Ok tells how many there are; all of the history
-  -- is told unless the device, the output or memory ended the merge, and then all but its last
-  -- group may be. Each failure was counted.
+  -- The answer is the one that the groups ask for. The history is first ones of them. Ok tells how
+  -- many there are; all of the history is told unless the device, the output or memory ended the
+  -- merge, and then all but its last group may be. Each failure was counted.
   pub record AnswersMerge : Type 0 where
     pub asked : IsTrue trees.tells → AsksMerge Image installed groups task.jobs.items
         (trees.story start).now.holds run.history.items run.status
+    pub first : IsBeginning (upto (length groups)) run.history.items
     pub of : IsOfMerge run.status
     pub ok : (n : ℕ) → run.status ≡ status.Ok n →
         (n ≡ length run.history.items) × (run.acknowledged.items ≡ run.history.items)

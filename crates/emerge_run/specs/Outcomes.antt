@@ -1,5 +1,5 @@
 -- What a run leaves: its tree, and its groups.
-use Rattle.std.specs.Prelude.{◌≡◌, ◌≢◌, ◌⊎◌, true, false, ℕ, Bool, List, [], IsTrue, Option, string_bytes, ⊤}
+use Rattle.std.specs.Prelude.{◌≡◌, ◌≢◌, ◌⊎◌, true, false, ℕ, Bool, List, [], IfSome, IsTrue, Option, Some, string_bytes, ⊤}
 use Rattle.file_tree.specs.Disk.{Map, Story}
 use Rattle.file_tree.specs.Moments.{Leaves, Since}
 use Rattle.file_tree.specs.declared.limits.Quantity.TheVariants.{Groups, Paths, RecordBytes}
@@ -14,12 +14,11 @@ use Rattle.emerge_find.specs.Choices.{IsFound}
 use Rattle.emerge_find.specs.declared.asked.Asked.{Asked}
 use Rattle.emerge_find.specs.declared.found.Found.{Found}
 use Rattle.run_turns.specs.declared.job.Job.{Job}
-use Rattle.run_sound.specs.Ends.{HasGroups, Images, IsReached, LeavesGroups}
+use Rattle.run_sound.specs.Ends.{AreMade, Course, HasGroups, Images, IsReached, LeavesGroups, Making}
 use Rattle.plan_text.specs.Plans.{plan_value}
 use Rattle.plan_text.specs.Texts.{plan_text}
 use Rattle.emerge_run.specs.Answers.{AsksEarly, IsReady}
 use Rattle.emerge_run.specs.Builds.{AreJobsOf}
-use Rattle.emerge_run.specs.Package.{AreMade, Making}
 use Rattle.emerge_run.specs.Words.{IsOfWords, IsRequest}
 use Rattle.emerge_run.specs.declared.choosing.Work.{Work}
 use Rattle.emerge_run.specs.declared.choosing.Work.TheVariants as work
@@ -28,9 +27,9 @@ use Rattle.merge_report.specs.declared.status.Status.{Status}
 use Rattle.merge_report.specs.declared.status.Status.TheVariants as status
 
 -- What the merge of a plan leaves of a tree at rest, with what was made for its groups, if memory
--- and the device let it. Its first groups are the history. Each crash image of each moment recovers
--- to the tree from before with some first groups, at the end with all of the history; and the tree
--- has just these, unless the device failed or memory ran out.
+-- and the device let it. Each crash image of each moment recovers to the tree from before with a
+-- run of the plan, at the end with all of the history in it; and the tree has just the history,
+-- which is a run, unless the device failed or memory ran out.
 pub record MergedTo (Image : Images) (ps : List Installed) (plan : List Group) (jobs : List Job)
     (old new : Story) (history : List ℕ) (s : Status) : Type 0 where
   pub made : Option (Making Image ps plan jobs old.now.holds)
@@ -84,25 +83,27 @@ KeepsJournal old new (status.Limit Groups) =
     (new.now.holds ≡ old.now.holds) ⊎ HasRecovered old new
 KeepsJournal old new s = ⊤
 
--- What a run leaves of this tree. Each crash image of each moment is one of the beginning, or
--- recovers to what the tree recovered to, with first groups of the run, at the end with all of the
--- history; unless the device failed with just these; a run that tells how it went leaves a tree
--- that reads so; one that ends at its words leaves it as it was, and one that refuses its journal
--- as it read.
-pub record Outcome (words : List (List ℕ)) (Image : Images) (old new : Story) (history : List ℕ)
-    (s : Status) : Type 0 where
-  pub moments : Since (IsReached (IsChoice words) Image [] old.now) old new
-  pub crash : Leaves (IsReached (IsChoice words) Image history old.now) new.now
-  pub left : s ≢ status.DeviceFault →
-      LeavesGroups (IsChoice words) Image history old.now new.now
-  pub tree : IsOfTree s → HasGroups (IsChoice words) Image history old.now new.now
+-- What a run leaves of this tree, and which plan came back. There is one plan that it merges, the
+-- one that came back, with one list of images and turns of its groups; or none. Each crash image of
+-- each moment is one of the beginning, or recovers to what the tree recovered to, with a run of
+-- that plan, at the end with all of the history in it; unless the device failed with just the
+-- history, which is a run; a run that tells how it went leaves a tree that reads so; one that ends
+-- at its words leaves it as it was, and one that refuses its journal as it read.
+pub record Outcome (words : List (List ℕ)) (Image : Images) (back : Option (List Group))
+    (old new : Story) (history : List ℕ) (s : Status) : Type 0 where
+  pub course : Option (Course (IsChoice words) Image old.now.holds)
+  pub plan : IfSome course (λ k. back ≡ Some k.plan)
+  pub moments : Since (IsReached old.now course []) old new
+  pub crash : Leaves (IsReached old.now course history) new.now
+  pub left : s ≢ status.DeviceFault → LeavesGroups old.now course history new.now
+  pub tree : IsOfTree s → HasGroups old.now course history new.now
   pub unchanged : IsOfWords s → new ≡ old
   pub journal : KeepsJournal old new s
 
 -- How a run over this tree ended that found no plan: with the answer that it asks for. Each crash
 -- image of each moment is one of the beginning, or recovers to what the tree recovered to; a run
--- that tells how it went leaves what recovery made of the tree; one that ends at its words leaves it
--- as it was, and one that refuses its journal as it read.
+-- that tells how it went leaves what recovery made of the tree; one that ends at its words leaves
+-- it as it was, and one that refuses its journal as it read.
 pub record EndsEarly (words : List (List ℕ)) (old new : Story) (s : Status) : Type 0 where
   pub answer : AsksEarly words old.now.holds s
   pub moments : Since (IsImageOrAlike old.now) old new

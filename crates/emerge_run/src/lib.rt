@@ -7,11 +7,12 @@
 //! finds is `ChoosesWork` (`specs/Choosing.antt`), and of the merge in it `MergesTask`
 //! (`specs/Merges.antt`). `proofs/Promises.antt` leads from these two to the whole.
 //!
-//! **Proved**: a crash at any moment recovers to what the tree recovered to, with some first groups
-//! of the plan, at its end with all of the history; from a tree that keeps what its packages
-//! recorded, and where they go together, it recovers to such a tree. The plan is that of the first
-//! good choice for what the words ask, or the one that stands in their file, and it is accepted; each
-//! group does just what was made of it, and its claim was granted over what those before it left. The
+//! **Proved**: a crash at any moment recovers to what the tree recovered to, with a run of the plan,
+//! at its end with all of the history in it; from a tree that keeps what its packages recorded, and
+//! where they go together, it recovers to such a tree. The plan is that of the first good choice for
+//! what the words ask, or the one that stands in their file, it is accepted, and it is the one that
+//! comes back; each group does just what was made of it, and its claim was granted over what those
+//! before it left. The
 //! answer is the one that was asked for, and the installed packages come back where they were read;
 //! what was written is the lines of the acknowledged groups, or the plan that is shown, and the last
 //! line; each answer but want of memory has its cause; the pool comes back whole.

@@ -45,7 +45,7 @@ pub fn merge_ready<T: Tree, S: Sink, B: Builder>(
         end,
         history,
         acknowledged,
-    } = merge_plan(alloc, tree, out, &mut pool, &opening, plan.groups(), task);
+    } = merge_plan(alloc, tree, out, &mut pool, &opening, &plan, task);
     let status = status_of_end(&opening, plan.groups(), end);
     Ended {
         status,

@@ -60,18 +60,18 @@ pub fn emerge<T: Tree + Send, S: Sink + Send, B: Builder + Send>(
     requires resting { 0 < length pool.resting }
 
     // From a disk whose packages go together, and which keeps what they recorded, a crash at any
-    // moment recovers to such a disk: with the packages after some first groups of the plan.
+    // moment recovers to such a disk: with the packages after a run of the plan that comes back.
     ensures headline { IsTrue T.tells → (m : Map) (ps : List Installed) (flags : List (List ℕ)) →
         TurnsOn m flags → BeginsWith flags (T.story tree).now m ps →
-        Headline (map string_bytes words.now) flags m ps (T.story tree) (T.story result.tree)
-        result.history.items result.status }
+        Headline (map string_bytes words.now) flags m ps result.plan (T.story tree)
+        (T.story result.tree) result.history.items result.status }
 
     // From any disk: the answer, what a crash leaves and the tree holds, what is written with the
     // last line, and what comes back.
     ensures run { RunsCommand T.Tree S.Sink B.Builder true (map string_bytes words.now) tree out
         pool result }
 {
-    run_sound::first_turns_leave_sound_trees();
+    run_sound::runs_leave_sound_trees();
     emerge_find::found_plans_are_fit();
     let run = attempt(alloc, words, tree, out, pool);
     finished(alloc, run)

@@ -1,3 +1,4 @@
+pub mod Beginnings
 pub mod Course
 pub mod Ending
 pub mod Joined

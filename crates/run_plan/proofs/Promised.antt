@@ -33,7 +33,7 @@ nothing_first : (whole : List ℕ) → [] ≡ take 0 whole
 nothing_first [] = refl
 nothing_first (x ∷ xs) = refl
 
-nothing_begins : (whole text : List ℕ) → text ≡ [] → IsBeginning whole text
+pub nothing_begins : (whole text : List ℕ) → text ≡ [] → IsBeginning whole text
 nothing_begins whole text none = (0, none ∙ nothing_first whole)
 
 -- a value that is as it was has counted nothing, and fails for nothing

@@ -9,14 +9,14 @@
 //! **Proved**: each group's images are what builders of the pool tell for its orders, and its turn is
 //! made of the plan, over what those before it left; the groups come in their order, and the first
 //! that is stopped ends the run. What a crash leaves at any moment recovers to the tree from before
-//! with some first groups applied; at the end to that with just those of the history, unless the
-//! device failed. What was written are the lines of the acknowledged groups and a beginning of the
+//! with a run of the plan applied; at the end to that with just the history, unless the device
+//! failed. What was written are the lines of the acknowledged groups and a beginning of the
 //! next. A stop for the device, the output or a builder comes only where its count of faults rose.
 //!
 //! **Only tested**, within whole runs: that with ample memory all groups of a plan are merged.
 //!
 //! ```
-//! let merged = merge_plan(alloc, tree, sink, &mut pool, &installed, plan.groups(), task);
+//! let merged = merge_plan(alloc, tree, sink, &mut pool, &installed, &plan, task);
 //! ```
 #![tactic(auto)]
 

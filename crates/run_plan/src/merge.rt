@@ -1,5 +1,6 @@
 ghost use Rattle.std.specs.Prelude.{◌≡◌, ◌<◌, ◌^◌, [], Err, IsTrue, None, length};
 ghost use Rattle.merge_core.specs.Trail.{IsAtRest};
+ghost use Rattle.plan_law.specs.Plans.{WaitsForEarlier};
 ghost use Rattle.run_turns.specs.Plans.{AreJobs};
 ghost use Rattle.run_plan.specs.Courses.{IsCourse};
 ghost use Rattle.run_plan.specs.Merges.{MergesPlan};
@@ -13,7 +14,7 @@ use file_tree::{Sink, Tree, TreeFault};
 use merge_core::Core;
 use merge_group::{Stop, open_run};
 use owner_book::OwnerBook;
-use plan_lives::Group;
+use plan_lives::{Group, Plan};
 use run_turns::Job;
 use std::alloc::Global;
 use vdb_record::Installed;
@@ -49,19 +50,19 @@ pub fn merge_plan<T: Tree, S: Sink, B: Builder>(
     sink: S,
     pool: &mut BuildPool<B>,
     installed: &[Installed],
-    plan: &[Group],
+    plan: &Plan,
     task: Task,
 ) -> Merged<T, S>
     requires rest { IsTrue T.tells → IsAtRest (T.story tree).now.holds (T.story tree).now }
     requires unclaimed { task.book.claims ≡ [] }
     requires jobs { AreJobs plan.now task.jobs.items }
-    requires small { length plan.now < 2 ^ 31 }
     requires resting { 0 < length pool.old.resting }
     ensures { MergesPlan T.Tree S.Sink B.Builder installed.now plan.now task tree sink pool.old
         pool.new result }
 {
-    match course_of(alloc, &mut tree, installed, plan, &task.jobs) {
-        Ok(course) => run_course(alloc, tree, sink, pool, installed, plan, task, course),
+    let groups = plan.groups();
+    match course_of(alloc, &mut tree, installed, groups, &task.jobs) {
+        Ok(course) => run_course(alloc, tree, sink, pool, installed, groups, task, course),
         Err(fault) => unmerged(alloc, tree, sink, fault),
     }
 }
@@ -80,6 +81,7 @@ fn run_course<T: Tree, S: Sink, B: Builder>(
     requires rest { IsTrue T.tells → IsAtRest (T.story tree).now.holds (T.story tree).now }
     requires unclaimed { task.book.claims ≡ [] }
     requires jobs { AreJobs plan.now task.jobs.items }
+    requires earlier { WaitsForEarlier plan.now }
     requires small { length plan.now < 2 ^ 31 }
     requires resting { 0 < length pool.old.resting }
     requires course { IsCourse T.tells (T.story tree).now.holds installed.now plan.now

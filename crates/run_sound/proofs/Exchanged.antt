@@ -1,7 +1,8 @@
--- A turn of a plan, over what those before it left, is the exchange of its group.
-use Rattle.std.proofs.Common.{◌≡◌, ◌∙◌, ◌==◌, ◌↔◌, ◌<◌, ◌≤◌, ℕ, zero, suc, Bool, true, List, [], ◌∷◌, Option, None, Some, ap, eq-eqb, eqb-true, length, map, refl, subst, sym}
+-- A turn of a plan, over what a run before it left, is the exchange of its group.
+use Rattle.std.proofs.Common.{◌≡◌, ◌∙◌, ◌==◌, ◌↔◌, ◌<◌, ℕ, zero, suc, Bool, true, List, [], ◌∷◌, Option, None, Some, ap, eq-eqb, eqb-true, length, map, refl, subst, sym}
 use Rattle.std.specs.Prelude.{bytes_eq, slice_get}
 use Rattle.std.specs.List.{AllByRecursion}
+use Rattle.std.proofs.lemmas.Slice.Eq.{bytes_eq-Decides}
 use Rattle.basics.specs.Members.{AreDistinct, Has}
 use Rattle.basics.proofs.Each.{all_by_has, all_has}
 use Rattle.basics.proofs.Membership.{has-append_left, has-append_right, has-map, has-map_back}
@@ -20,7 +21,8 @@ use Rattle.owner_book.specs.Rules.{is_dying}
 use Rattle.pkg_state.specs.Package.{Package, line_of}
 use Rattle.vdb_paths.proofs.Packages.{OneSpelling}
 use Rattle.plan_law.specs.Accepted.{IsAccepted}
-use Rattle.plan_law.specs.Plans.{Group, Removal, WaitsForEarlier, after, group_at, no_group, removed_line}
+use Rattle.plan_law.specs.Plans.{Group, Removal, WaitsForEarlier, group_at, no_group, removed_line}
+use Rattle.plan_law.proofs.There.{AreThere}
 use Rattle.basics.proofs.Members.{passes_some, some_passes}
 use Rattle.vdb_law.specs.Database.{IsDatabase, folder_name}
 use Rattle.vdb_law.specs.Packages.{Installed, id_of}
@@ -48,9 +50,9 @@ use Rattle.run_turns.specs.Held.{Holdings, held_for}
 use Rattle.run_turns.specs.Plans.{AreSiteGroups, coming, dying_keys, is_named, key_of_id, removed_keys}
 use Rattle.run_turns.specs.Turns.{IsTurnOf}
 use Rattle.run_turns.specs.declared.job.Job.{Job}
-use Rattle.run_sound.proofs.Beginnings.{below}
 use Rattle.run_sound.proofs.Placed.{Brings, added_comes, added_files, added_keys, turn_brings}
-use Rattle.run_sound.proofs.Present.{AcceptedAreSound, brings_apart, leaving_named, named_leaves, removed_there}
+use Rattle.run_sound.proofs.Alive.{AcceptedAreSound}
+use Rattle.run_sound.proofs.Present.{brings_apart, leaving_named, named_leaves, removed_there}
 
 folders_as : (flags : List (List ℕ)) (ps : List Installed) → map folder_name ps ≡ map folder_of (packages_of flags ps)
 folders_as flags [] = refl
@@ -92,8 +94,8 @@ pub record Exchanged (flags : List (List ℕ)) (start : List Installed) (plan : 
   pub inside : (a : Installed) → Has brings.added a → Has (folders_with start (coming plan)) (folder_name a)
   pub apart : AreDistinct (map folder_of (map package_of newcomers))
 
-module _ (flags : List (List ℕ)) (start : List Installed) (plan : List Group) (earlier : WaitsForEarlier plan) (ok : IsAccepted plan (packages_of flags start)) (place : ℕ) (less : place < length plan) (within : place ≤ length plan)
-    (m : Map) (ps : List Installed) (db : IsDatabase m ps) (same : AreSame (after plan (packages_of flags start) (below place)) (packages_of flags ps))
+module _ (flags : List (List ℕ)) (start : List Installed) (plan : List Group) (earlier : WaitsForEarlier plan) (ok : IsAccepted plan (packages_of flags start)) (done : List ℕ) (now : List Package) (at_now : AreThere plan (packages_of flags start) done now)
+    (place : ℕ) (less : place < length plan) (waited : (h : ℕ) → Has (group_at plan place).after h → Has done h) (undone : ¬ Has done place) (m : Map) (ps : List Installed) (db : IsDatabase m ps) (same : AreSame now (packages_of flags ps))
     (there : (p : Installed) → Has ps p → Has (folders_with start (coming plan)) (folder_name p)) where
   abbrev folders : List (List ℕ)
   folders = folders_with start (coming plan)
@@ -105,7 +107,7 @@ module _ (flags : List (List ℕ)) (start : List Installed) (plan : List Group) 
   g = group_at plan place
 
   abbrev removed : (r : Removal) → Has g.removals r → (p : Installed) × Has ps p × (id_of p ≡ r.id) × (line_of p.package_is.facts ≡ removed_line r)
-  removed r has = removed_there flags plan (packages_of flags start) earlier ok place within ps same r has
+  removed r has = removed_there flags plan (packages_of flags start) earlier ok done now at_now place waited undone ps same r has
 
   -- ---- which packages go
 
@@ -125,13 +127,23 @@ module _ (flags : List (List ℕ)) (start : List Installed) (plan : List Group) 
       let folder = one_at_a_place (folder_name q.0) (folder_name p) folders (there q.0 q.1) (there p has) number in
       let one = one_of_rising ps q.0 p db.rising q.1 has folder in
       subst (λ (x : Installed). leaves g x ≡ true) one
-      (named_leaves flags plan (packages_of flags start) earlier ok place within ps same r.0 r.1 q.0 q.3)
+      (named_leaves flags plan (packages_of flags start) earlier ok done now at_now place waited undone ps same r.0 r.1 q.0 q.3)
 
   goes_dies : (p : Installed) → Has ps p → leaves g p ≡ true → is_dying ks (key p) ≡ true
   goes_dies p has e =
-      let r = leaving_named flags plan (packages_of flags start) earlier ok place within ps same p has e in
+      let r = leaving_named flags plan (packages_of flags start) earlier ok done now at_now place waited undone ps same p has e in
       passes_some (is_its p) ks (key_of_id start plan r.0.id) (has-map (λ (r : Removal). key_of_id start plan r.id) g.removals r.0 r.1)
       (eq-eqb (key_of_id start plan r.0.id).number (key p).number (ap (λ (id : PackageId). place_of (id_text id) folders) r.2))
+
+  -- a package that a removal names by its folder goes
+  pub named_goes : (p : Installed) → Has ps p → is_named (group_at plan place) p ≡ true → leaves (group_at plan place) p ≡ true
+  named_goes p has e =
+      let r = some_passes (λ (x : Removal). bytes_eq (id_text x.id) (folder_name p)) g.removals e in
+      let q = removed r.0 r.1 in
+      let folder : folder_name q.0 ≡ folder_name p = ap id_text q.2 ∙ (bytes_eq-Decides (id_text r.0.id) (folder_name p)).0 r.2 in
+      let one = one_of_rising ps q.0 p db.rising q.1 has folder in
+      subst (λ (x : Installed). leaves g x ≡ true) one
+      (named_leaves flags plan (packages_of flags start) earlier ok done now at_now place waited undone ps same r.0 r.1 q.0 q.3)
 
   dies : (p : Installed) → Has ps p → is_dying ks (key p) ≡ leaves g p
   dies p has = same_tests (is_dying ks (key p)) (leaves g p) (dies_goes p has) (goes_dies p has)
@@ -148,13 +160,13 @@ module _ (flags : List (List ℕ)) (start : List Installed) (plan : List Group) 
     held_owned q has =
         let r = has-piece_back (λ (r : Removal). held (id_text r.id)) g.removals q has in
         let p = removed r.0 r.1 in
-        let goes = named_leaves flags plan (packages_of flags start) earlier ok place within ps same r.0 r.1 p.0 p.3 in
+        let goes = named_leaves flags plan (packages_of flags start) earlier ok done now at_now place waited undone ps same r.0 r.1 p.0 p.3 in
         let here : Has (held (folder_name p.0)) q = subst (λ (id : PackageId). Has (held (id_text id)) q) (sym p.2) r.2 in
         (p.0, (p.1, goes), (holds p.0 p.1 (named r.0 r.1 p.0 p.2) q).0 here)
 
     owned_held : (q : List ℕ) → (p : Installed) × Leaves ps (leaves g) p × Owns m p q → Has (held_for held g.removals) q
     owned_held q (p, (has, goes), owns) =
-        let r = leaving_named flags plan (packages_of flags start) earlier ok place within ps same p has goes in
+        let r = leaving_named flags plan (packages_of flags start) earlier ok done now at_now place waited undone ps same p has goes in
         let here = (holds p has (named r.0 r.1 p (sym r.2)) q).1 owns in
         has-piece (λ (r : Removal). held (id_text r.id)) g.removals r.0 q r.1 (subst (λ (id : PackageId). Has (held (id_text id)) q) (sym r.2) here)
 

@@ -1,9 +1,10 @@
-pub mod Beginnings
+pub mod Alive
 pub mod Ended
 pub mod Exchanged
 pub mod Holding
 pub mod Images
 pub mod Placed
+pub mod Places
 pub mod Present
 pub mod Soundly
 pub mod Turning

@@ -128,16 +128,6 @@ module _ (flags : List (List ℕ)) (ps : List Installed) (coming : List Package)
         (subst (λ (fs : List Files). holding_all (map left k.pairs) fs held (folder_name a) ≡ map images.path_of (all_in z.1)) k.rights
         (ap (holding_all (map left k.pairs) (map right k.pairs) held) (folder_is z a is) ∙ held_own k.pairs held z pairs_apart has))
 
-    -- .. and for the others
-    pub held_unadded : (held : Holdings) (text : List ℕ) → (Has (map folder_name k.added) text → ⊥) → holding_all newcomers packages held text ≡ held text
-    held_unadded held text out =
-        let none : Has (map folder_pair k.pairs) text → ⊥ = λ h. (
-        let z = has-map_back folder_pair k.pairs text h in
-        let a = added_of z.0 z.1 in
-        out (subst (λ (t : List ℕ). Has (map folder_name k.added) t) (folder_is z.0 a.0 a.2 ∙ z.2) (has-map folder_name k.added a.0 a.1))) in
-        subst (λ (ns : List Newcomer). holding_all ns packages held text ≡ held text) k.lefts
-        (subst (λ (fs : List Files). holding_all (map left k.pairs) fs held text ≡ held text) k.rights (held_others k.pairs held text none))
-
     -- files under the key of one that comes are its own
     pub own_files : ((p r : Installed) → Has k.added p → Has k.added r → key_with ps coming p ≡ key_with ps coming r → folder_name p ≡ folder_name r) → (z : Pair) (a : Installed) (f : Files) → Has k.added a → Has k.pairs z → IsBrought flags ps coming z a
         → Has packages f → f.owner ≡ key_with ps coming a → f ≡ z.1

@@ -1,10 +1,11 @@
--- Which packages are there before a group of a plan, and what its removals name.
-use Rattle.std.proofs.Common.{◌≡◌, ◌∙◌, ◌++◌, ◌≤◌, ◌<◌, ℕ, suc, true, List, [], ◌∷◌, ap, arith, filter, inl, inr, length, map, not, subst, sym}
+-- Which packages are there before a group of a plan that may come, and what its removals name.
+use Rattle.std.proofs.Common.{◌≡◌, ◌∙◌, ◌++◌, ◌<◌, ℕ, suc, true, List, [], ◌∷◌, ap, arith, filter, length, map, not, subst, sym}
 use Rattle.std.specs.Prelude.{bytes_eq, codes}
 use Rattle.std.proofs.lemmas.List.{map-append}
 use Rattle.std.proofs.lemmas.Slice.Eq.{bytes_eq-Decides}
 use Rattle.basics.specs.Members.{AreDistinct, Has}
 use Rattle.basics.proofs.Each.{all_has}
+use Rattle.basics.proofs.Members.{passes_some, some_passes}
 use Rattle.basics.proofs.Membership.{has-map, has-map_back}
 use Rattle.std.specs.List.{AllByRecursion}
 use Rattle.dep_atom.specs.Ids.{IsId, id_text}
@@ -15,81 +16,49 @@ use Rattle.pkg_state.proofs.Lines.{one_on_line}
 use Rattle.vdb_paths.specs.Files.{package_file_path}
 use Rattle.vdb_paths.proofs.Packages.{OneSpelling, one_id}
 use Rattle.plan_law.specs.Accepted.{IsAccepted}
-use Rattle.plan_law.specs.Lives.{ComesBefore, Life, Moment, StandsBefore, commit, never, opening}
 use Rattle.plan_law.specs.Plans.{Group, Removal, WaitsForEarlier, after, clears, group_at, removed_line}
-use Rattle.plan_law.specs.Sound.{IsSound}
-use Rattle.plan_law.proofs.Closed.{HasCome, IsAlive}
-use Rattle.basics.proofs.Members.{passes_some, some_passes}
-use Rattle.plan_law.proofs.There.{AreThere, all_done, there_at_first, there_behind}
-use Rattle.plan_law.proofs.Whole.{run_done, run_is_done}
+use Rattle.plan_law.proofs.There.{AreThere}
 use Rattle.vdb_law.specs.Packages.{Installed, id_of}
-use Rattle.vdb_law.specs.Step.{Change, IsAfter}
-use Rattle.law_commit.specs.Commits.{IsOf}
 use Rattle.law_commit.specs.Lit.{lit, packages_of}
 use Rattle.law_commit.proofs.Members.{AreSame}
-use Rattle.law_commit.proofs.Whole.{one_change}
 use Rattle.law_package.proofs.Places.{distinct_front}
 use Rattle.run_files.specs.Keys.{folder_of}
 use Rattle.run_files.proofs.Zips.{distinct_by}
-use Rattle.run_sound.proofs.Beginnings.{after_push, below, below_less, less_below, runs_below}
+use Rattle.run_plan.proofs.Beginnings.{below, runs_below}
+use Rattle.run_sound.proofs.Alive.{AcceptedAreSound, after_push, stands_alive}
 
 -- ids with one text are one
-one_of_text : ComesApart → OneSpelling → (a b : PackageId) → IsId a → IsId b → id_text a ≡ id_text b → a ≡ b
+pub one_of_text : ComesApart → OneSpelling → (a b : PackageId) → IsId a → IsId b → id_text a ≡ id_text b → a ≡ b
 unfolding package_file_path
 one_of_text comes spells a b is also e = one_id comes spells a b [] [] is also (ap (λ (t : List ℕ). codes "var/db/pkg/" ++ (t ++ (47 ∷ []))) e)
-
-abbrev pub AcceptedAreSound : Type 0
-AcceptedAreSound = (plan : List Group) (start : List Package) → WaitsForEarlier plan → IsAccepted plan start → IsSound plan start
 
 abbrev lit_of : List (List ℕ) → Installed → Package
 lit_of flags p = lit flags p.package_is
 
--- ---- who is there before the group at a place
+-- ---- who is there before the group
 
-module _ (flags : List (List ℕ)) (plan : List Group) (start : List Package) (earlier : WaitsForEarlier plan) (ok : IsAccepted plan start) (place : ℕ) (within : place ≤ length plan)
-    (ps : List Installed) (same : AreSame (after plan start (below place)) (packages_of flags ps)) where
+module _ (flags : List (List ℕ)) (plan : List Group) (start : List Package) (earlier : WaitsForEarlier plan) (ok : IsAccepted plan start) (done : List ℕ) (now : List Package) (there : AreThere plan start done now)
+    (place : ℕ) (waited : (h : ℕ) → Has (group_at plan place).after h → Has done h) (undone : ¬ Has done place) (ps : List Installed) (same : AreSame now (packages_of flags ps)) where
   abbrev g : Group
   g = group_at plan place
 
-  abbrev now : List Package
-  now = after plan start (below place)
-
-  abbrev done : List ℕ
-  done = all_done plan start earlier ok (below place) []
-
-  there : AreThere plan start done now
-  there = there_behind plan start earlier ok (below place) [] start (there_at_first plan start earlier ok) (runs_below plan earlier place within)
-
-  has_come : (m : Moment) → ComesBefore m place → HasCome done m
-  has_come opening c = tt
-  has_come (commit h) c = run_is_done plan start earlier ok (below place) [] h (less_below place h c)
-  has_come never c = c
-
-  was_before : (m : Moment) → HasCome done m → ComesBefore m place
-  was_before opening h = tt
-  was_before (commit h) d = elim (run_done plan start earlier ok (below place) [] h d) [
-    | inl r ↦ below_less place h r
-    | inr none ↦ absurd none
-  ]
-  was_before never h = h
-
-  -- what stands just before the group is there
-  stands : (x : Life) → StandsBefore place x → IsAlive done x
-  stands x s = record { born = has_come x.birth s.born; stays = λ h. s.alive (was_before x.death h) }
+  -- a line that a removal names is cleared
+  clears_named : (r : Removal) → Has g.removals r → (line : List ℕ) → line ≡ removed_line r → clears g line ≡ true
+  clears_named r has line on =
+      passes_some (λ (x : Removal). bytes_eq (removed_line x) line) g.removals r has ((bytes_eq-Decides (removed_line r) line).1 (sym on))
 
   -- what a removal names is there, on the removed line
   pub removed_there : (r : Removal) → Has (group_at plan place).removals r → (p : Installed) × Has ps p × (id_of p ≡ r.id) × (line_of p.package_is.facts ≡ removed_line r)
   removed_there r has =
       let k = ok.present place r has in
-      let here = there.all k.0 k.1 (stands k.0 k.2) in
+      let alive = stands_alive plan start earlier ok done there.closed place waited undone k.0 k.1 k.2 (clears_named r has (line_of k.0.package_is.facts) k.4) in
+      let here = there.all k.0 k.1 alive in
       let q = has-map_back (lit_of flags) ps k.0.package_is ((same k.0.package_is).0 here) in
       (q.0, q.1, ap (λ (y : Package). y.facts.id) q.2 ∙ k.3, ap (λ (y : Package). line_of y.facts) q.2 ∙ k.4)
 
   -- .. and leaves with the group
   pub named_leaves : (r : Removal) → Has (group_at plan place).removals r → (p : Installed) → line_of p.package_is.facts ≡ removed_line r → clears (group_at plan place) (line_of p.package_is.facts) ≡ true
-  named_leaves r has p on =
-      passes_some (λ (x : Removal). bytes_eq (removed_line x) (line_of p.package_is.facts)) g.removals r has
-      ((bytes_eq-Decides (removed_line r) (line_of p.package_is.facts)).1 (sym on))
+  named_leaves r has p on = clears_named r has (line_of p.package_is.facts) on
 
   -- what leaves is named by a removal
   pub leaving_named : (p : Installed) → Has ps p → clears (group_at plan place) (line_of p.package_is.facts) ≡ true → (r : Removal) × Has (group_at plan place).removals r × (r.id ≡ id_of p)
@@ -100,11 +69,6 @@ module _ (flags : List (List ℕ)) (plan : List Group) (start : List Package) (e
       let one : lit_of flags q.0 ≡ lit_of flags p = one_on_line now (lit_of flags q.0) (lit_of flags p) there.apart
       ((same (lit_of flags q.0)).1 (has-map (lit_of flags) ps q.0 q.1)) ((same (lit_of flags p)).1 (has-map (lit_of flags) ps p has)) on in
       (r.0, r.1, sym q.2 ∙ ap (λ (y : Package). y.facts.id) one)
-
-  -- the packages behind the group
-  pub same_behind : (c : Change) (qs : List Installed) → IsOf flags (group_at plan place) c → IsAfter ps c.gone c.added qs → AreSame (after plan start (below (suc place))) (packages_of flags qs)
-  same_behind c qs of is =
-      subst (λ (l : List Package). AreSame l (packages_of flags qs)) (sym (after_push plan start (below place) place)) (one_change flags g c ps qs now of is same)
 
 -- what a group brings has folders of its own
 pub brings_apart : AcceptedAreSound → ComesApart → OneSpelling → (plan : List Group) (start : List Package) → WaitsForEarlier plan → IsAccepted plan start → (place : ℕ) → place < length plan

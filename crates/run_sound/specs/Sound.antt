@@ -1,6 +1,6 @@
--- What the merge of the groups of an accepted plan, one after another, leaves of a sound tree: such
--- a tree.
-use Rattle.std.specs.Prelude.{◌≡◌, ◌≤◌, ℕ, List, [], ◌∷◌, IsErrOf, Result, length, map, take, ⊤}
+-- What the groups of an accepted plan leave of a sound tree, in whatever order of a run they come
+-- into it: such a tree.
+use Rattle.std.specs.Prelude.{◌≡◌, ℕ, List, [], ◌∷◌, IsErrOf, Result, map, ⊤}
 use Rattle.std.specs.List.{AllByRecursion}
 use Rattle.basics.specs.Members.{Has}
 use Rattle.build_pool.specs.declared.orders.Order.{Order}
@@ -13,7 +13,7 @@ use Rattle.merge_journal.specs.Group.{applied}
 use Rattle.recovery.specs.Promise.{RecoversTo}
 use Rattle.owner_book.specs.Book.{Book}
 use Rattle.plan_law.specs.Accepted.{IsAccepted}
-use Rattle.plan_law.specs.Plans.{Group, WaitsForEarlier}
+use Rattle.plan_law.specs.Plans.{Group, IsRun, WaitsForEarlier, group_at}
 use Rattle.vdb_law.specs.Packages.{Installed}
 use Rattle.vdb_law.specs.Step.{IsAfter}
 use Rattle.law_commit.specs.Commits.{IsSoundTree}
@@ -26,7 +26,7 @@ use Rattle.run_files.specs.Laws.{CanBeRecorded}
 use Rattle.run_files.specs.Made.{leaves}
 use Rattle.run_turns.specs.Plans.{coming}
 use Rattle.run_turns.specs.declared.job.Job.{Job}
-use Rattle.run_plan.specs.Runs.{WentFor, upto}
+use Rattle.run_plan.specs.Runs.{WentFor, numbers_at}
 
 -- the map is a sound tree with these packages, which are the book's owners; the plan is accepted
 -- over them, each of its groups waits for earlier ones alone, and what it brings can be recorded
@@ -57,35 +57,43 @@ HoldsAfterGroups flags ps [] P = P ps
 HoldsAfterGroups flags ps (g ∷ gs) P =
     HoldsAfterGroup flags ps g (λ qs. HoldsAfterGroups flags qs gs P)
 
--- the map with these groups is a sound tree: with the packages after some first groups of the plan,
--- those with these numbers
-pub record LeavesSound (flags : List (List ℕ)) (ps : List Installed) (plan : List Group) (m : Map)
-    (xs : List journal.Group) : Type 0 where
-  pub count : ℕ
-  pub within : count ≤ length plan
-  pub numbered : map number xs ≡ upto count
-  pub sound : HoldsAfterGroups flags ps (take count plan) (IsSoundTree flags (applied m xs))
+-- a run of the plan is such, and something holds of the packages that these are after its groups
+pub record HoldsAfterRun (flags : List (List ℕ)) (ps : List Installed) (plan : List Group)
+    (Such : List ℕ → Type 0) (P : List Installed → Type 0) : Type 0 where
+  pub run : List ℕ
+  pub is_run : IsRun plan run
+  pub such : Such run
+  pub holds : HoldsAfterGroups flags ps (map (group_at plan) run) P
 
--- a crash image recovers to a sound tree: with the packages after some first groups of the plan,
--- those with these numbers among them
-pub record RecoversAfterFirst (flags : List (List ℕ)) (ps : List Installed) (plan : List Group)
-    (among : List ℕ) (c : Map) : Type 0 where
-  pub count : ℕ
-  pub within : count ≤ length plan
-  pub has : (n : ℕ) → Has among n → Has (upto count) n
-  pub sound : HoldsAfterGroups flags ps (take count plan) (RecoversSoundly flags c)
+-- a run has the groups of these numbers, and others maybe
+abbrev pub HasNumbers : List ℕ → List ℕ → Type 0
+HasNumbers numbers run = (n : ℕ) → Has numbers n → Has (numbers_at run) n
+
+-- the map with these groups is a sound tree: with the packages after a run of the plan, whose
+-- groups they are
+abbrev pub LeavesSound : List (List ℕ) → List Installed → List Group → Map →
+    List journal.Group → Type 0
+LeavesSound flags ps plan m xs =
+    HoldsAfterRun flags ps plan (λ run. map number xs ≡ numbers_at run)
+    (IsSoundTree flags (applied m xs))
+
+-- a crash image recovers to a sound tree: with the packages after a run of the plan, these groups
+-- among it
+abbrev pub StaysSound : List (List ℕ) → List Installed → List Group → List ℕ → Map → Type 0
+StaysSound flags ps plan among c =
+    HoldsAfterRun flags ps plan (HasNumbers among) (RecoversSoundly flags c)
 
 -- whatever a crash leaves at any moment recovers so, and at the end so with the history; unless the
--- device failed or memory ran out the tree is sound at the end, with the packages after just the
--- groups of the history, the first ones of the plan
+-- device failed or memory ran out the tree is sound at the end, with the packages after a run of
+-- the plan that is the history
 pub record IsSoundRun {A : Type 0} (flags : List (List ℕ)) (ps : List Installed)
     (plan : List Group) (old new : Story) (history : List ℕ) (end : Result A Stop) :
     Type 0 where
-  pub moments : Since (RecoversAfterFirst flags ps plan []) old new
-  pub crash : Leaves (RecoversAfterFirst flags ps plan history) new.now
+  pub moments : Since (StaysSound flags ps plan []) old new
+  pub crash : Leaves (StaysSound flags ps plan history) new.now
   pub tree : ¬ IsErrOf end (stops.Tree trees.Failed) → ¬ IsErrOf end (stops.Tree trees.Memory) →
-      (history ≡ upto (length history)) × HoldsAfterGroups flags ps
-      (take (length history) plan) (IsSoundTree flags new.now.holds)
+      HoldsAfterRun flags ps plan (λ run. history ≡ numbers_at run)
+      (IsSoundTree flags new.now.holds)
 
 -- an image for an order, whatever it is
 abbrev pub AnyImage : Order → List Entry → Type 0

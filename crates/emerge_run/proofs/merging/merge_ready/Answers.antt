@@ -17,8 +17,7 @@ returns g c =
     let plan : List Group = c.args.plan in
     let task = c.args.task in
     let s = c.status_of_end-status.result in
-    let run = subst (λ (gs : List Group). MergesPlan T S B ps gs task c.args.tree c.args.out c.args.pool c.merge_plan-tree.new.pool r) c.groups.ensures.groups
-    (subst (λ (qs : List Installed). MergesPlan T S B qs c.groups.result.now task c.args.tree c.args.out c.args.pool c.merge_plan-tree.new.pool r) c.deref.ensures.value c.merge_plan-tree.ensures) in
-    let is = subst (λ (gs : List Group). IsStatusOf (ids_with ps gs) (length gs) r.end s) c.groups-2.ensures.groups
-    (subst (λ (qs : List Installed). IsStatusOf (ids_with qs c.groups-2.result.now) (length c.groups-2.result.now) r.end s) c.deref-2.ensures.value c.status_of_end-status.ensures) in
+    let run = subst (λ (qs : List Installed). MergesPlan T S B qs plan task c.args.tree c.args.out c.args.pool c.merge_plan-tree.new.pool r) c.deref.ensures.value c.merge_plan-tree.ensures in
+    let is = subst (λ (gs : List Group). IsStatusOf (ids_with ps gs) (length gs) r.end s) c.groups.ensures.groups
+    (subst (λ (qs : List Installed). IsStatusOf (ids_with qs c.groups.result.now) (length c.groups.result.now) r.end s) c.deref-2.ensures.value c.status_of_end-status.ensures) in
     merges_task T S B c.args.opening plan task c.args.tree c.args.out c.args.pool c.merge_plan-tree.new.pool c.requires.task r s is run

@@ -17,5 +17,5 @@ returns-clause-run g c =
 pub returns-clause-headline : goal.returns-clause-headline
 returns-clause-headline g c t =
     let runs = returns-clause-run g c in
-    headline_of c.first_turns_leave_sound_trees.ensures c.found_plans_are_fit.ensures (map string_bytes c.args.words.now) (IsBuilt g.B.Builder.tells g.B.Builder.told c.args.pool.resting)
-    (g.T.Tree.story c.args.tree) (g.T.Tree.story c.finished.result.tree) c.finished.result.history.items c.finished.result.status (runs.tree t)
+    headline_of c.runs_leave_sound_trees.ensures c.found_plans_are_fit.ensures (map string_bytes c.args.words.now) (IsBuilt g.B.Builder.tells g.B.Builder.told c.args.pool.resting)
+    c.finished.result.plan (g.T.Tree.story c.args.tree) (g.T.Tree.story c.finished.result.tree) c.finished.result.history.items c.finished.result.status (runs.tree t)

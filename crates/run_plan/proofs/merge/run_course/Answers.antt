@@ -32,7 +32,7 @@ returns-in-Ok g c =
     let e = c.close.ensures in
     let merges = subst (λ (js : List Job). MergesGroups T S B plan js c.args.course.places begun last old pool start progress before) c.deref.ensures.value c.merge_groups-end.ensures in
     subst (λ x. MergesPlan T S B ps plan task c.args.tree c.args.sink old pool x) (sym e.rest)
-    (merges_plan T S B ps plan task c.args.tree c.args.sink old pool c.args.course begun last progress before c.close.result.end c.close.result.tree c.requires.course
+    (merges_plan T S B ps plan task c.args.tree c.args.sink old pool c.args.course begun last progress before c.close.result.end c.close.result.tree c.requires.earlier c.requires.course
     o.under_way o.opened o.book o.groups o.tree o.sink merges e.went e.end e.count e.rose)
 
 pub returns : goal.returns

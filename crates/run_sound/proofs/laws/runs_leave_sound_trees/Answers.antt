@@ -1,8 +1,8 @@
-use Rattle.run_sound.proofs.Soundly.{first_turns_sound}
-use Rattle.run_sound.proofs.laws.first_turns_leave_sound_trees.Goals as goal
+use Rattle.run_sound.proofs.Soundly.{runs_sound}
+use Rattle.run_sound.proofs.laws.runs_leave_sound_trees.Goals as goal
 
 pub returns : goal.returns
-returns c = first_turns_sound (record {
+returns c = runs_sound (record {
   read = c.records_are_read_back.ensures.sorted;
   own = c.records_are_read_back.ensures.inside;
   comes = c.one_name_and_version.ensures;
