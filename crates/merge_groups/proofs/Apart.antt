@@ -121,7 +121,7 @@ is_value Coming o absent p e = absurd (cc e)
 is_value Coming o (variant i) p e = (variant i, e)
 is_value Standing o v p e = (v, e)
 
-distinct_numbers : (n k : ℕ) → AreDistinct (numbers n k)
+pub distinct_numbers : (n k : ℕ) → AreDistinct (numbers n k)
 distinct_numbers zero k = tt
 distinct_numbers (suc n) k = (λ has. absurd (omega (arith, (numbers_have n (suc k) k has).0)), distinct_numbers n (suc k))
 

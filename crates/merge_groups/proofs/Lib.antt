@@ -4,3 +4,11 @@ pub mod Texts
 pub mod Kept
 pub mod Formed
 pub mod Apart
+pub mod Picked
+pub mod Grown
+pub mod Drafted
+pub mod Told
+pub mod Whole
+pub mod Changing
+pub mod Choosing
+pub mod Entries

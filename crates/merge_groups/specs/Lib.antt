@@ -5,3 +5,10 @@ pub mod Lined
 pub mod Binds
 pub mod Single
 pub mod Unmerge
+pub mod Grouped
+pub mod Apart
+pub mod Rows
+pub mod Written
+pub mod Formed
+pub mod Arranged
+pub mod Laws

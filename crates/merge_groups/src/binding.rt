@@ -65,7 +65,7 @@ fn written_slot(alloc: Global, slot: &SlotPart) -> Result<SlotName, AllocError>
     }
 }
 
-fn bind_to(alloc: Global, found: Option<&Pkg>, atom: &Atom) -> Result<Bind, AllocError>
+pub(crate) fn bind_to(alloc: Global, found: Option<&Pkg>, atom: &Atom) -> Result<Bind, AllocError>
     ensures { IfOk result (λ bind. bind ≡
         bind_to (option_map (λ p. p.now) found.entry) (atom_value atom.now)) }
 {
