@@ -39,7 +39,8 @@ fn counted(
     count: usize,
 ) -> Result<Components, NotArranged>
     requires builds { HasNoBuildInside edges.now }
-    requires numbering { IsNumbering (length (map change_of changes.now)) edges.now count numbers.items }
+    requires numbering { IsNumbering (length (map change_of changes.now)) edges.now count
+        numbers.items }
     ensures numbered { IfOk result (λ k. AreNumbered (length (map change_of changes.now)) edges.now
         k.numbers.items k.count) }
     ensures fault { IfErr result (HaveNoPlan (map change_of changes.now) edges.now) }

@@ -22,7 +22,8 @@ pub(crate) fn fine_groups(
     count: usize,
 ) -> Result<Plan, AllocError>
     requires apart { AreChangesApart (map change_of changes.now) }
-    requires numbered { IsNumbering (length (map change_of changes.now)) edges.now count numbers.now }
+    requires numbered { IsNumbering (length (map change_of changes.now)) edges.now count
+        numbers.now }
     requires few { count ≤ most_groups }
     ensures { IfOk result (AreFine (map change_of changes.now) edges.now numbers.now count) }
 {
@@ -47,7 +48,8 @@ pub(crate) fn level_groups(
     requires apart { AreChangesApart (map change_of changes.now) }
     requires between { AreBetween (length (map change_of changes.now)) edges.now }
     requires builds { HasNoBuildInside edges.now }
-    requires numbered { IsNumbering (length (map change_of changes.now)) edges.now count numbers.now }
+    requires numbered { IsNumbering (length (map change_of changes.now)) edges.now count
+        numbers.now }
     requires few { count ≤ most_groups }
     ensures { IfOk result (AreLevel (map change_of changes.now) edges.now numbers.now count) }
 {
