@@ -1,4 +1,7 @@
 """Texts of plans: read, printed, and their first faults."""
+import os
+
+import unproved
 from cases import case, check
 
 # a plan with each kind of line
@@ -28,7 +31,7 @@ FAULTY = [
 ]
 
 # the most groups that a plan has
-MOST_GROUPS = 4_096
+MOST_GROUPS = unproved.LIMITS["MOST_GROUPS"] if os.environ.get("UNPROVED") else 4_096
 
 
 def many_groups(groups):

@@ -136,9 +136,10 @@ def begun():
     return tree_of(*parts)
 
 
-def ended(tree):
-    """The tree with the second version of each that is upgraded, in place of the first."""
-    for name in UPGRADED:
+def ended(tree, groups=len(UPGRADED)):
+    """The tree with the second version of each that is upgraded, in place of the first; or of the
+    first so many of them."""
+    for name in UPGRADED[:groups]:
         fields = {**needs_of(name, 1), **ignored_of(name, 1)}
         tree = without(tree, f"{name}-1", image_of_system(name, 1), **fields)
         tree = merged(tree, image_of_system(name, 2), f"{name}-2", **needs_of(name, 2))
@@ -151,36 +152,39 @@ def upgrade(**faults):
 
 
 def a_system_of_all_editions_is_upgraded():
+    """None of the four needs another one, or what that replaces, so each has a group of its own."""
     answer = answers([upgrade()])[0]
-    gone = "".join(f" -{name}-1" for name in UPGRADED)
-    come = "".join(f" +{name}-2" for name in UPGRADED)
-    check(answer.told(), f"0 done 1{gone}{come}\nemerge: ok 1\n")
+    lines = "".join(f"done {at} -{name}-1 +{name}-2\n" for at, name in enumerate(UPGRADED, 1))
+    check(answer.told(), f"0 {lines}emerge: ok 4\n")
     check(answer.tree, ended(begun()))
     again = answers([run_case(WORDS, answer.tree, {})])[0]
     check((again.told(), again.tree), ("0 emerge: ok 0\n", answer.tree))
 
 
 def paths_to_watch():
-    placed = []
-    for name in UPGRADED:
+    paths = [*begun()]
+    for group, name in enumerate(UPGRADED, 1):
         image = image_of_system(name, 2)
-        placed += [*image, *record_files(f"{name}-2", image, **needs_of(name, 2))]
-    placed = [path for path, _ in placed]
-    return [*begun(), *placed, *journal_paths(1, len(placed))]
+        placed = [*image, *record_files(f"{name}-2", image, **needs_of(name, 2))]
+        paths += [path for path, _ in placed] + journal_paths(group, len(placed))
+    return paths
 
 
-def a_crash_leaves_all_old_packages_or_all_new_ones():
-    """Behind a stop at each of the run's calls, of three images."""
+def a_crash_leaves_each_package_old_or_new():
+    """Behind a stop at each of the run's calls, of three images: some first ones are new, each whose
+    line was written among them."""
     count, watch = int(answers([upgrade()])[0].calls), paths_to_watch()
     calls = sorted({*range(1, count, STEP), count})
     came = answers([upgrade(stop=call, watch=watch) for call in calls])
     ends = zip(calls, with_all_watched(came, watch))
+    told = {call: len(answer.acknowledged.split()) for call, answer in zip(calls, came)}
     left = [(call, tree) for call, answer in ends for tree in three_images(answer)]
-    before, after = begun(), ended(begun())
+    states = [ended(begun(), groups) for groups in range(len(UPGRADED) + 1)]
     trees = recovered(left)
     for (call, _), tree in zip(left, trees):
-        check(tree in (before, after), True, f"at call {call}")
-    check((trees[0], trees[-1]), (before, after))
+        check(tree in states, True, f"at call {call}")
+        check(states.index(tree) >= told[call], True, f"at call {call}, told {told[call]}")
+    check((trees[0], trees[-1]), (states[0], states[-1]))
 
 
 TESTS = [
@@ -189,5 +193,5 @@ TESTS = [
     groups_without_members_in_required_use,
     keys_of_classes_that_an_edition_lacks,
     a_system_of_all_editions_is_upgraded,
-    a_crash_leaves_all_old_packages_or_all_new_ones,
+    a_crash_leaves_each_package_old_or_new,
 ]

@@ -85,7 +85,7 @@ def images_of_one_group_that_collide():
 def several_atoms():
     tree = tree_of(offered("c/a-1"), offered("c/b-1"), offered("c/b-2"), installed("c/d-1"))
     check_rows([
-        ("c/b c/a", tree, "0 done 1 +c/a-1 +c/b-2\nemerge: ok 1\n"),
+        ("c/b c/a", tree, "0 done 1 +c/a-1\ndone 2 +c/b-2\nemerge: ok 2\n"),
         ("c/b <c/b-2 c/d", tree, "0 done 1 +c/b-1\nemerge: ok 1\n"),
         ("c/d c/d-1 c/a", tree, "2 emerge: Usage: bad atom c/d-1\n"),
         ("c/a c/zz c/yy", tree, "7 emerge: NoCandidate: c/zz\n"),
@@ -134,48 +134,30 @@ def backtrack_limits():
 
 def flag_change_solves():
     tree = tree_of(offered("c/a-1", RDEPEND="c/b[x]"), offered("c/b-1", IUSE="x"))
-    flipped = "0 plan 1\ngroup 1\nadd c/a-1:0/0\nadd c/b-1:0/0 x\nemerge: ok 0\n"
+    plan = "plan 1\ngroup 1\nadd c/b-1:0/0 x\ngroup 2\nafter 1\nadd c/a-1:0/0\n"
     check_rows([
         ("c/a", tree, "8 emerge: NoSolution\n"),
-        ("--flag-changes 1 --pretend c/a", tree, flipped),
+        ("--flag-changes 1 --pretend c/a", tree, f"0 {plan}emerge: ok 0\n"),
     ])
     answer = run("--flag-changes 1 c/a", tree)
     recorded = merged(tree, [], "c/a-1", RDEPEND="c/b[x]")
-    check(answer.told(), "0 done 1 +c/a-1 +c/b-1\nemerge: ok 1\n")
+    check(answer.told(), "0 done 1 +c/b-1\ndone 2 +c/a-1\nemerge: ok 2\n")
     check(answer.tree, merged(recorded, [], "c/b-1", IUSE="x", USE="x"))
 
 
-def slot_operator_rebuild():
-    """What was built for the older library is built anew, and bound to the newer one."""
-    app = {"RDEPEND": "c/lib:0/1="}
-    repository = tree_of(
-        offered("c/lib-2", "0/2"),
-        offered("c/app-1", RDEPEND="c/lib:=", DEPEND="c/lib:="),
-    )
-    tree = {**repository, **installed("c/lib-1", slot="0/1"), **installed("c/app-1", **app)}
-    plan = (
-        "plan 1\ngroup 1\nremove c/app-1:0\nremove c/lib-1:0\n"
-        "add c/app-1:0/0\nbind 0/2\nadd c/lib-2:0/2\n"
-    )
-    answer = run("--update c/lib", tree)
-    check_rows([("--pretend --update c/lib", tree, f"0 {plan}emerge: ok 0\n")])
-    check(answer.told(), "0 done 1 -c/app-1 -c/lib-1 +c/app-1 +c/lib-2\nemerge: ok 1\n")
-    rebuilt = merged(repository, [], "c/app-1", RDEPEND="c/lib:0/2=", DEPEND="c/lib")
-    check(answer.tree, merged(rebuilt, [], "c/lib-2", "0/2"))
-
-
 def what_is_blocked_goes():
-    """A weak block lets a package go in the group of the one that comes, a strong one doesn't."""
+    """In a group before that of what comes, by a weak block as by a strong one."""
     tree = tree_of(
         offered("c/weak-1", RDEPEND="!c/old"),
         offered("c/strong-1", RDEPEND="!!c/old"),
         installed("c/old-1", ONE),
     )
-    check_rows([("c/strong", tree, "20 emerge: NotBuilt: Result\n")])
-    answer = run("c/weak", tree, ONE, "c/weak-1")
-    check(answer.told(), "0 done 1 -c/old-1 +c/weak-1\nemerge: ok 1\n")
     alone = without(tree, "c/old-1", ONE)
-    check(answer.tree, merged(alone, ONE, "c/weak-1", RDEPEND="!c/old"))
+    for name, block in (("c/strong", "!!c/old"), ("c/weak", "!c/old")):
+        answer = run(name, tree, ONE, f"{name}-1")
+        check(answer.told(), f"0 done 1 -c/old-1\ndone 2 +{name}-1\nemerge: ok 2\n")
+        check((answer.history, answer.acknowledged), ("1 2", "1 2"))
+        check(answer.tree, merged(alone, ONE, f"{name}-1", RDEPEND=block))
 
 
 # flags that each layer of a configuration turns around
@@ -199,15 +181,12 @@ def flags_of_a_profile_reach_the_record():
     tree = {**offered("c/p-1", IUSE=iuse, RDEPEND="c? ( c/zz ) d? ( c/q )"), **FLAGS}
     tree |= offered("c/q-1", IUSE="amd64")
     on = "cpu_x cpu_y d e f g"
-    check_rows([(
-        "--pretend c/p",
-        tree,
-        f"0 plan 1\ngroup 1\nadd c/p-1:0/0 {on}\nadd c/q-1:0/0 amd64\nemerge: ok 0\n",
-    )])
+    first, second = "group 1\nadd c/q-1:0/0 amd64\n", f"group 2\nafter 1\nadd c/p-1:0/0 {on}\n"
+    check_rows([("--pretend c/p", tree, f"0 plan 1\n{first}{second}emerge: ok 0\n")])
     answer = run("c/p", tree)
     needs = {"RDEPEND": "c? ( c/zz ) d? ( c/q )", "IUSE": known, "USE": on}
     both = merged(merged(tree, [], "c/p-1", **needs), [], "c/q-1", IUSE="amd64", USE="amd64")
-    check(answer.told(), "0 done 1 +c/p-1 +c/q-1\nemerge: ok 1\n")
+    check(answer.told(), "0 done 1 +c/q-1\ndone 2 +c/p-1\nemerge: ok 2\n")
     check(answer.tree, both)
 
 
@@ -243,7 +222,6 @@ TESTS = [
     profile_loop,
     backtrack_limits,
     flag_change_solves,
-    slot_operator_rebuild,
     what_is_blocked_goes,
     flags_of_a_profile_reach_the_record,
     each_refusal_comes_where_it_is_the_first,

@@ -86,6 +86,11 @@ def placed(image):
     return [*image, *record_files("c/p-1", image)]
 
 
+def placed_by(package, image, **fields):
+    """How many objects a merge of a package places."""
+    return len(image) + len(record_files(package, image, **fields))
+
+
 def merged(tree, image, package="c/p-1", slot="0", **fields):
     """The tree that a merge of a package leaves."""
     return {**tree, **installed(package, image, slot, **fields)}

@@ -17,8 +17,8 @@ def told(words, tree):
 def atoms_of_the_world_file_are_wanted():
     """Behind those of the words, wherever the word stands, and once."""
     tree = world(text_file("# by hand\n\nc/q\n \t<c/r-2\r\n"))
-    both = "0 done 1 +c/q-1 +c/r-1\nemerge: ok 1\n"
-    all_three = "0 done 1 +c/p-1 +c/q-1 +c/r-1\nemerge: ok 1\n"
+    both = "0 done 1 +c/q-1\ndone 2 +c/r-1\nemerge: ok 2\n"
+    all_three = "0 done 1 +c/p-1\ndone 2 +c/q-1\ndone 3 +c/r-1\nemerge: ok 3\n"
     rows = (
         ("@world", both),
         ("@world @world", both),

@@ -1,5 +1,8 @@
 """Each refusal: the words, the folder, and what the program says on both outputs."""
-from roots import Link, installed, offered
+import os
+
+import unproved
+from roots import Link, Zeros, installed, offered
 from journal import OPEN, journal_path, record, stage_path
 
 # the lines of the calls of the host that failed, by their first word, which are told in any case
@@ -20,12 +23,28 @@ def plan(*lines):
     return {"var/plan": "".join(f"{line}\n" for line in ("plan 1", *lines))}
 
 
+def chain(*ids):
+    """Candidates each of which needs the package of the next one, and the last one what is none."""
+    files = {}
+    for one, other in zip(ids, ids[1:]):
+        files.update(offered(one, RDEPEND=other.rsplit("-", 1)[0]))
+    return files
+
+
 A1, A2, B1 = "add c/a-1:0/0", "add c/a-2:0/0", "add c/b-1:0/0"
 HELLO = offered("app-misc/hello-2.12")
 IMAGE = {"app-misc/hello-2.12/usr/bin/hello": "hello\n"}
 PLANNED = ["--plan", "var/plan"]
 HELLO_WORD = ["app-misc/hello"]
+TOOL = "app-misc/hello-2.12/usr/share/tool"
 CONF = "etc/portage"
+# two packages that need each other, so that they come in one group
+RING = {**offered("c/a-1", RDEPEND="c/b"), **offered("c/b-1", RDEPEND="c/a")}
+BOTH = {f"c/{name}-1/usr/share/both": f"{name}\n" for name in "ab"}
+# the limits of an image, which are smaller in a program without a proof
+LIMITS = unproved.LIMITS if os.environ.get("UNPROVED") else {}
+MOST_BYTES = LIMITS.get("MOST_FILE_BYTES", 268_435_456)
+MOST_FILES = LIMITS.get("MOST_ENTRIES", 100_000)
 
 # of each a name, the words, the files of the tree, and those of the images
 CASES = (
@@ -133,10 +152,54 @@ CASES = (
         {**offered("c/a-1", "c/a-2", "c/a-3", RDEPEND="c/b"), **offered("c/b-1", RDEPEND="!c/a")},
         {},
     ),
+    ("a need that nothing meets", ["c/a"], chain("c/a-3", "c/b-2", "c/zz"), {}),
     (
-        "a choice that can't come at once",
+        "a need of several packages",
         ["c/a"],
-        {**offered("c/a-1", BDEPEND="c/b"), **offered("c/b-1")},
+        offered("c/a-1", RDEPEND="|| ( c/x c/y )"),
+        {},
+    ),
+    (
+        "a need that is taken",
+        ["c/a", ">=c/b-2"],
+        {**offered("c/a-1", PDEPEND="<c/b-2"), **offered("c/b-1", "c/b-2")},
+        {},
+    ),
+    (
+        "many decisions",
+        ["c/a"],
+        chain("c/a-1", "c/b-1", *(f"c/d{at}-1" for at in range(10)), "c/zz"),
+        {},
+    ),
+    ("two versions in a slot", [">=c/b-2", "<c/b-2"], offered("c/b-1", "c/b-2"), {}),
+    (
+        "a version in two slots",
+        ["c/p:0", "c/p:1"],
+        {**installed("c/p-1"), **offered("c/p-1", SLOT="1")},
+        {},
+    ),
+    (
+        "nothing makes it go",
+        [">=c/b-2"],
+        {**installed("c/b-1"), **installed("c/y-1", RDEPEND="=c/b-1\n"), **offered("c/b-2")},
+        {},
+    ),
+    (
+        "a build cycle",
+        ["c/a"],
+        {**offered("c/a-1", BDEPEND="c/b"), **offered("c/b-1", DEPEND="c/a")},
+        {},
+    ),
+    (
+        "a build of itself",
+        [">=c/a-2"],
+        {**installed("c/a-1"), **offered("c/a-2", DEPEND=">=c/a-2")},
+        {},
+    ),
+    (
+        "no order",
+        [">=c/a-2"],
+        {**installed("c/a-1"), **offered("c/a-2", RDEPEND="!!<c/a-2")},
         {},
     ),
     (
@@ -240,6 +303,8 @@ CASES = (
     ),
     ("Reserved", HELLO_WORD, HELLO, {"app-misc/hello-2.12/var/db/pkg/c/p-1/SLOT": "0\n"}),
     ("Link", HELLO_WORD, HELLO, {"app-misc/hello-2.12/usr/bin/two": Link("a\nb")}),
+    ("a file of two packages that come together", ["c/a"], RING, BOTH),
+    ("a large file", HELLO_WORD, HELLO, {f"{TOOL}/large": Zeros(MOST_BYTES + 1)}),
     ("no image", HELLO_WORD, HELLO, {}),
     ("no program", ["--build-with", "/bin/false", *HELLO_WORD], HELLO, {}),
     ("a pipe in the way", HELLO_WORD, {**HELLO, "var/db/pkg": Link("elsewhere")}, IMAGE),
@@ -248,5 +313,17 @@ CASES = (
         PLANNED,
         plan(*(f"group {at}\nremove c/a-{at}:0" for at in range(1, 4098))),
         {},
+    ),
+    (
+        "too many stopped groups",
+        HELLO_WORD,
+        {journal_path(group, "gate"): b"" for group in range(4097)},
+        {},
+    ),
+    (
+        "too many files",
+        HELLO_WORD,
+        HELLO,
+        {f"{TOOL}/{at % 256}/{at}": "" for at in range(MOST_FILES + 1)},
     ),
 )

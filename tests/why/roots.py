@@ -16,10 +16,17 @@ class Link(str):
     """Where a link leads."""
 
 
+class Zeros(int):
+    """So many bytes, each of them zero, for which the disk has no block."""
+
+
 def write(name, held):
     os.makedirs(os.path.dirname(name), exist_ok=True)
     if isinstance(held, Link):
         os.symlink(held, name)
+    elif isinstance(held, Zeros):
+        with open(name, "wb") as file:
+            file.truncate(held)
     else:
         with open(name, "wb") as file:
             file.write(held if isinstance(held, bytes) else held.encode())
@@ -53,11 +60,11 @@ class Root:
         """The text, with what stands for the two folders put in."""
         return text.replace("IMAGES", self.images).replace("ROOT", self.root)
 
-    def run(self, words, env=(), out=subprocess.PIPE):
-        """The status of a run, and what it wrote."""
+    def run(self, words, env=(), out=subprocess.PIPE, begin=None):
+        """The status of a run, and what it wrote; `begin` is called in its process before."""
         words = [self.named(word) for word in words]
         words = [PROGRAM, "--tree", self.root, "--images", self.images, *words]
-        return run(words, env, out)
+        return run(words, env, out, begin)
 
     def locked(self):
         """Holds the folder as a run does, until what is answered is closed."""
@@ -66,8 +73,9 @@ class Root:
         return folder
 
 
-def run(words, env=(), out=subprocess.PIPE):
+def run(words, env=(), out=subprocess.PIPE, begin=None):
     how = {"stdin": subprocess.DEVNULL, "stdout": out, "stderr": subprocess.PIPE, "timeout": 120}
+    how["preexec_fn"] = begin
     kept = {key: held for key, held in os.environ.items() if key != "EMERGE_QUIET"}
     ran = subprocess.run(words, env={**kept, **dict(env)}, **how)
     return ran.returncode, (ran.stdout or b"").decode(), ran.stderr.decode()

@@ -92,8 +92,11 @@ module _ (m : Map) (asked : Asked) (k : Choices) (are : AreChoices m (flips_of a
   pub of_end : (e : NoPlan) → Ends k s e → Refuses m asked e
   of_end (ends.Text path line) h = inr (k.packages, no_plan k.packages (ends.Text path line) refl h.0)
   of_end (ends.NoCandidate atom reasons packages) h = no_plan packages.items (ends.NoCandidate atom reasons packages) h.1 h.0
-  of_end (ends.NoSolution packages) h = no_plan packages.items (ends.NoSolution packages) h.1 h.0
-  of_end (ends.BacktrackLimit refuted packages) h = no_plan packages.items (ends.BacktrackLimit refuted packages) h.1 h.0
+  of_end ends.Limit h = inr (k.packages, no_plan k.packages ends.Limit refl h.0)
+  of_end (ends.NoSolution dead packages) h = no_plan packages.items (ends.NoSolution dead packages) h.1 h.0
+  of_end (ends.BacktrackLimit refuted dead packages) h = no_plan packages.items (ends.BacktrackLimit refuted dead packages) h.1 h.0
+  of_end (ends.BuildCycle cycle packages) h = no_plan packages.items (ends.BuildCycle cycle packages) h.1 h.0
+  of_end (ends.NoOrder fault packages) h = no_plan packages.items (ends.NoOrder fault packages) h.1 h.0
   of_end (ends.NotPlanned packages) h = no_plan packages.items (ends.NotPlanned packages) h.1 h.0
   of_end (ends.Refused fault packages) h = no_plan packages.items (ends.Refused fault packages) h.1 h.0
   of_end (ends.Tree fault) h = tt
@@ -138,7 +141,7 @@ no_fault m (Unmerge atoms) e unmissed never none = none
 
 pub of_source : (m : Map) (asked : Asked) → HasOffers m (flips_of asked.aim) → (e : NoPlan) → HasNoSource m asked.aim e → Refuses m asked e
 of_source m asked has (ends.Text path line) none = inl (source_bad m asked.aim path line has none)
-of_source m asked has ends.Limit none = source_long m asked.aim has none
+of_source m asked has ends.Limit none = inl (source_long m asked.aim has none)
 of_source m asked has (ends.Tree fault) none = tt
 of_source m asked has e none = absurd (no_fault m asked.aim e (λ n. n) (λ file n. n) none)
 

@@ -34,10 +34,12 @@ module _ (k : Choices) (ps : Vec Installed Global) (same : ps.items ≡ k.packag
 
   pub of_choice : (wish : WishValue) (f : NotChosen) → (f ≢ choosing.Memory → IsUnchosen k wish f) → WishLacks k wish (end_with f ps) × GivesBack k.packages (end_with f ps)
   of_choice wish (choosing.NoCandidate atom reasons) why = (unchosen wish (choosing.NoCandidate atom reasons) tt why, same)
-  of_choice wish choosing.NoSolution why = (unchosen wish choosing.NoSolution tt why, same)
-  of_choice wish (choosing.BacktrackLimit refuted) why = (unchosen wish (choosing.BacktrackLimit refuted) tt why, same)
-  of_choice wish (choosing.Unlinked fault) why = ((choosing.Unlinked fault, tt, unchosen wish (choosing.Unlinked fault) tt why), same)
-  of_choice wish (choosing.Refused fault) why = ((choosing.Refused fault, tt, unchosen wish (choosing.Refused fault) tt why), same)
+  of_choice wish (choosing.NoSolution dead) why = (unchosen wish (choosing.NoSolution dead) tt why, same)
+  of_choice wish (choosing.BacktrackLimit refuted dead) why = (unchosen wish (choosing.BacktrackLimit refuted dead) tt why, same)
+  of_choice wish (choosing.BuildCycle cycle) why = (unchosen wish (choosing.BuildCycle cycle) tt why, same)
+  of_choice wish choosing.Limit why = (unchosen wish choosing.Limit tt why, tt)
+  of_choice wish (choosing.Unlinked fault) why = ((fault, unchosen wish (choosing.Unlinked fault) tt why), same)
+  of_choice wish (choosing.NoOrder fault) why = (unchosen wish (choosing.NoOrder fault) tt why, same)
   of_choice wish choosing.Memory why = (tt, tt)
 
   pub of_filing : (path : List ℕ) (groups : List GroupValue) (f : Unfiled) → IsUnfiled (installed_of k) (offered_of k) (hidden_of k) groups f → GroupsLack k path groups (end_of_file f path ps) × GivesBack k.packages (end_of_file f path ps)

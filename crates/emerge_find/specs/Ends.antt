@@ -10,7 +10,7 @@ use Rattle.plan_text.specs.declared.fault.PlanTextFault.TheVariants as texts
 use Rattle.emerge_choose.specs.declared.fault.NotChosen.{NotChosen}
 use Rattle.emerge_choose.specs.declared.fault.NotChosen.TheVariants as choosing
 use Rattle.emerge_find.specs.declared.ends.NoPlan.{NoPlan}
-use Rattle.emerge_find.specs.declared.ends.NoPlan.TheVariants.{BacktrackLimit, Limit, NoCandidate, NoSolution, NotPlanned, Offers, Opening, Refused, Text, Tree}
+use Rattle.emerge_find.specs.declared.ends.NoPlan.TheVariants.{BacktrackLimit, BuildCycle, Limit, NoCandidate, NoOrder, NoSolution, NotPlanned, Offers, Opening, Refused, Text, Tree}
 use Rattle.emerge_find.specs.declared.unfiled.Unfiled.{Unfiled}
 use Rattle.emerge_find.specs.declared.unfiled.Unfiled.TheVariants as filing
 use Rattle.emerge_find.specs.declared.unmerge.NotUnmerged.{NotUnmerged}
@@ -25,17 +25,16 @@ IsDeviceFailure (Opening fault) = fault ≡ device_failed
 IsDeviceFailure (Tree fault) = fault ≡ trees.Failed
 IsDeviceFailure e = ⊥
 
--- a fault of the plan, over these packages
-abbrev pub unplanned : NotChosen → Vec Installed Global → NoPlan
-unplanned choosing.Memory packages = Tree trees.Memory
-unplanned fault packages = NotPlanned packages
-
--- a fault of the choice, over these packages
+-- a fault of the choice, or of its plan, over these packages
 abbrev pub end_with : NotChosen → Vec Installed Global → NoPlan
 end_with (choosing.NoCandidate atom reasons) packages = NoCandidate atom reasons packages
-end_with choosing.NoSolution packages = NoSolution packages
-end_with (choosing.BacktrackLimit refuted) packages = BacktrackLimit refuted packages
-end_with fault packages = unplanned fault packages
+end_with (choosing.NoSolution dead) packages = NoSolution dead packages
+end_with (choosing.BacktrackLimit refuted dead) packages = BacktrackLimit refuted dead packages
+end_with (choosing.BuildCycle cycle) packages = BuildCycle cycle packages
+end_with choosing.Limit packages = Limit
+end_with (choosing.Unlinked fault) packages = NotPlanned packages
+end_with (choosing.NoOrder fault) packages = NoOrder fault packages
+end_with choosing.Memory packages = Tree trees.Memory
 
 -- a fault of the text of the file at the path
 abbrev pub unread : List ℕ → PlanTextFault → NoPlan

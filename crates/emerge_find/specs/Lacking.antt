@@ -12,11 +12,11 @@ use Rattle.pkg_state.specs.Package.{Package}
 use Rattle.vdb_law.specs.Packages.{Installed}
 use Rattle.plan_text.specs.Plans.{GroupValue}
 use Rattle.plan_model.specs.Faults.{link_rule}
+use Rattle.plan_model.specs.declared.fault.LinkFault.{LinkFault}
 use Rattle.plan_model.specs.declared.fault.LinkFault.TheVariants as links
 use Rattle.plan_model.specs.Accepting.{IsRefused}
 use Rattle.emerge_choose.specs.Reasons.{AreReasons}
 use Rattle.emerge_choose.specs.Wishes.{WishValue}
-use Rattle.emerge_choose.specs.declared.fault.NotChosen.{NotChosen}
 use Rattle.emerge_choose.specs.declared.fault.NotChosen.TheVariants as choosing
 use Rattle.emerge_choose.specs.declared.reason.NotTaken.{NotTaken}
 use Rattle.emerge_find.specs.Choices.{Choices, IsUnchosen, hidden_of, installed_of, offered_of}
@@ -27,23 +27,20 @@ use Rattle.emerge_find.specs.declared.asked.Aim.{Aim}
 use Rattle.emerge_find.specs.declared.asked.Aim.TheVariants.{Atoms, File, Unmerge}
 use Rattle.emerge_find.specs.declared.ends.NoPlan.{NoPlan}
 use Rattle.emerge_find.specs.declared.unmerge.NotUnmerged.TheVariants as going
-use Rattle.emerge_find.specs.declared.ends.NoPlan.TheVariants.{BacktrackLimit, NoCandidate, NoSolution, NotPlanned, Refused, Text, Tree}
-
--- the fault is one of a plan: what is chosen isn't offered, or the plan isn't accepted
-abbrev pub IsOfPlan : NotChosen → Type 0
-IsOfPlan (choosing.Unlinked fault) = ⊤
-IsOfPlan (choosing.Refused fault) = ⊤
-IsOfPlan fault = ⊥
+use Rattle.emerge_find.specs.declared.ends.NoPlan.TheVariants.{BacktrackLimit, BuildCycle, Limit, NoCandidate, NoOrder, NoSolution, NotPlanned, Refused, Text, Tree}
 
 -- nothing is chosen for the wish, for this reason
 abbrev pub WishLacks : Choices → WishValue → NoPlan → Type 0
 WishLacks k wish (NoCandidate atom reasons packages) =
     IsUnchosen k wish (choosing.NoCandidate atom reasons)
-WishLacks k wish (NoSolution packages) = IsUnchosen k wish choosing.NoSolution
-WishLacks k wish (BacktrackLimit refuted packages) =
-    IsUnchosen k wish (choosing.BacktrackLimit refuted)
+WishLacks k wish (NoSolution dead packages) = IsUnchosen k wish (choosing.NoSolution dead)
+WishLacks k wish (BacktrackLimit refuted dead packages) =
+    IsUnchosen k wish (choosing.BacktrackLimit refuted dead)
+WishLacks k wish (BuildCycle cycle packages) = IsUnchosen k wish (choosing.BuildCycle cycle)
+WishLacks k wish Limit = IsUnchosen k wish choosing.Limit
 WishLacks k wish (NotPlanned packages) =
-    (fault : NotChosen) × IsOfPlan fault × IsUnchosen k wish fault
+    (fault : LinkFault) × IsUnchosen k wish (choosing.Unlinked fault)
+WishLacks k wish (NoOrder fault packages) = IsUnchosen k wish (choosing.NoOrder fault)
 WishLacks k wish (Tree trees.Memory) = ⊤
 WishLacks k wish e = ⊥
 
@@ -109,8 +106,10 @@ Lacks m k (Unmerge atoms) e = UnmergeLacks k (map atom_value atoms.items) e
 -- the packages that are given back are these
 abbrev pub GivesBack : List Installed → NoPlan → Type 0
 GivesBack ps (NoCandidate atom reasons packages) = packages.items ≡ ps
-GivesBack ps (NoSolution packages) = packages.items ≡ ps
-GivesBack ps (BacktrackLimit refuted packages) = packages.items ≡ ps
+GivesBack ps (NoSolution dead packages) = packages.items ≡ ps
+GivesBack ps (BacktrackLimit refuted dead packages) = packages.items ≡ ps
+GivesBack ps (BuildCycle cycle packages) = packages.items ≡ ps
+GivesBack ps (NoOrder fault packages) = packages.items ≡ ps
 GivesBack ps (NotPlanned packages) = packages.items ≡ ps
 GivesBack ps (Refused fault packages) = packages.items ≡ ps
 GivesBack ps e = ⊤

@@ -20,7 +20,7 @@ use Rattle.emerge_find.specs.declared.asked.Aim.{Aim}
 use Rattle.emerge_find.specs.declared.asked.Aim.TheVariants.{Atoms, File, Unmerge}
 use Rattle.emerge_find.specs.declared.asked.Asked.{Asked}
 use Rattle.emerge_find.specs.declared.ends.NoPlan.{NoPlan}
-use Rattle.emerge_find.specs.declared.ends.NoPlan.TheVariants.{BacktrackLimit, Limit, NoCandidate, NoSolution, NotPlanned, Offers, Opening, Refused, Text, Tree}
+use Rattle.emerge_find.specs.declared.ends.NoPlan.TheVariants.{BacktrackLimit, BuildCycle, Limit, NoCandidate, NoOrder, NoSolution, NotPlanned, Offers, Opening, Refused, Text, Tree}
 
 -- the map has offers
 pub record HasOffers (m : Map) (flips : ℕ) : Type 0 where
@@ -76,18 +76,27 @@ abbrev pub IsOfFile : Map → Asked → List ℕ → ℕ → Type 0
 IsOfFile m asked path line = HasBadFile m asked.aim path line
     ⊎ ((ps : List Installed) × HasNoPlan m asked ps (Text path line))
 
+-- the file that is aimed at has a group too many, or what is chosen for atoms has
+abbrev pub HasTooManyGroups : Map → Asked → Type 0
+HasTooManyGroups m asked = HasLongFile m asked.aim
+    ⊎ ((ps : List Installed) × HasNoPlan m asked ps Limit)
+
 -- why the map has no plan for what is asked; a failure and want of memory say nothing of it
 abbrev pub Refuses : Map → Asked → NoPlan → Type 0
 Refuses m asked (Offers fault) = offering.IsOfMachine fault ⊎ offering.FirstFault m fault
 Refuses m asked (Opening fault) = HasNoOpening m asked fault
 Refuses m asked (Text path line) = IsOfFile m asked path line
-Refuses m asked Limit = HasLongFile m asked.aim
+Refuses m asked Limit = HasTooManyGroups m asked
 Refuses m asked (NoCandidate atom reasons packages) =
     HasNoPlan m asked packages.items (NoCandidate atom reasons packages)
-Refuses m asked (NoSolution packages) =
-    HasNoPlan m asked packages.items (NoSolution packages)
-Refuses m asked (BacktrackLimit refuted packages) =
-    HasNoPlan m asked packages.items (BacktrackLimit refuted packages)
+Refuses m asked (NoSolution dead packages) =
+    HasNoPlan m asked packages.items (NoSolution dead packages)
+Refuses m asked (BacktrackLimit refuted dead packages) =
+    HasNoPlan m asked packages.items (BacktrackLimit refuted dead packages)
+Refuses m asked (BuildCycle cycle packages) =
+    HasNoPlan m asked packages.items (BuildCycle cycle packages)
+Refuses m asked (NoOrder fault packages) =
+    HasNoPlan m asked packages.items (NoOrder fault packages)
 Refuses m asked (NotPlanned packages) =
     HasNoPlan m asked packages.items (NotPlanned packages)
 Refuses m asked (Refused fault packages) =

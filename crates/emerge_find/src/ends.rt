@@ -1,12 +1,12 @@
 ghost use Rattle.std.specs.Prelude.{◌≡◌};
 ghost use Rattle.emerge_find.specs.Ends.{end_of, end_of_file, end_of_unmerge, end_with};
-ghost use Rattle.emerge_find.specs.Ends.{unplanned};
 
 use crate::unfiled::Unfiled;
 use crate::unmade::Unmade;
 use crate::unmerge::NotUnmerged;
+use choice_ends::DeadEnd;
 use choice_tree::Choice;
-use dep_atom::Atom;
+use dep_atom::{Atom, PackageId};
 use emerge_choose::{NotChosen, NotTaken};
 use file_tree::{Path, TreeFault};
 use plan_rules::PlanRefused;
@@ -32,8 +32,8 @@ pub enum NoPlan {
         path: Path,
         line: u32,
     },
-    /// The plan's file has too many groups.
-    #[error("a plan's file has too many groups")]
+    /// The plan's file has too many groups, or what is chosen would have more than 4,096.
+    #[error("there are too many groups")]
     Limit,
     /// The first wanted atom that matches nothing, or that of the first addition of the plan's file
     /// that isn't offered, and the candidates of its name; or the first atom that matches nothing
@@ -44,18 +44,34 @@ pub enum NoPlan {
         reasons: Vec<NotTaken>,
         packages: Vec<Installed>,
     },
+    /// The first ten of the choices that were tried in vain.
     #[error("there is no solution")]
     NoSolution {
+        dead: Vec<DeadEnd>,
         packages: Vec<Installed>,
     },
-    /// So many choices were tried in vain: these, in their order.
+    /// So many choices were tried in vain: these, in their order, and the first ten as dead ends.
     #[error("the limit of choices that are tried in vain is reached")]
     BacktrackLimit {
         refuted: Vec<Choice>,
+        dead: Vec<DeadEnd>,
         packages: Vec<Installed>,
     },
-    /// What is chosen isn't offered, or its plan isn't accepted.
-    #[error("what is chosen is not accepted")]
+    /// These packages of what is chosen wait for one another, and some of them build on others of
+    /// them.
+    #[error("packages build on one another")]
+    BuildCycle {
+        cycle: Vec<PackageId>,
+        packages: Vec<Installed>,
+    },
+    /// Neither plan of what is chosen is accepted: what is wrong with that of levels.
+    #[error("what is chosen has no order")]
+    NoOrder {
+        fault: PlanRefused,
+        packages: Vec<Installed>,
+    },
+    /// What is chosen isn't offered.
+    #[error("what is chosen is not offered")]
     NotPlanned {
         packages: Vec<Installed>,
     },
@@ -135,22 +151,17 @@ fn end_with(fault: NotChosen, packages: Vec<Installed>) -> NoPlan
             reasons,
             packages,
         },
-        NotChosen::NoSolution => NoPlan::NoSolution { packages },
-        NotChosen::BacktrackLimit { refuted } => NoPlan::BacktrackLimit { refuted, packages },
-        fault => unplanned(fault, packages),
-    }
-}
-
-/// The same for a fault of the chosen plan, and for want of memory.
-fn unplanned(fault: NotChosen, packages: Vec<Installed>) -> NoPlan
-    ensures { result ≡ unplanned fault packages }
-{
-    match fault {
+        NotChosen::NoSolution { dead } => NoPlan::NoSolution { dead, packages },
+        NotChosen::BacktrackLimit { refuted, dead } => NoPlan::BacktrackLimit {
+            refuted,
+            dead,
+            packages,
+        },
+        NotChosen::BuildCycle { packages: cycle } => NoPlan::BuildCycle { cycle, packages },
+        NotChosen::Limit => NoPlan::Limit,
+        NotChosen::Unlinked(_) => NoPlan::NotPlanned { packages },
+        NotChosen::NoOrder(fault) => NoPlan::NoOrder { fault, packages },
         NotChosen::Memory => NoPlan::Tree(TreeFault::Memory),
-        fault => {
-            drop(fault);
-            NoPlan::NotPlanned { packages }
-        }
     }
 }
 

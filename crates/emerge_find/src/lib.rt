@@ -16,9 +16,10 @@
 //! the atoms match goes (`IsFound` of `specs/Choices.antt`). Any other answer but a
 //! failure and want of memory tells why there is none (`Refuses` of `specs/Refusals.antt`), in this
 //! order: the first fault of the configuration, too many candidates, the first fault of the text of
-//! the file (`specs/Files.antt`), that no run can begin with the installed packages, and then that
-//! nothing is chosen of what is offered, or what the file's plan has wrong, or which atom matches
-//! nothing that is installed, or why that may not go (`specs/Lacking.antt`).
+//! the file (`specs/Files.antt`), that no run can begin with the installed packages, and then why
+//! nothing is chosen of what is offered, or why what is chosen has no plan, or what the file's plan
+//! has wrong, or which atom matches nothing that is installed, or why that may not go
+//! (`specs/Lacking.antt`).
 //! The tree is only read. A law says that the plan is accepted over the installed packages, and
 //! that what comes with it can be recorded (`specs/Laws.antt`).
 //!

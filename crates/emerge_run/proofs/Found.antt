@@ -73,9 +73,11 @@ plan_early e = tt
 pub plan_unread : (e : NoPlan) → IsUnread (status_of e) → packages_with e ≡ []
 plan_unread (ends.Opening (openings.Inconsistent fault packages)) of = absurd of
 plan_unread (ends.NoCandidate atom reasons packages) of = absurd of
-plan_unread (ends.NoSolution packages) of = absurd of
-plan_unread (ends.BacktrackLimit refuted packages) of = absurd of
+plan_unread (ends.NoSolution dead packages) of = absurd of
+plan_unread (ends.BacktrackLimit refuted dead packages) of = absurd of
 plan_unread (ends.Refused fault packages) of = absurd of
+plan_unread (ends.BuildCycle cycle packages) of = absurd of
+plan_unread (ends.NoOrder fault packages) of = absurd of
 plan_unread (ends.NotPlanned packages) of = absurd of
 plan_unread e of = refl
 

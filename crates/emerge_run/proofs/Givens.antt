@@ -87,9 +87,11 @@ module _ (m : Map) (asked : Asked) where
   gives_refused (ends.Opening (opens.Database (databases.Tree trees.Memory))) ps refuses is = none_given (ends.Opening (opens.Database (databases.Tree trees.Memory))) ps (λ of. of) (λ is_paths. absurd (cc is_paths)) is
   gives_refused (ends.Opening (opens.Inconsistent fault packages)) ps refuses is = all_given (ends.Opening (opens.Inconsistent fault packages)) ps (record { database = refuses.refused.database; tidy = refuses.refused.tidy }) is
   gives_refused (ends.NoCandidate atom reasons packages) ps refuses is = all_given (ends.NoCandidate atom reasons packages) ps (beside_no_plan m asked packages.items _ refuses) is
-  gives_refused (ends.NoSolution packages) ps refuses is = all_given (ends.NoSolution packages) ps (beside_no_plan m asked packages.items _ refuses) is
-  gives_refused (ends.BacktrackLimit refuted packages) ps refuses is = all_given (ends.BacktrackLimit refuted packages) ps (beside_no_plan m asked packages.items _ refuses) is
+  gives_refused (ends.NoSolution dead packages) ps refuses is = all_given (ends.NoSolution dead packages) ps (beside_no_plan m asked packages.items _ refuses) is
+  gives_refused (ends.BacktrackLimit refuted dead packages) ps refuses is = all_given (ends.BacktrackLimit refuted dead packages) ps (beside_no_plan m asked packages.items _ refuses) is
   gives_refused (ends.Refused fault packages) ps refuses is = all_given (ends.Refused fault packages) ps (beside_no_plan m asked packages.items _ refuses) is
+  gives_refused (ends.BuildCycle cycle packages) ps refuses is = all_given (ends.BuildCycle cycle packages) ps (beside_no_plan m asked packages.items _ refuses) is
+  gives_refused (ends.NoOrder fault packages) ps refuses is = all_given (ends.NoOrder fault packages) ps (beside_no_plan m asked packages.items _ refuses) is
   gives_refused (ends.NotPlanned packages) ps refuses is = all_given (ends.NotPlanned packages) ps (beside_no_plan m asked packages.items _ refuses) is
   gives_refused (ends.Tree trees.Memory) ps refuses is = none_given (ends.Tree trees.Memory) ps (λ of. of) (λ is_paths. absurd (cc is_paths)) is
   gives_refused e ps refuses is = none_given e ps (λ of. of) (λ is_paths. absurd (cc is_paths)) is

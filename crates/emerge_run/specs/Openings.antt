@@ -24,7 +24,7 @@ AreInstalledAfter opening ps = (m : Map) × IsRecovered opening m × AreInstalle
 abbrev pub HasTooMuchAfter : Map → Quantity → Type 0
 HasTooMuchAfter opening quantity = (m : Map) × IsRecovered opening m × HasTooMuch m quantity
 
--- a run that answers so ended before it had read the database
+-- a run that answers so ended before it had read the database, or for a plan of too many groups
 abbrev pub IsUnread : Status → Type 0
 IsUnread (status.Usage fault) = ⊤
 IsUnread (status.BadText path line) = ⊤
@@ -41,9 +41,11 @@ abbrev pub HasRead : Status → Type 0
 HasRead (status.Ok groups) = ⊤
 HasRead (status.Inconsistent fault) = ⊤
 HasRead (status.NoCandidate atom reasons) = ⊤
-HasRead status.NoSolution = ⊤
-HasRead (status.BacktrackLimit refuted) = ⊤
+HasRead (status.NoSolution dead) = ⊤
+HasRead (status.BacktrackLimit refuted dead) = ⊤
 HasRead (status.PlanRefused fault) = ⊤
+HasRead (status.BuildCycle packages) = ⊤
+HasRead (status.NoOrder fault) = ⊤
 HasRead (status.Collision c) = ⊤
 HasRead (status.BadImage b) = ⊤
 HasRead (status.BuildFailed id) = ⊤

@@ -76,7 +76,7 @@ pub record HasRecovered (old new : Story) : Type 0 where
   pub rest : IsAtRest new.now.holds new.now
 
 -- what the tree holds where a run ended for its journal: what it held; with too many groups that,
--- or what recovery made of it, since a plan's file may have too many of them, too
+-- or what recovery made of it, since a plan may have too many of them, too
 abbrev pub KeepsJournal : Story → Story → Status → Type 0
 KeepsJournal old new (status.BadJournal fault) = new.now.holds ≡ old.now.holds
 KeepsJournal old new (status.Limit Groups) =

@@ -31,9 +31,11 @@ status_of (ends.Opening fault) = status_of_opening fault
 status_of (ends.Text path line) = status.BadText path line
 status_of ends.Limit = status.Limit Groups
 status_of (ends.NoCandidate atom reasons packages) = status.NoCandidate atom reasons
-status_of (ends.NoSolution packages) = status.NoSolution
-status_of (ends.BacktrackLimit refuted packages) = status.BacktrackLimit refuted
+status_of (ends.NoSolution dead packages) = status.NoSolution dead
+status_of (ends.BacktrackLimit refuted dead packages) = status.BacktrackLimit refuted dead
 status_of (ends.Refused fault packages) = status.PlanRefused fault
+status_of (ends.BuildCycle cycle packages) = status.BuildCycle cycle
+status_of (ends.NoOrder fault packages) = status.NoOrder fault
 status_of (ends.NotPlanned packages) = status.NotBuilt PlanResult
 status_of (ends.Tree fault) = status_of_tree fault
 
@@ -46,9 +48,11 @@ packages_beside (openings.Inconsistent fault packages) = packages.items
 abbrev pub packages_with : NoPlan → List Installed
 packages_with (ends.Opening fault) = packages_beside fault
 packages_with (ends.NoCandidate atom reasons packages) = packages.items
-packages_with (ends.NoSolution packages) = packages.items
-packages_with (ends.BacktrackLimit refuted packages) = packages.items
+packages_with (ends.NoSolution dead packages) = packages.items
+packages_with (ends.BacktrackLimit refuted dead packages) = packages.items
 packages_with (ends.Refused fault packages) = packages.items
+packages_with (ends.BuildCycle cycle packages) = packages.items
+packages_with (ends.NoOrder fault packages) = packages.items
 packages_with (ends.NotPlanned packages) = packages.items
 packages_with e = []
 

@@ -131,10 +131,16 @@ fn unplanned(alloc: Global, end: NoPlan) -> Seen
             reasons,
             packages,
         } => over(packages, Status::NoCandidate { atom, reasons }),
-        NoPlan::NoSolution { packages } => over(packages, Status::NoSolution),
-        NoPlan::BacktrackLimit { refuted, packages } => {
-            over(packages, Status::BacktrackLimit { refuted })
+        NoPlan::NoSolution { dead, packages } => over(packages, Status::NoSolution { dead }),
+        NoPlan::BacktrackLimit {
+            refuted,
+            dead,
+            packages,
+        } => over(packages, Status::BacktrackLimit { refuted, dead }),
+        NoPlan::BuildCycle { cycle, packages } => {
+            over(packages, Status::BuildCycle { packages: cycle })
         }
+        NoPlan::NoOrder { fault, packages } => over(packages, Status::NoOrder(fault)),
         NoPlan::Refused { fault, packages } => over(packages, Status::PlanRefused(fault)),
         NoPlan::NotPlanned { packages } => over(packages, Status::NotBuilt { what: Part::Result }),
         NoPlan::Tree(fault) => ended(alloc, Status::from(fault)),

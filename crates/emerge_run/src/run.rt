@@ -27,7 +27,7 @@ pub struct Ended<T, S, P> {
     pub out: S,
     pub pool: P,
     /// The packages that were installed in the recovered tree, in byte order of their folders; none
-    /// where the run ended before it had read them.
+    /// where the run ended before it had read them, or for a plan of too many groups.
     pub opening: Vec<Installed>,
     /// The plan, where one was found and accepted.
     pub plan: Option<Plan>,
@@ -44,12 +44,13 @@ pub struct Ended<T, S, P> {
 /// The words are those of the whole product; what is done today is the merge of what atoms match, and
 /// of a plan that stands in a file. First an interrupted merge is completed or dropped. Then the
 /// configuration, the repository and the installed packages are read, and the first good choice is
-/// taken, all of whose changes are one group, or the file's plan is checked. The groups are merged one
-/// after another, or the plan is shown where the words say `--pretend`. Of each group the images are
-/// built, the files of what comes are put to their paths, and its record below `var/db/pkg`; what goes
-/// leaves with its record, and with its paths that don't come anew. The line of a group comes after
-/// all of it is synced, and last the journal is cleared. Want of memory may be answered in place of
-/// anything.
+/// taken: its changes come in groups of what has to come together, each behind those that it waits
+/// for, or, where the check refuses these, in one group for each level of what is built with what. Or
+/// the file's plan is checked. The groups are merged one after another, or the plan is shown where the
+/// words say `--pretend`. Of each group the images are built, the files of what comes are put to their
+/// paths, and its record below `var/db/pkg`; what goes leaves with its record, and with its paths that
+/// don't come anew. The line of a group comes after all of it is synced, and last the journal is
+/// cleared. Want of memory may be answered in place of anything.
 pub fn emerge<T: Tree + Send, S: Sink + Send, B: Builder + Send>(
     alloc: Global,
     words: &[String],

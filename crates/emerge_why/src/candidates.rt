@@ -1,5 +1,7 @@
+use crate::dead::push_dead;
 use crate::telling::{say, say_all};
 use crate::words::{is_unmerge, root_of};
+use choice_ends::DeadEnd;
 use dep_atom::Atom;
 use emerge_choose::{NotTaken, Reason};
 use emerge_words::MOST_BACKTRACK;
@@ -106,14 +108,25 @@ fn told_reason(reason: Reason) -> &'static str {
 }
 
 /// No choice of packages serves what was asked for.
-pub(crate) fn push_no_solution(alloc: Global, lines: &mut Vec<String>) -> Result<(), AllocError> {
+pub(crate) fn push_no_solution(
+    alloc: Global,
+    lines: &mut Vec<String>,
+    dead: &[DeadEnd],
+) -> Result<(), AllocError> {
     say_all(
         alloc,
         lines,
         &[
             "every choice was tried: no versions have all that was asked for, with all that they need",
-            "and nothing that keeps one of them out. Ask for one package at a time to see which it is;",
-            "then ask for another version, accept a keyword or unmask a package that is needed, or give",
+            "and nothing that keeps one of them out",
+        ],
+    )?;
+    push_dead(alloc, lines, dead)?;
+    say_all(
+        alloc,
+        lines,
+        &[
+            "ask for another version, accept a keyword or unmask a package that is needed, or give",
             "--flag-changes 1 (or 2) where a USE flag is in the way. Nothing was merged",
         ],
     )
@@ -124,10 +137,12 @@ pub(crate) fn push_backtrack(
     alloc: Global,
     lines: &mut Vec<String>,
     tried: usize,
+    dead: &[DeadEnd],
 ) -> Result<(), AllocError> {
     lines.push(format!(in alloc;
         "the search was given up; choices of packages that were tried in vain: {tried}"
     )?)?;
+    push_dead(alloc, lines, dead)?;
     lines.push(format!(in alloc;
         "a later one may be good: give --backtrack a greater number, up to {MOST_BACKTRACK}"
     )?)?;

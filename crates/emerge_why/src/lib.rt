@@ -18,10 +18,12 @@
 #![tactic(auto)]
 
 mod candidates;
+mod dead;
 mod files;
 mod images;
 mod limits;
 mod numbers;
+mod orders;
 mod packages;
 mod plans;
 mod telling;

@@ -56,7 +56,7 @@ fn told_limit(quantity: Quantity) -> (&'static str, &'static str) {
     match quantity {
         Quantity::Groups => (
             "the plan has more than 4096 groups, or below var/lib/portage/jobs lie as many unfinished",
-            "ones of stopped runs: split the plan, or move away there what no run left",
+            "ones of stopped runs: ask for fewer packages, split the plan, or move away what no run left",
         ),
         Quantity::Packages => (
             "more than 65536 packages are installed, which this program can't handle",
@@ -99,9 +99,8 @@ pub(crate) fn push_part(
                 alloc,
                 lines,
                 &[
-                    "what was chosen can't come at one go: a package of it has to be there before another",
-                    "is built, or an installed one has to go first. Install what has to be there first by a",
-                    "command of its own, and then the rest; nothing was merged",
+                    "a package that was chosen isn't offered as the plan for it says, which is a fault of this",
+                    "program. Ask for it by a command of its own, or for another version; nothing was merged",
                 ],
             )
         }

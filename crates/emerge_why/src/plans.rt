@@ -21,10 +21,12 @@ pub(crate) fn push_refused(
         "the plan was checked before anything was changed, and is refused:",
     )?;
     push_rule(alloc, lines, fault)?;
+    push_help(alloc, lines, fault)?;
     say(alloc, lines, GROUPS)
 }
 
-fn push_rule(
+/// Which rule a plan breaks.
+pub(crate) fn push_rule(
     alloc: Global,
     lines: &mut Vec<String>,
     fault: &PlanRefused,
@@ -35,30 +37,19 @@ fn push_rule(
             lines.push(format!(in alloc;
                 "groups {group} and {other} both change {line}, and neither waits for the other"
             )?)?;
-            say(
-                alloc,
-                lines,
-                "let the later one wait, by a line `after` with the earlier one's number",
-            )
+            Ok(())
         }
         PlanRefused::Absent { group, package } => {
             let id = package.print(alloc)?;
             lines.push(format!(in alloc; "group {group} removes {id}, which isn't there then")?)?;
-            say(
-                alloc,
-                lines,
-                "take that line out, or name the version that is there",
-            )
+            Ok(())
         }
         PlanRefused::Occupied {
             group,
             package,
             other,
         } => push_occupied(alloc, lines, *group, package, other),
-        PlanRefused::Opening(broken) => {
-            push_conflict(alloc, lines, broken)?;
-            say(alloc, lines, "repair the system first")
-        }
+        PlanRefused::Opening(broken) => push_conflict(alloc, lines, broken),
         other => push_addition_rule(alloc, lines, other),
     }
 }
@@ -75,7 +66,7 @@ fn push_addition_rule(
             lines.push(format!(in alloc;
                 "the USE flags that the plan gives {id} don't go together (REQUIRED_USE)"
             )?)?;
-            say(alloc, lines, "put a flag on or off behind it on its line")
+            Ok(())
         }
         PlanRefused::Binding {
             package,
@@ -96,7 +87,6 @@ fn push_occupied(
     let id = package.print(alloc)?;
     let other = other.print(alloc)?;
     lines.push(format!(in alloc; "group {group} adds {id}, in whose place {other} stands")?)?;
-    lines.push(format!(in alloc; "remove {other} in the same group, or add one of both alone")?)?;
     Ok(())
 }
 
@@ -117,14 +107,10 @@ fn push_binding(
             lines.push(format!(in alloc;
                 "`bind {slot}/{subslot}` isn't the slot of the greatest version that stands beside it"
             )?)?;
+            Ok(())
         }
-        None => say(alloc, lines, "and none stands there")?,
+        None => say(alloc, lines, "and none stands there"),
     }
-    say(
-        alloc,
-        lines,
-        "write slot/subslot of the version that is there behind the group",
-    )
 }
 
 /// The rules on what a package needs or keeps out.
@@ -161,7 +147,7 @@ fn push_need_rule(
             lines.push(format!(in alloc;
                 "{id} wants {need} some time after it came (PDEPEND), and at the end it isn't there"
             )?)?;
-            say(alloc, lines, "add it in any group")
+            Ok(())
         }
         _ => Err(AllocError),
     }
@@ -181,11 +167,7 @@ fn push_missing(
     lines.push(format!(in alloc;
         "{id} of group {group} needs {need} to run ({class}), which isn't there, or not all the time"
     )?)?;
-    say(
-        alloc,
-        lines,
-        "bring what it needs in that group or one that it waits for, or remove the package, too",
-    )
+    Ok(())
 }
 
 fn push_unsafe(
@@ -207,11 +189,7 @@ fn push_unsafe(
         push_number(alloc, &mut which, *group)?;
     }
     lines.push(which)?;
-    say(
-        alloc,
-        lines,
-        "let one wait for the other by a line `after`, or make them one group",
-    )
+    Ok(())
 }
 
 fn push_number(alloc: Global, text: &mut String, number: usize) -> Result<(), AllocError> {
@@ -230,9 +208,6 @@ fn push_block(
     lines.push(format!(in alloc;
         "{id} may not be there together with {other} (a block), and in some order it is"
     )?)?;
-    lines.push(format!(in alloc;
-        "let the group that adds {id} wait for one that removes {other}, by a line `after`"
-    )?)?;
     Ok(())
 }
 
@@ -250,11 +225,69 @@ fn push_build(
     lines.push(format!(in alloc;
         "{id} of group {group} wants {need} for its build ({class}), which may be missing then"
     )?)?;
-    say(
-        alloc,
-        lines,
-        "add it in a group before, for which that group waits by a line `after`",
-    )
+    Ok(())
+}
+
+/// What to do in a plan that breaks a rule.
+fn push_help(
+    alloc: Global,
+    lines: &mut Vec<String>,
+    fault: &PlanRefused,
+) -> Result<(), AllocError> {
+    match fault {
+        PlanRefused::Occupied { other, .. } => {
+            let other = other.print(alloc)?;
+            lines.push(format!(in alloc;
+                "remove {other} in the same group, or add one of both alone"
+            )?)?;
+            Ok(())
+        }
+        PlanRefused::Blocked { package, other } | PlanRefused::Barred { package, other, .. } => {
+            push_wait(alloc, lines, package, other)
+        }
+        other => say(alloc, lines, help_for(other)),
+    }
+}
+
+/// The package that comes is to wait for the one that goes.
+fn push_wait(
+    alloc: Global,
+    lines: &mut Vec<String>,
+    package: &PackageId,
+    other: &PackageId,
+) -> Result<(), AllocError> {
+    let id = package.print(alloc)?;
+    let other = other.print(alloc)?;
+    lines.push(format!(in alloc;
+        "let the group that adds {id} wait for one that removes {other}, by a line `after`"
+    )?)?;
+    Ok(())
+}
+
+/// What to do in a plan that breaks a rule whose help names no package.
+fn help_for(fault: &PlanRefused) -> &'static str {
+    match fault {
+        PlanRefused::Line { .. } => {
+            "let the later one wait, by a line `after` with the earlier one's number"
+        }
+        PlanRefused::Absent { .. } => "take that line out, or name the version that is there",
+        PlanRefused::Opening(_) => "repair the system first",
+        PlanRefused::RequiredUse { .. } => "put a flag on or off behind it on its line",
+        PlanRefused::Binding { .. } => {
+            "write slot/subslot of the version that is there behind the group"
+        }
+        PlanRefused::Unsatisfied { .. } => {
+            "bring what it needs in that group or one that it waits for, or remove the package, too"
+        }
+        PlanRefused::Unsafe { .. } => {
+            "let one wait for the other by a line `after`, or make them one group"
+        }
+        PlanRefused::Build { .. } => {
+            "add it in a group before, for which that group waits by a line `after`"
+        }
+        PlanRefused::Final { .. } => "add it in any group",
+        _ => "correct the plan",
+    }
 }
 
 /// What a package needs, or that none of several packages will do.

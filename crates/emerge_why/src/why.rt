@@ -5,6 +5,7 @@ use crate::candidates::{push_backtrack, push_no_candidate, push_no_solution};
 use crate::files::push_text;
 use crate::images::{push_build, push_collision, push_image};
 use crate::limits::{push_device, push_limit, push_memory, push_output, push_part};
+use crate::orders::{push_cycle, push_no_order};
 use crate::packages::{push_broken, push_database, push_journal};
 use crate::plans::push_refused;
 use crate::telling::told;
@@ -58,9 +59,13 @@ fn push_why(
         Status::NoCandidate { atom, reasons } => {
             push_no_candidate(alloc, lines, words, atom, reasons)
         }
-        Status::NoSolution => push_no_solution(alloc, lines),
-        Status::BacktrackLimit { refuted } => push_backtrack(alloc, lines, refuted.len()),
+        Status::NoSolution { dead } => push_no_solution(alloc, lines, dead),
+        Status::BacktrackLimit { refuted, dead } => {
+            push_backtrack(alloc, lines, refuted.len(), dead)
+        }
         Status::PlanRefused(fault) => push_refused(alloc, lines, fault),
+        Status::BuildCycle { packages } => push_cycle(alloc, lines, packages),
+        Status::NoOrder(fault) => push_no_order(alloc, lines, fault),
         Status::Collision(collision) => push_collision(alloc, lines, root, collision),
         Status::BadImage(bad) => push_image(alloc, lines, words, bad),
         Status::BuildFailed { package } => push_build(alloc, lines, words, package),

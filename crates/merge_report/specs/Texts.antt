@@ -109,6 +109,10 @@ abbrev pub refused_text : Option Refusal → List ℕ
 refused_text None = []
 refused_text (Some refusal) = flat_map spaced (refusal_words refusal)
 
+-- a package behind a space
+abbrev pub spaced_id : PackageId → List ℕ
+spaced_id id = spaced (id_text id)
+
 -- the group whose record is broken, or the stage
 abbrev pub broken_text : RecoverFault → List ℕ
 broken_text (recovery.BadRecord g) = decimal g ++ codes " record"
@@ -145,10 +149,12 @@ last_word (status.Inconsistent fault) = codes "Inconsistent: " ++ inconsistent_t
 last_word (status.BadJournal fault) = codes "BadJournal: " ++ broken_text fault
 last_word (status.NoCandidate atom reasons) =
     codes "NoCandidate: " ++ (atom_text atom ++ flat_map reason_text reasons.items)
-last_word status.NoSolution = codes "NoSolution"
-last_word (status.BacktrackLimit refuted) =
+last_word (status.NoSolution dead) = codes "NoSolution"
+last_word (status.BacktrackLimit refuted dead) =
     codes "BacktrackLimit: " ++ decimal (length refuted.items)
 last_word (status.PlanRefused fault) = codes "PlanRefused:" ++ refused_text (told fault)
+last_word (status.BuildCycle packages) = codes "BuildCycle:" ++ flat_map spaced_id packages.items
+last_word (status.NoOrder fault) = codes "NoOrder:" ++ refused_text (told fault)
 last_word (status.Collision c) = codes "Collision: " ++ collision_text c
 last_word (status.BadImage b) = codes "BadImage: " ++ bad_text b
 last_word (status.BuildFailed id) = codes "BuildFailed: " ++ id_text id
@@ -170,9 +176,11 @@ code_of (status.BadDatabase fault) = 4
 code_of (status.BadJournal fault) = 5
 code_of (status.Inconsistent fault) = 6
 code_of (status.NoCandidate atom reasons) = 7
-code_of status.NoSolution = 8
-code_of (status.BacktrackLimit refuted) = 9
+code_of (status.NoSolution dead) = 8
+code_of (status.BacktrackLimit refuted dead) = 9
 code_of (status.PlanRefused fault) = 10
+code_of (status.BuildCycle packages) = 11
+code_of (status.NoOrder fault) = 12
 code_of (status.Collision c) = 13
 code_of (status.BadImage b) = 14
 code_of (status.BuildFailed id) = 15

@@ -1,4 +1,5 @@
 use crate::collision::Collision;
+use choice_ends::DeadEnd;
 use choice_tree::Choice;
 use dep_atom::{Atom, PackageId};
 use emerge_choose::NotTaken;
@@ -23,13 +24,20 @@ pub enum Part {
 #[derive(Debug, Drop)]
 pub enum Status {
     /// The command was done, with this many groups acknowledged.
-    Ok { groups: u32 },
+    Ok {
+        groups: u32,
+    },
     /// The words are no command, or a word in them is no number or no atom.
-    Usage { fault: WordFault },
+    Usage {
+        fault: WordFault,
+    },
     /// The file of the configuration, or that of the plan, isn't in form at this line, counted from
     /// 1. Line 0 has a folder or a plan's file that is missing, and a plan with a flag that its
     /// package doesn't know.
-    BadText { path: Path, line: u32 },
+    BadText {
+        path: Path,
+        line: u32,
+    },
     /// The first fault of the database of installed packages.
     BadDatabase(DatabaseFault),
     /// The first open group of the journal that isn't in form, by its record or a stage of it.
@@ -39,29 +47,50 @@ pub enum Status {
     /// The first wanted atom that matches neither what is installed nor what may be installed, or
     /// that of the first addition of a plan's file that isn't offered: the candidates of its name,
     /// the greatest version first, each with why it isn't taken.
-    NoCandidate { atom: Atom, reasons: Vec<NotTaken> },
-    /// No choice of packages serves the wanted atoms.
-    NoSolution,
-    /// So many choices were tried in vain: these, in their order.
-    BacktrackLimit { refuted: Vec<Choice> },
+    NoCandidate {
+        atom: Atom,
+        reasons: Vec<NotTaken>,
+    },
+    /// No choice of packages serves the wanted atoms: the first that were tried in vain.
+    NoSolution {
+        dead: Vec<DeadEnd>,
+    },
+    /// So many choices were tried in vain: these, in their order, and the first of them told by
+    /// packages.
+    BacktrackLimit {
+        refuted: Vec<Choice>,
+        dead: Vec<DeadEnd>,
+    },
     /// The first rule of the check that the plan of a file breaks.
     PlanRefused(PlanRefused),
+    /// Of these packages of what is chosen each waits for all others, and one is built with another.
+    BuildCycle {
+        packages: Vec<PackageId>,
+    },
+    /// What is chosen comes in no order of groups: the first rule that its plan by levels breaks.
+    NoOrder(PlanRefused),
     /// A path of the package's image can't be placed.
     Collision(Collision),
     /// The package's image isn't in form.
     BadImage(ImageBad),
     /// A builder failed at this package.
-    BuildFailed { package: PackageId },
+    BuildFailed {
+        package: PackageId,
+    },
     /// The tree's device failed.
     DeviceFault,
     /// The output failed.
     OutputFault,
     /// There is more of the quantity than may be.
-    Limit { quantity: Quantity },
+    Limit {
+        quantity: Quantity,
+    },
     /// Memory ran out.
     Memory,
     /// The run met what this part of the product can't do yet.
-    NotBuilt { what: Part },
+    NotBuilt {
+        what: Part,
+    },
 }
 
 impl Status {
@@ -80,9 +109,11 @@ impl Status {
             Status::BadJournal(_) => 5,
             Status::Inconsistent(_) => 6,
             Status::NoCandidate { .. } => 7,
-            Status::NoSolution => 8,
+            Status::NoSolution { .. } => 8,
             Status::BacktrackLimit { .. } => 9,
             Status::PlanRefused(_) => 10,
+            Status::BuildCycle { .. } => 11,
+            Status::NoOrder(_) => 12,
             Status::Collision(_) => 13,
             Status::BadImage(_) => 14,
             Status::BuildFailed { .. } => 15,

@@ -8,7 +8,7 @@ ghost use Rattle.merge_report.specs.Shown.{shown};
 ghost use Rattle.merge_report.specs.Texts.{bad_text, broken_text, collision_text, come_text};
 ghost use Rattle.merge_report.specs.Texts.{done_line, gone_text, inconsistent_text, last_line};
 ghost use Rattle.merge_report.specs.Texts.{leaf_text, pair_text, place_of_fault, reason_text};
-ghost use Rattle.merge_report.specs.Texts.{reason_word, refused_text};
+ghost use Rattle.merge_report.specs.Texts.{reason_word, refused_text, spaced_id};
 
 use crate::collision::Collision;
 use crate::escapes::shown;
@@ -90,11 +90,13 @@ pub fn fixed_line(status: &Status) -> Option<&'static str>
         | Status::NoCandidate { .. }
         | Status::BacktrackLimit { .. }
         | Status::PlanRefused(_)
+        | Status::BuildCycle { .. }
+        | Status::NoOrder(_)
         | Status::Collision(_)
         | Status::BadImage(_)
         | Status::BuildFailed { .. } => None,
         Status::Usage { fault } => fixed_usage(fault),
-        Status::NoSolution => Some("emerge: NoSolution\n"),
+        Status::NoSolution { .. } => Some("emerge: NoSolution\n"),
         Status::DeviceFault => Some("emerge: DeviceFault\n"),
         Status::OutputFault => Some("emerge: OutputFault\n"),
         Status::Limit { quantity } => Some(limit_line(*quantity)),
@@ -157,8 +159,10 @@ pub fn line_of_status(alloc: Global, status: &Status) -> Result<String, AllocErr
         Status::BadJournal(fault) => broken_line(alloc, *fault),
         Status::Inconsistent(broken) => inconsistent_line(alloc, broken),
         Status::NoCandidate { atom, reasons } => unmatched_line(alloc, atom, reasons),
-        Status::BacktrackLimit { refuted } => refuted_line(alloc, refuted),
+        Status::BacktrackLimit { refuted, .. } => refuted_line(alloc, refuted),
         Status::PlanRefused(fault) => refused_line(alloc, fault),
+        Status::BuildCycle { packages } => cycle_line(alloc, packages),
+        Status::NoOrder(fault) => order_line(alloc, fault),
         Status::Collision(collision) => collision_line(alloc, collision),
         Status::BadImage(bad) => bad_line(alloc, bad),
         Status::BuildFailed { package } => failed_line(alloc, package),
@@ -283,15 +287,58 @@ fn pair_text(alloc: Global, one: &PackageId, other: &PackageId) -> Result<String
     format!(in alloc; "{one} {other}")
 }
 
-/// The rule that the plan breaks, with what it names.
+/// The rule that a plan breaks, with what it names, each word behind a space.
+fn rule_text(alloc: Global, fault: &PlanRefused) -> Result<String, AllocError>
+    ensures { IfOk result (λ t. string_bytes t ≡ refused_text (told fault.now)) }
+{
+    let mut rule = String::new(alloc);
+    push_refusal(&mut rule, alloc, fault)?;
+    Ok(rule)
+}
+
 fn refused_line(alloc: Global, fault: &PlanRefused) -> Result<String, AllocError>
     ensures { IfOk result (λ t. string_bytes t ≡
         codes "emerge: PlanRefused:" ++ (refused_text (told fault.now) ++ 10 ∷ [])) }
 {
-    let mut line = String::from_str(alloc, "emerge: PlanRefused:")?;
-    push_refusal(&mut line, alloc, fault)?;
-    line.push_str("\n")?;
-    Ok(line)
+    let rule = rule_text(alloc, fault)?;
+    format!(in alloc; "emerge: PlanRefused:{rule}\n")
+}
+
+fn order_line(alloc: Global, fault: &PlanRefused) -> Result<String, AllocError>
+    ensures { IfOk result (λ t. string_bytes t ≡
+        codes "emerge: NoOrder:" ++ (refused_text (told fault.now) ++ 10 ∷ [])) }
+{
+    let rule = rule_text(alloc, fault)?;
+    format!(in alloc; "emerge: NoOrder:{rule}\n")
+}
+
+/// The packages that wait for each other.
+fn cycle_line(alloc: Global, packages: &[PackageId]) -> Result<String, AllocError>
+    ensures { IfOk result (λ t. string_bytes t ≡
+        codes "emerge: BuildCycle:" ++ (flat_map spaced_id packages.now ++ 10 ∷ [])) }
+{
+    let listed = listed_ids(alloc, packages)?;
+    format!(in alloc; "emerge: BuildCycle:{listed}\n")
+}
+
+/// Each package behind a space.
+fn listed_ids(alloc: Global, packages: &[PackageId]) -> Result<String, AllocError>
+    ensures { IfOk result (λ t. string_bytes t ≡ flat_map spaced_id packages.now) }
+{
+    let mut listed = String::new(alloc);
+    for package in packages {
+        write_id(alloc, package, &mut listed)?;
+    }
+    Ok(listed)
+}
+
+fn write_id(alloc: Global, package: &PackageId, text: &mut String) -> Result<(), AllocError>
+    ensures { OnOk result (string_bytes text.new ≡
+        string_bytes text.old ++ spaced_id «package».now) }
+{
+    let id = package.print(alloc)?;
+    text.push_str(" ")?;
+    text.push_str(id.as_str())
 }
 
 fn collision_line(alloc: Global, collision: &Collision) -> Result<String, AllocError>
