@@ -75,6 +75,20 @@ def settled_and_released():
     return rows_at_once(PROGRAM, rows)
 
 
+def what_each_package_owns():
+    """Package 9 is to own what group 9 claims, and `old`, which package 2 gives up."""
+    asked = [f"list {package}" for package in (1, 2, 9, 7)]
+    first = ";".join(sorted(path for path, package in OWNED.items() if package == 1)) + ";"
+    over = book([], "claim old", "end settle", *asked)
+    rows = [
+        (book([], *asked), f"ok\tok\t{first}\told;\t\t"),
+        (book([], "end release", *asked), f"ok\tok\t{first}\told;\t\t"),
+        (book([], "end settle", *asked), f"ok\tok\t{first}\told;\tg/one;g/two;\t"),
+        (over, f"ok\tok\t{first}\t\tg/one;g/two;old;\t"),
+    ]
+    return rows_at_once(PROGRAM, rows)
+
+
 def gate_of_an_idle_group():
     return rows_at_once(PROGRAM, [(line("core", "OpenGate 0"), "Idle, not Claimed")])
 
@@ -109,6 +123,7 @@ def one_sync_seals_two_groups():
 TESTS = [
     rules,
     settled_and_released,
+    what_each_package_owns,
     gate_of_an_idle_group,
     refusals_in_order,
     one_sync_seals_two_groups,

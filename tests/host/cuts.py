@@ -19,9 +19,11 @@ from disk import FOLDERS, JOURNAL, Disk
 from journal import JOBS, OPEN, journal_path, stage_path
 from roots import SPARE, Host, expect
 
-# about so many cuts are tried in the model, and one of so many of them by the program
-CUTS = int(os.environ.get("CUTS", 2_000))
-ONE_OF = 40
+# about so many cuts are tried in the model, and one of so many of them by the program (one without a
+# proof takes far longer)
+UNPROVED = "UNPROVED" in os.environ
+CUTS = int(os.environ.get("CUTS", 2_000 if UNPROVED else 11_000))
+ONE_OF = 40 if UNPROVED else 10
 # so many runs of each kind are killed, and then another one is cut; half of them where the journal is
 # begun or cleared, among so many changes
 KILLS = 5 if CUTS <= 2_000 else 20

@@ -1,5 +1,6 @@
 """What of a run is durable when, by the order of its system calls, and where some of them fail."""
 import os
+import re
 import subprocess
 
 from calls import need_strace
@@ -7,6 +8,7 @@ from order import check_durable, first_syncs
 from roots import (
     DONE,
     EXEC,
+    HELLO,
     JOURNAL,
     LARGE,
     PLAIN,
@@ -17,6 +19,7 @@ from roots import (
     expect,
     open_journal,
     programs,
+    read,
     run,
     seen,
     seen_as,
@@ -100,6 +103,50 @@ def what_the_first_sync_is():
     os.makedirs(host.at(f"{JOURNAL}/00000002/stage"))
     host.run("--pretend", "app-misc/hello").expect(0, None, "")
     expect(not os.path.lexists(host.at(JOURNAL)), "the journal's empty folders are left")
+
+
+def counted(host, names, *words):
+    """How often a run makes each of some system calls, also where they fail."""
+    need_strace()
+    log = f"{host.folder}/counted"
+    trace = ",".join(f"?{name}" for name in names)
+    run(["strace", "-f", "-qq", "-o", log, "-e", f"trace={trace}", *host.words(*words)]).expect(0)
+    made = [re.match(r"\d+ +(\w+)\(", line) for line in read(log).decode().splitlines()]
+    return [sum(it is not None and it[1] == name for it in made) for name in names]
+
+
+def threads_of_a_sync():
+    """A sync starts a thread for each further lane of files, and none where no file waits for it."""
+    host = Host(tools())
+    expect(sum(counted(host, ["clone", "clone3"])) == 3, "a merge has one sync of many files")
+    host.check_merged()
+    expect(sum(counted(host, ["clone", "clone3"])) == 0, "a thread is started that has nothing to do")
+
+
+def folders_with_nothing_left():
+    """They go with the sync behind the last object that was in them, and are asked for once."""
+    image = {f"usr/lib/{at % 3}/file-{at}": (PLAIN, b"%d\n" % at) for at in range(60)}
+    host = Host(image)
+    (asked,) = counted(host, ["rmdir"])
+    expect(asked < 20, f"{asked} folders are asked for")
+    host.check_merged()
+    plan = f"plan 1\ngroup 1\nremove {HELLO}:0\n".encode()
+    write(host.at("var/plan"), plan)
+    (asked,) = counted(host, ["rmdir"], "--plan", "var/plan")
+    expect(asked < 30, f"{asked} folders are asked for")
+    expect(not os.path.lexists(host.at("usr")), "the package's folders are left")
+    expect(not os.path.lexists(host.at("var/db/pkg")), "the record's folders are left")
+
+
+def folders_of_a_stopped_removal():
+    """A recovery takes away the folders whose last object the stopped run has removed."""
+    host = Host()
+    open_journal(host, ["usr/old/a/gone", "usr/old/b/c/gone"], [(PLAIN, "usr/bin/old", b"whole")])
+    for folder in ("usr/old/a", "usr/old/b/c", "usr/empty"):
+        os.makedirs(host.at(folder))
+    host.run("--pretend", "app-misc/hello").expect(0, None, "")
+    expect(not os.path.lexists(host.at("usr/old")), "a folder is left that has nothing")
+    expect(os.path.isdir(host.at("usr/empty")), "another folder went")
 
 
 def sync_that_fails():

@@ -12,7 +12,7 @@ SWAPS = [
 STRONG_BLOCKS = [
     ("old-1", ["-old-1,+new-1;RDEPEND !!c/old"], "barred 1 new-1 old-1"),
     ("old-1", ["-old-1", "after 1,+new-1;RDEPEND !!c/old"], "ok"),
-    ("old-1", ["-old-1", "+new-1;RDEPEND !!c/old"], "blocked new-1 old-1"),
+    ("old-1", ["-old-1", "+new-1;RDEPEND !!c/old"], "barred 2 new-1 old-1"),
     ("old-1", ["-old-1", "+new-1;BDEPEND !c/old"], "barred 2 new-1 old-1"),
 ]
 WEAK_BLOCKS = [
@@ -42,7 +42,7 @@ LINES = [
 OCCUPIED = [
     ("b-1,a-1", ["+a-2"], "occupied 1 a-2 a-1"),
     ("b-1", ["+a-1", "+c-1,+a-3:2,+a-2:2"], "occupied 2 a-3 a-2"),
-    ("a-1", ["+a-1:1"], "occupied 0 a-1 a-1"),
+    ("a-1", ["+a-1:1"], "occupied 1 a-1 a-1"),
     ("b-1", ["+a-1", "+a-1:1"], "occupied 1 a-1 a-1"),
 ]
 OPENINGS = [

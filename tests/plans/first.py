@@ -1,8 +1,10 @@
-"""Random plans over a few packages, and whether a plain second computation accepts them."""
+"""What the check tells first where a plan breaks several rules: a few plans by hand, and random ones
+by a plain second computation."""
 import os
 import random
 
 from cases import PROGRAM, case, expect
+from checked import check_groups
 from rules import BUILD, RUN, AnyOf, Atom, Group, Package, Plan, atom_text, first_refusal
 
 NAMES = ["b", "lib", "lib-x", "m"]
@@ -10,6 +12,26 @@ NAMES = ["b", "lib", "lib-x", "m"]
 PLANS_TRIED = 500 if os.environ.get("UNPROVED") else 3_000
 # how many of them have to be accepted, and how many refused, for the test to say something
 LEAST = 30
+
+# the packages that are there, the groups, and what is told first; in bytes `lib-x:0` is before `lib:0`
+LIBRARIES = "lib-1;RDEPEND c/zz", "lib-x-1;RDEPEND c/zz"
+FIRST = [
+    # packages that come are in the way of each other before an installed one is in theirs
+    ("b-3,c-2", ["-b-3,+b-3", "+b-3:1"], "occupied 1 b-3 b-3"),
+    # room is asked for before what is installed is judged
+    ("u-1;RDEPEND c/x,b-1", ["+b-2"], "occupied 1 b-2 b-1"),
+    # a strong block is told as one, whenever what it matches is there
+    ("a-1;RDEPEND !!c/a", ["+a-2:1"], "barred 0 a-1 a-2"),
+    # weak blocks are tried before strong ones
+    ("b-1,d-1", ["+a-1;RDEPEND !!c/b !c/d"], "blocked a-1 d-1"),
+    # the installed packages, and what comes with a group, go by their lines
+    (",".join(LIBRARIES), ["+b-1"], "opening lacks lib-x-1 c/zz"),
+    ("b-1", [",".join(f"+{it}" for it in LIBRARIES)], "unsatisfied 1 lib-x-1 RDEPEND c/zz"),
+    ("b-1", ["-lib-1,-lib-x-1"], "absent 1 lib-x-1"),
+    # those that are installed go first, and then group by group
+    ("z-1;RDEPEND c/v,v-1", ["-v-1,+a-1;RDEPEND c/v"], "unsatisfied 0 z-1 RDEPEND c/v"),
+    ("b-1", ["+z-1;RDEPEND c/v", "+a-1;RDEPEND c/v"], "unsatisfied 1 z-1 RDEPEND c/v"),
+]
 
 
 def random_atom(chance, block=""):
@@ -102,16 +124,20 @@ def plan_case(plan):
     return case("check", start, *map(group_text, plan.groups))
 
 
-def accepted_as_the_rules_say():
+def the_first_rule_that_is_broken():
+    return check_groups(FIRST)
+
+
+def refused_as_the_rules_say():
     chance = random.Random(7)
     plans = [random_plan(chance, 3) for _ in range(PLANS_TRIED)]
     answers = yield PROGRAM, [plan_case(plan) for plan in plans]
-    accepted = [told == "ok" for told in answers]
-    for plan, came, told in zip(plans, accepted, answers):
+    for plan, told in zip(plans, answers):
         wanted = first_refusal(plan.check)
-        expect(came == (wanted == "ok"), f"{plan_case(plan)}: wanted {wanted}, came {told}")
+        expect(told == wanted, f"{plan_case(plan)}: wanted {wanted}, came {told}")
+    accepted = [told == "ok" for told in answers]
     counts = [accepted.count(True), accepted.count(False)]
     expect(min(counts) >= LEAST, f"accepted and refused were {counts}")
 
 
-TESTS = [accepted_as_the_rules_say]
+TESTS = [the_first_rule_that_is_broken, refused_as_the_rules_say]

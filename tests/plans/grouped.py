@@ -30,7 +30,7 @@ TOLD = {
     "unsatisfied": ("Unsatisfied", (1,)),
     "unsafe": ("Unsafe", (0,)),
     "blocked": ("WeakBlock", (0, 1)),
-    "barred": ("StrongBlock", (0, 1)),
+    "barred": ("StrongBlock", (1, 2)),
     "build": ("Build", (1,)),
     "final": ("Final", (0,)),
 }

@@ -18,7 +18,7 @@ MENDED = [
 # groups behind which something is still broken
 BROKEN = [
     ("u-1;RDEPEND c/v", "w-1", "add c/w-1:0/0", "unsatisfied 0 u-1 RDEPEND c/v"),
-    ("t-1;RDEPEND c/v,s-1;RDEPEND c/z", "w-1", "", "unsatisfied 0 t-1 RDEPEND c/v"),
+    ("t-1;RDEPEND c/v,s-1;RDEPEND c/z", "w-1", "", "unsatisfied 0 s-1 RDEPEND c/z"),
     ("a-1,b-1;RDEPEND !c/a", "w-1", "add c/w-1:0/0", "blocked b-1 a-1"),
     ("a-1;REQUIRED_USE x", "w-1", "add c/w-1:0/0", "flags a-1"),
     ("a-1,a-2", "w-1", "remove c/a-1:0", "opening twice a-1 a-2"),

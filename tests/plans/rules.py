@@ -252,7 +252,7 @@ class Plan:
             with_it = self.meets(x, y) and blocked(strong, y.package)
             bars = blocked(strong + blocks(x.package, BUILD), y.package)
             if with_it or x.birth and self.meets_build(x.birth, y) and bars:
-                raise Refused(f"barred {id_of(x.package)} {id_of(y.package)}")
+                raise Refused(f"barred {x.birth} {id_of(x.package)} {id_of(y.package)}")
 
     def check_build(self, x):
         for which in BUILD if x.birth else []:

@@ -11,7 +11,8 @@ use owner_book::{ClaimFault, OwnerBook, Wish};
 use std::alloc::{AllocError, Global};
 use std::io;
 
-/// What each claim is told, and who then owns each path that is asked for.
+/// What each claim is told, who then owns each path that is asked for, and what each package owns
+/// that is asked for.
 pub fn answer(alloc: Global, fields: &str) -> io::Result<String> {
     let looked = paths(alloc, fields, "look")?;
     let first = wishes(alloc, fields, "claim")?;
@@ -22,6 +23,7 @@ pub fn answer(alloc: Global, fields: &str) -> io::Result<String> {
     claim_both(alloc, &mut text, &mut book, first, second, &dying)?;
     end_first(&mut book, said(fields, "end"));
     push_owners(&mut text, &book, &looked)?;
+    push_owned(alloc, &mut text, &book, fields)?;
     Ok(text)
 }
 
@@ -92,6 +94,27 @@ fn push_owners(text: &mut String, book: &OwnerBook, looked: &[Path]) -> Result<(
             Some(owner) => write!(text, "\t{}", owner.number)?,
             None => text.push_str("\tnobody")?,
         }
+    }
+    Ok(())
+}
+
+/// The paths that each package owns which a field asks for.
+fn push_owned(alloc: Global, text: &mut String, book: &OwnerBook, fields: &str) -> io::Result<()> {
+    for field in fields.split('\t') {
+        let (what, number) = cut(field, ' ');
+        if what == "list" {
+            let number = small_number_of(number)?;
+            let owned = book.paths_of(alloc, OwnerKey { number })?;
+            push_paths(text, &owned)?;
+        }
+    }
+    Ok(())
+}
+
+fn push_paths(text: &mut String, paths: &[Path]) -> Result<(), AllocError> {
+    text.push_str("\t")?;
+    for path in paths {
+        write!(text, "{};", path.text())?;
     }
     Ok(())
 }

@@ -14,6 +14,7 @@
 //! | `claim PATH`, `again PATH` | for `book`: what groups 9 and 10 claim |
 //! | `end settle`, `end release` | for `book`: what becomes of the first claim |
 //! | `look PATH` | the path is asked for |
+//! | `list PACKAGE` | what the package owns is asked for |
 //!
 //! The package that group G brings is 9 + G, and the second one is 19 + G. `events`, `one`, `two`
 //! and `recover` print how they ended, the calls of the tree behind the opening, its syncs, which

@@ -10,7 +10,8 @@ use Rattle.pkg_state.specs.Consistent.{facts_of}
 use Rattle.pkg_state.specs.Fault.{lacking_leaf}
 use Rattle.pkg_state.specs.Package.{Package}
 use Rattle.pkg_state.specs.declared.class.Class.{Class}
-use Rattle.choice_law.specs.Universe.{Offer, Stands, Universe, Value, absent, keep, offer_at, packages, variant, package_of}
+use Rattle.choice_law.specs.Universe.{Offer, Stands, Universe, Value, absent, keep, offer_at, variant, package_of}
+use Rattle.choice_law.specs.Possible.{judged_among}
 use Rattle.choice_law.specs.Tree.{Choice, Obligation, absence, conflict, filling, required, tree, wanted}
 use Rattle.choice_tree.specs.Open.{first_open}
 use Rattle.choice_tree.specs.Places.{is_one}
@@ -50,11 +51,12 @@ may_serve a asker o =
 abbrev pub is_offered : Universe → List (List ℕ) → AtomValue → Bool
 is_offered u asker a = list_any (may_serve a asker) u.offers
 
--- of what the package needs in this class this leaf isn't there, and is it offered at all?
+-- what the package needs in this class isn't there: this leaf of it is named, by all packages that
+-- may yet stand where it isn't there even then; and is that offered at all?
 pub record IsNeed (u : Universe) (c : Choice) (class : Class) (p : Package)
     (leaf : Option Atom) (is_offered_at_all : Bool) : Type 0 where
   pub leaf_is : option_map atom_value leaf ≡
-      lacking_leaf (facts_of (packages u (filling u c))) class p
+      lacking_leaf (facts_of (judged_among u c class p)) class p
   pub offered_is : is_offered_at_all ≡
       is_one (is_offered u p.facts.enabled) (option_map atom_value leaf)
 

@@ -5,36 +5,26 @@ ghost use Rattle.dep_atom.specs.Match.{value_matches};
 ghost use Rattle.dep_atom.specs.Values.{atom_value};
 ghost use Rattle.pkg_state.specs.Consistent.{facts_of};
 ghost use Rattle.pkg_state.specs.Fault.{lacking_leaf};
-ghost use Rattle.choice_law.specs.Tree.{filling};
-ghost use Rattle.choice_law.specs.Universe.{packages};
+ghost use Rattle.choice_law.specs.Possible.{judged_among};
 ghost use Rattle.choice_tree.specs.Places.{is_one};
 ghost use Rattle.choice_tree.specs.Views.{offer_of, universe_of};
 ghost use Rattle.choice_walk.specs.Way.{here};
 ghost use Rattle.choice_ends.specs.Ends.{is_offered, may_serve};
 
-use crate::standing::all_standing;
 use choice_tree::{Offer, Universe};
 use choice_walk::Walk;
 use dep_atom::Atom;
 use pkg_state::{Class, Pkg, copy_leaf};
-use plan_lives::Packages;
 use pms_names::Flags;
-use std::alloc::{AllocError, Global};
+use std::alloc::AllocError;
 
 /// The leaf to name of what the package needs in this class, where not all of it is there.
-pub(crate) fn leaf_of(
-    alloc: Global,
-    walk: &Walk<'_>,
-    one: &Pkg,
-    class: Class,
-) -> Result<Option<Atom>, AllocError>
+pub(crate) fn leaf_of(walk: &Walk<'_>, one: &Pkg, class: Class) -> Result<Option<Atom>, AllocError>
     ensures { IfOk result (λ leaf. option_map atom_value leaf ≡
-        lacking_leaf (facts_of (packages (universe_of walk.now.universe.now)
-        (filling (universe_of walk.now.universe.now) (here walk.now.trail.items)))) class one.now) }
+        lacking_leaf (facts_of (judged_among (universe_of walk.now.universe.now)
+        (here walk.now.trail.items) class one.now)) class one.now) }
 {
-    let all = all_standing(alloc, walk)?;
-    let packages = Packages::new(alloc, all)?;
-    copy_leaf(one.lacking_leaf(class, &packages))
+    copy_leaf(walk.lacking_leaf(one, class))
 }
 
 /// Whether a package that may come, or that is there, is one that the leaf matches.

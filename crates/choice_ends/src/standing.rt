@@ -1,7 +1,7 @@
-ghost use Rattle.std.specs.Prelude.{◌≡◌, ◌++◌, ◌<◌, IfOk, OnOk, length, map};
+ghost use Rattle.std.specs.Prelude.{◌≡◌, ◌<◌, IfOk, length};
 ghost use Rattle.std.specs.Option.{option_map};
 ghost use Rattle.choice_law.specs.Tree.{filling};
-ghost use Rattle.choice_law.specs.Universe.{as_list, offer_at, package_of, packages};
+ghost use Rattle.choice_law.specs.Universe.{offer_at, package_of};
 ghost use Rattle.choice_tree.specs.Views.{offer_of, universe_of};
 ghost use Rattle.choice_walk.specs.Way.{here};
 
@@ -50,27 +50,4 @@ pub(crate) fn standing_on<'u>(walk: &Walk<'u>, line: usize) -> Option<&'u Pkg>
 {
     let offer = offer_at(walk.universe, line);
     offer.package(offer.value(walk.decided(line)))
-}
-
-/// All packages that stand there, line by line.
-pub(crate) fn all_standing<'u>(alloc: Global, walk: &Walk<'u>) -> Result<Vec<&'u Pkg>, AllocError>
-    ensures { IfOk result (λ v. map (λ p. p.now) v.items ≡
-        packages (universe_of walk.now.universe.now)
-        (filling (universe_of walk.now.universe.now) (here walk.now.trail.items))) }
-{
-    let mut all = Vec::new(alloc);
-    for line in 0..walk.universe.offers.len() {
-        push_if_any(standing_on(walk, line), &mut all)?;
-    }
-    Ok(all)
-}
-
-fn push_if_any<'u>(one: Option<&'u Pkg>, all: &mut Vec<&'u Pkg>) -> Result<(), AllocError>
-    ensures { OnOk result (map (λ p. p.now) all.new.items ≡
-        map (λ p. p.now) all.old.items ++ as_list (option_map (λ p. p.now) one.entry)) }
-{
-    if let Some(one) = one {
-        all.push(one)?;
-    }
-    Ok(())
 }

@@ -47,7 +47,7 @@ fn id_on(walk: &Walk<'_>, line: usize) -> Result<PackageId, AllocError>
 }
 
 /// What a package needs.
-fn need_on(alloc: Global, walk: &Walk<'_>, line: usize, class: Class) -> Result<Lack, AllocError>
+fn need_on(walk: &Walk<'_>, line: usize, class: Class) -> Result<Lack, AllocError>
     requires { (p : Package) × Stands (universe_of walk.now.universe.now)
         (filling (universe_of walk.now.universe.now) (here walk.now.trail.items)) line p }
     ensures { IfOk result (IsLack (universe_of walk.now.universe.now) (here walk.now.trail.items)
@@ -55,7 +55,7 @@ fn need_on(alloc: Global, walk: &Walk<'_>, line: usize, class: Class) -> Result<
 {
     let one = named(walk, line);
     let id = one.facts.id.try_clone()?;
-    let leaf = leaf_of(alloc, walk, one, class)?;
+    let leaf = leaf_of(walk, one, class)?;
     let is_offered = is_offered(walk.universe, leaf.as_ref(), &one.facts.enabled);
     Ok(Lack::Need(id, class, leaf, is_offered))
 }
@@ -74,7 +74,7 @@ fn forsaken_on(walk: &Walk<'_>, line: usize) -> Result<Lack, AllocError>
 }
 
 /// What is open of the choice where a walk is.
-fn lack_of(alloc: Global, walk: &Walk<'_>, obligation: &Obligation<'_>) -> Result<Lack, AllocError>
+fn lack_of(walk: &Walk<'_>, obligation: &Obligation<'_>) -> Result<Lack, AllocError>
     requires { IsOpen (universe_of walk.now.universe.now) (here walk.now.trail.items)
         (obligation_of obligation.now) }
     ensures { IfOk result (IsLack (universe_of walk.now.universe.now) (here walk.now.trail.items)
@@ -87,7 +87,7 @@ fn lack_of(alloc: Global, walk: &Walk<'_>, obligation: &Obligation<'_>) -> Resul
             let one = id_on(walk, line)?;
             Ok(Lack::Conflict(one, id_on(walk, other)?))
         }
-        Obligation::Tree(line, class) => need_on(alloc, walk, line, class),
+        Obligation::Tree(line, class) => need_on(walk, line, class),
         Obligation::Absence(line) => forsaken_on(walk, line),
     }
 }
@@ -102,7 +102,7 @@ fn dead_end(alloc: Global, universe: &Universe, choice: &Choice) -> Result<DeadE
     let chosen = picks_of(alloc, universe, choice.decisions())?;
     match walk.first_open(alloc)? {
         Some(obligation) => {
-            let lacks = lack_of(alloc, &walk, &obligation)?;
+            let lacks = lack_of(&walk, &obligation)?;
             Ok(DeadEnd { chosen, lacks })
         }
         None => unreachable!(),

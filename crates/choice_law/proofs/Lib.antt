@@ -2,5 +2,8 @@ pub mod Lines
 pub mod Steps
 pub mod Reasons
 pub mod Leaves
+pub mod Possible
+pub mod Lacking
 pub mod Options
+pub mod Hopeless
 pub mod Whole

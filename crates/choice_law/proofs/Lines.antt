@@ -34,10 +34,10 @@ hit_is (Some p) test e = (p, refl, e)
 pub no_hit : (x : Option Package) (test : Package → Bool) (p : Package) → hits x test ≡ false → x ≡ Some p → test p ≡ false
 no_hit x test p e is = ap (λ (y : Option Package). hits y test) (sym is) ∙ e
 
-listed : (x : Option Package) (p : Package) → x ≡ Some p → Has (as_list x) p
+pub listed : (x : Option Package) (p : Package) → x ≡ Some p → Has (as_list x) p
 listed x p e = subst (λ (y : Option Package). Has (as_list y) p) (sym e) (inl refl)
 
-of_list : (x : Option Package) (p : Package) → Has (as_list x) p → x ≡ Some p
+pub of_list : (x : Option Package) (p : Package) → Has (as_list x) p → x ≡ Some p
 of_list None p h = absurd h
 of_list (Some q) p (inl e) = ap (λ (r : Package). Some r) e
 of_list (Some q) p (inr h) = absurd h

@@ -1,27 +1,23 @@
 -- A solution that agrees with a choice on the reason of what is open agrees with what some option adds.
 use Rattle.std.proofs.Common.{◌≡◌, ◌⊎◌, ◌<◌, ℕ, Bool, true, false, List, [], ◌∷◌, Option, None, Some, nat_eq, inl, inr, refl, sym, ap, subst, ◌∙◌}
 use Rattle.std.specs.Option.{option_map_or}
-use Rattle.std.proofs.lemmas.Bool.{cases_eq, eq-eqb, or_cases, or_left, or_parts, or_right}
+use Rattle.std.proofs.lemmas.Bool.{cases_eq, eq-eqb, or_left, or_right}
 use Rattle.basics.specs.Members.{Has}
-use Rattle.basics.proofs.Membership.{has-map, has-map_back}
-use Rattle.pms_names.specs.Flags.{has}
 use Rattle.dep_atom.specs.Match.{value_matches}
 use Rattle.dep_atom.specs.Values.{AtomValue}
-use Rattle.dep_atom.specs.declared.package.Facts.{Facts}
 use Rattle.dep_tree.specs.Grammar.{is_block}
-use Rattle.dep_tree.specs.Truth.{is_fact, some_match}
-use Rattle.pkg_state.specs.Consistent.{facts_of, leaves_in}
-use Rattle.pkg_state.specs.Package.{Package, tree_of}
+use Rattle.pkg_state.specs.Consistent.{leaves_in}
+use Rattle.pkg_state.specs.Package.{Package}
 use Rattle.pkg_state.specs.declared.class.Class.{Class}
-use Rattle.basics.proofs.Members.{passes_some, some_passes}
-use Rattle.choice_law.specs.Universe.{Filling, Stands, Universe, Value, absent, conflicts, counts, is_new, keep, lines, offer_at, package_of, packages, standing, variant}
+use Rattle.choice_law.specs.Universe.{Filling, Stands, Universe, Value, absent, conflicts, counts, is_new, keep, lines, offer_at, package_of, standing, variant}
 use Rattle.choice_law.specs.Solutions.{IsSolution}
 use Rattle.choice_law.specs.Tree.{Choice, IsOpen, IsOption, MayBe, MayChange, Obligation, Serves, absence, conflict, decided, filling, held, held_by, required, tree, wanted}
 use Rattle.choice_law.specs.Laws.{IsUniverse}
-use Rattle.choice_law.specs.Reasons.{AgreesNew, AgreesOn, ReasonsSuffice, offers_against, offers_blamed, reason, rests_on}
-use Rattle.choice_law.proofs.Leaves.{all_tell}
-use Rattle.choice_law.proofs.Lines.{decided_here, decided_or_not, decided_there, filling_decided, filling_free, listed_stands, stands_listed}
-use Rattle.choice_law.proofs.Reasons.{blamed_can, in_reason, matched_can, offered_passes}
+use Rattle.choice_law.specs.Reasons.{AgreesNew, AgreesOn, ReasonsSuffice, offers_against, reason, rests_on}
+use Rattle.choice_law.proofs.Lacking.{mended, own_rests, rests_there}
+use Rattle.choice_law.proofs.Lines.{decided_here, decided_or_not, decided_there, filling_decided, filling_free, stands_listed}
+use Rattle.choice_law.proofs.Possible.{judged_fails, standing_judged}
+use Rattle.choice_law.proofs.Reasons.{in_reason, matched_can, offered_passes}
 
 same_or_not : (v w : Value) → (v ≡ w) ⊎ (¬ (v ≡ w))
 same_or_not keep keep = inl refl
@@ -136,18 +132,6 @@ module _ (u : Universe) (f : Filling) (form : IsUniverse u) (s : IsSolution u f)
     ]
   ]
 
-  -- the facts of the packages that stand now
-  abbrev now : List Facts
-  now = facts_of (packages u (filling u c))
-
-  -- what the package on the line lacks may be matched on the other line
-  abbrev mends : (l m : ℕ) → Class → Option Package → Bool
-  mends l m class x = option_map_or (λ q. offers_blamed now class q (offer_at u m)) x false
-
-  rests_on_blamed : (l m : ℕ) (class : Class) (p : Package) → package_of (offer_at u l) (filling u c l) ≡ Some p → offers_blamed now class p (offer_at u m) ≡ true → rests_on u c (tree l class) m ≡ true
-  rests_on_blamed l m class p is blamed =
-      or_right (nat_eq l m) (mends l m class (package_of (offer_at u l) (filling u c l))) (ap (mends l m class) is ∙ blamed)
-
   -- the solution's value of the line serves the leaf
   serving : (l m : ℕ) (class : Class) (a : AtomValue) (p : Package) → Stands u (filling u c) l p → Has (leaves_in class p) a → is_block a ≡ false → MayBe u c m (f m) → Serves u m (f m) a p.facts.enabled → SomeOption (tree l class)
   serving l m class a p st h asks may serves = ((m, f m) ∷ c, inl (a, p, m, f m, st, h, asks, may, serves, refl), adds m)
@@ -155,33 +139,18 @@ module _ (u : Universe) (f : Filling) (form : IsUniverse u) (s : IsSolution u f)
   tree_option : (l : ℕ) (class : Class) → IsOpen u c (tree l class) → Agrees (tree l class) → SomeOption (tree l class)
   tree_option l class open_now agrees = elim (same_or_not (f l) (filling u c l)) [
     | inr other ↦ (
-        let rests = or_left (nat_eq l l) (mends l l class (package_of (offer_at u l) (filling u c l))) (eq-eqb l l refl) in
-        let free = free_if_other (tree l class) agrees l open_now.1.there rests other in
+        let free = free_if_other (tree l class) agrees l open_now.1.there (own_rests u c l class) other in
         ((l, f l) ∷ c, inr (f l, may_change l open_now.1.there free other, refl), adds l))
     | inl e ↦ (
         let p = open_now.0 in
-        let asker = p.facts.enabled in
-        let there = facts_of (packages u f) in
-        let here = now in
         let met = s.met l p class (stands_alike l p e open_now.1) (ap (counts class) e ∙ open_now.2) in
-        let told = all_tell (tree_of class p).empty_holds (has asker) (is_fact there asker) (is_fact here asker) (tree_of class p).groups (form l (filling u c l) p class open_now.1.is) met open_now.3 in
-        let fails = or_parts (is_block told.0) (some_match here asker told.0) told.4 in
-        let matched : some_match there asker told.0 ≡ true = elim (or_cases (is_block told.0) (some_match there asker told.0) told.3) [ inl b ↦ absurd (let none = fails.0 in cc (b, none)) | inr m ↦ m ] in
-        let x = some_passes (λ (q : Facts). value_matches told.0 q asker) there matched in
-        let q = has-map_back (λ (r : Package). r.facts) (packages u f) x.0 x.1 in
-        let serves : value_matches told.0 q.0.facts asker ≡ true = ap (λ (y : Facts). value_matches told.0 y asker) q.2 ∙ x.2 in
-        let st = listed_stands u f q.0 q.1 in
-        elim (same_or_not (f st.0) (filling u c st.0)) [
-          | inl same ↦ absurd (
-              let listed = stands_listed u (filling u c) st.0 q.0 (stands_now st.0 q.0 same st.1) in
-              let found = passes_some (λ (y : Facts). value_matches told.0 y asker) here q.0.facts (has-map (λ (r : Package). r.facts) (packages u (filling u c)) q.0 listed) serves in
-              let none = fails.1 in
-              cc (found, none))
+        let x = mended u f c class p (form l (filling u c l) p class open_now.1.is) met (judged_fails u c class p open_now.3) in
+        elim (same_or_not (f x.line) (filling u c x.line)) [
+          | inl same ↦ absurd (x.not_judged (standing_judged u c class p x.one (stands_listed u (filling u c) x.line x.one (stands_now x.line x.one same x.stands))))
           | inr other ↦ (
-              let can = blamed_can here class p (offer_at u st.0) told.0 told.1 (matched_can told.0 asker (offer_at u st.0) (f st.0) q.0 st.1.is serves) in
-              let rests = rests_on_blamed l st.0 class p open_now.1.is can in
-              let may = may_be st.0 st.1.there (free_if_other (tree l class) agrees st.0 st.1.there rests other) in
-              serving l st.0 class told.0 p open_now.1 told.2 fails.0 may (record { package_is = q.0; is = st.1.is; matched = serves }))
+              let rests = rests_there u f c class p l open_now.1.is x in
+              let may = may_be x.line x.stands.there (free_if_other (tree l class) agrees x.line x.stands.there rests other) in
+              serving l x.line class x.leaf p open_now.1 x.counted x.asks may (record { package_is = x.one; is = x.stands.is; matched = x.matched }))
         ])
   ]
 

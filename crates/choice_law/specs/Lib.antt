@@ -3,4 +3,5 @@ pub mod Solutions
 pub mod Tree
 pub mod Laws
 pub mod Blame
+pub mod Possible
 pub mod Reasons

@@ -9,8 +9,9 @@ use Rattle.dep_atom.specs.declared.package.Facts.{Facts}
 use Rattle.pkg_state.specs.Consistent.{facts_of}
 use Rattle.pkg_state.specs.Package.{Package}
 use Rattle.pkg_state.specs.declared.class.Class.{Class}
-use Rattle.choice_law.specs.Universe.{Filling, Offer, Universe, Value, conflicts, lines, offer_at, package_of, packages}
+use Rattle.choice_law.specs.Universe.{Filling, Offer, Universe, Value, conflicts, lines, offer_at, package_of}
 use Rattle.choice_law.specs.Blame.{blamed_in}
+use Rattle.choice_law.specs.Possible.{is_hopeless, judged_among}
 use Rattle.choice_law.specs.Solutions.{IsSolution}
 use Rattle.choice_law.specs.Tree.{Choice, IsOpen, IsOption, Obligation, absence, conflict, decided, filling, required, tree, wanted}
 use Rattle.choice_law.specs.Laws.{IsUniverse}
@@ -41,7 +42,7 @@ rests_on u c (conflict l m) k = nat_eq l k || nat_eq m k
 rests_on u c (tree l class) k =
     nat_eq l k
     || option_map_or
-    (λ p. offers_blamed (facts_of (packages u (filling u c))) class p (offer_at u k))
+    (λ p. offers_blamed (facts_of (judged_among u c class p)) class p (offer_at u k))
     (package_of (offer_at u l) (filling u c l)) false
 rests_on u c (absence l) k =
     nat_eq l k || option_map_or (λ z. offers_against z (offer_at u k))
@@ -75,3 +76,10 @@ ReasonsSuffice =
     (u : Universe) (f : Filling) (c : Choice) (o : Obligation) → IsUniverse u →
     IsSolution u f → IsOpen u c o → AgreesOn (reason u c o) c f →
     (e : Choice) × IsOption u c o e × AgreesNew c e f
+
+-- no solution agrees with a hopeless choice on the reason of what is open: it has no good leaf
+-- below it, whatever its options are
+abbrev pub HopelessChoicesFail : Type 0
+HopelessChoicesFail =
+    (u : Universe) (f : Filling) (c : Choice) (o : Obligation) → IsUniverse u →
+    IsSolution u f → IsOpen u c o → is_hopeless u c o ≡ true → ¬ AgreesOn (reason u c o) c f

@@ -1,5 +1,5 @@
 ghost use Rattle.choice_law.specs.Laws.{GoodLeavesAreSolutions, SolutionsHaveLeaves};
-ghost use Rattle.choice_law.specs.Reasons.{ReasonsSuffice};
+ghost use Rattle.choice_law.specs.Reasons.{HopelessChoicesFail, ReasonsSuffice};
 
 /// A law: a choice of the tree that leaves nothing open is a solution.
 pub fn good_leaves_are_solutions()
@@ -15,4 +15,9 @@ pub fn solutions_have_leaves()
 /// option for that adds.
 pub fn reasons_suffice()
     ensures { ReasonsSuffice }
+{}
+
+/// A law: no solution agrees with a hopeless choice on the reason of what is open.
+pub fn hopeless_choices_fail()
+    ensures { HopelessChoicesFail }
 {}

@@ -10,7 +10,9 @@
 //!
 //! That something is open of a choice rests on some of the decided lines alone, which are its reason
 //! (`specs/Reasons.antt`). A solution that agrees with the choice on those agrees with what some
-//! option adds, whatever it has on the other lines.
+//! option adds, whatever it has on the other lines. And a choice is hopeless where what a package on
+//! a decided line needs doesn't hold even among all packages that may yet stand
+//! (`specs/Possible.antt`): no solution agrees with it on the reason.
 //!
 //! **Only tested**: nothing, since a law has no body.
 //!
@@ -21,4 +23,6 @@
 
 mod laws;
 
-pub use laws::{good_leaves_are_solutions, reasons_suffice, solutions_have_leaves};
+pub use laws::{
+    good_leaves_are_solutions, hopeless_choices_fail, reasons_suffice, solutions_have_leaves,
+};

@@ -25,9 +25,17 @@ any_here test [] = refl
 any_here test (s ∷ ss) =
     one_any test (package_in s) (packages_in ss) ∙ ap (λ (b : Bool). is_one (λ p. test p.facts) (package_in s) || b) (any_here test ss)
 
-flat_map_map : {A B C : Type 0} (f : B → List C) (g : A → B) (xs : List A) → flat_map f (map g xs) ≡ flat_map (λ x. f (g x)) xs
+pub flat_map_map : {A B C : Type 0} (f : B → List C) (g : A → B) (xs : List A) → flat_map f (map g xs) ≡ flat_map (λ x. f (g x)) xs
 flat_map_map f g [] = refl
 flat_map_map f g (x ∷ xs) = ap (λ l. f (g x) ++ l) (flat_map_map f g xs)
+
+-- one line more
+pub row_more : (one : ℕ → List Package) (n : ℕ) → flat_map one (numbers n 0) ++ one n ≡ flat_map one (numbers (suc n) 0)
+row_more one n =
+    ap (λ (ps : List Package). flat_map one (numbers n 0) ++ ps) (sym (append-nil (one n)))
+    ∙ (ap (λ (k : ℕ). flat_map one (numbers n 0) ++ flat_map one (k ∷ [])) (let z : n ≡ 0 + n = omega arith in z)
+    ∙ (sym (flat_map-append one (numbers n 0) ((0 + n) ∷ []))
+    ∙ ap (λ (xs : List ℕ). flat_map one xs) (sym (numbers_last n 0))))
 
 module _ (u : Universe) (f : Filling) where
   abbrev one : ℕ → List Package
@@ -35,12 +43,7 @@ module _ (u : Universe) (f : Filling) where
 
   below_are : (n : ℕ) → packages_below u f n ≡ flat_map one (numbers n 0)
   below_are zero = refl
-  below_are (suc n) =
-      ap (λ (ps : List Package). ps ++ one n) (below_are n)
-      ∙ ap (λ (ps : List Package). flat_map one (numbers n 0) ++ ps) (sym (append-nil (one n)))
-      ∙ ap (λ (k : ℕ). flat_map one (numbers n 0) ++ flat_map one (k ∷ [])) (let z : n ≡ 0 + n = omega arith in z)
-      ∙ sym (flat_map-append one (numbers n 0) ((0 + n) ∷ []))
-      ∙ ap (λ (xs : List ℕ). flat_map one xs) (sym (numbers_last n 0))
+  below_are (suc n) = ap (λ (ps : List Package). ps ++ one n) (below_are n) ∙ row_more one n
 
 -- those of the laws are those on the lines
 pub packages_are : (u : Universe) (c : Choice) → packages u (filling u c) ≡ packages_in (places u c)

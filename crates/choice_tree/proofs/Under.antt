@@ -154,7 +154,7 @@ keyed_more key os l o old new is before come text =
     by_case true l ls e = last_added l ls e
     by_case false l ls e = sym (append-nil ls)
 
-offered : (test : Package → Bool) (o : Offer) (v : Value) → is_one test (package_of o v) ≡ true → (is_one test o.installed || list_any test o.variants) ≡ true
+pub offered : (test : Package → Bool) (o : Offer) (v : Value) → is_one test (package_of o v) ≡ true → (is_one test o.installed || list_any test o.variants) ≡ true
 offered test o keep e = or_left (is_one test o.installed) (list_any test o.variants) e
 offered test o absent e = absurd (cc e)
 offered test o (variant i) e = or_right (is_one test o.installed) (list_any test o.variants) (by_case (slice_get o.variants i) refl e) where

@@ -1,9 +1,10 @@
 -- The tree of choices, by the options of each for what is first open of it.
-use Rattle.std.specs.Prelude.{◌≡◌, ◌<◌, ◌+◌, ℕ, zero, suc, Bool, List, [], Option, None, Some}
+use Rattle.std.specs.Prelude.{◌≡◌, ◌<◌, ◌+◌, ℕ, zero, suc, Bool, List, [], Option, None, Some, if◌then◌else◌}
 use Rattle.std.specs.Option.{option_map, option_map_or}
 use Rattle.basics.specs.Members.{Has}
 use Rattle.choice_law.specs.Universe.{Universe, Value, lines}
-use Rattle.choice_law.specs.Tree.{Choice, decided}
+use Rattle.choice_law.specs.Tree.{Choice, Obligation, decided}
+use Rattle.choice_law.specs.Possible.{is_hopeless}
 use Rattle.choice_law.specs.Reasons.{reason}
 use Rattle.choice_tree.specs.Open.{first_open}
 use Rattle.choice_tree.specs.Options.{options}
@@ -11,6 +12,14 @@ use Rattle.choice_tree.specs.Options.{options}
 -- the options of a choice, where something is open of it
 abbrev pub tree_options : Bool → Universe → Choice → Option (List Choice)
 tree_options update u c = option_map (options update u c) (first_open u c)
+
+-- the options that are tried for what is open: all, or none where the choice is hopeless
+abbrev pub tried_for : Bool → Universe → Choice → Obligation → List Choice
+tried_for update u c o = if is_hopeless u c o then [] else options update u c o
+
+-- .. of a choice, where something is open of it
+abbrev pub tried_options : Bool → Universe → Choice → Option (List Choice)
+tried_options update u c = option_map (tried_for update u c) (first_open u c)
 
 -- the decided lines on which it rests that something is open of a choice
 abbrev pub tree_reason : Universe → Choice → List ℕ

@@ -10,8 +10,9 @@
 //! **Proved**: what is open of a choice is taken up in an order that is written out whole in
 //! `specs/Open.antt`, and what is first open is a pick, so the laws of `choice_law` hold of it. Its
 //! options are written out in `specs/Options.antt` and `specs/Candidates.antt`, in their order:
-//! they are just those of `choice_law`, and each decides a line more. [`decisions`] gives the
-//! decisions by which it may be closed, and [`beside`] those of the second line of a conflict.
+//! they are just those of `choice_law`, and each decides a line more; none is tried of a hopeless
+//! choice (`tried_options` of `specs/Tree.antt`). [`decisions`] gives the decisions by which it may
+//! be closed, and [`beside`] those of the second line of a conflict.
 //! Under each text a [`Keyed`] has just the lines that may have such a package, so what meets a
 //! need and what serves it is found by its name ([`Around`]).
 //!

@@ -5,3 +5,4 @@ pub mod Unseen
 pub mod Shut
 pub mod Unsettled
 pub mod Way
+pub mod MayStand

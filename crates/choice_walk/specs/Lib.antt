@@ -2,3 +2,4 @@ pub mod Marks
 pub mod Settled
 pub mod Way
 pub mod Blame
+pub mod Possible

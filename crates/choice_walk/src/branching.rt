@@ -7,7 +7,6 @@ ghost use Rattle.choice_tree.specs.Options.{options, second_part};
 ghost use Rattle.choice_tree.specs.Places.{places};
 ghost use Rattle.choice_tree.specs.Seen.{places_of};
 ghost use Rattle.choice_tree.specs.Steps.{after, held_on};
-ghost use Rattle.choice_tree.specs.Tree.{tree_options};
 ghost use Rattle.choice_tree.specs.Views.{decisions_of, universe_of, value_of};
 ghost use Rattle.choice_walk.specs.Way.{Holds};
 
@@ -132,24 +131,4 @@ pub fn options(
     let steps = walk.steps(alloc, obligation)?;
     let found = options_by(alloc, choice, &steps)?;
     Ok(found)
-}
-
-/// The options of a choice for what is first open of it, if anything is: those of [`options`] for
-/// what [`first_open`](crate::first_open) tells, with one look at all lines.
-pub fn next_options(
-    alloc: Global,
-    universe: &Universe,
-    choice: &Choice,
-) -> Result<Option<Vec<Choice>>, AllocError>
-    ensures { IfOk result (λ found. option_map (λ v. v.items) found ≡
-        tree_options universe.now.update (universe_of universe.now) choice.now) }
-{
-    let mut walk = Walk::to(alloc, universe, choice)?;
-    match walk.next_steps(alloc)? {
-        Some(steps) => {
-            let found = options_by(alloc, choice, &steps)?;
-            Ok(Some(found))
-        }
-        None => Ok(None),
-    }
 }

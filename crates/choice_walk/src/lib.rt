@@ -6,9 +6,9 @@
 //!
 //! **Proved**: [`first_open`] tells the first obligation that is open, in the order of
 //! `choice_tree`, and none where nothing is open. [`options`] gives the options for it in their
-//! order, [`next_options`] those for what is first open, and [`next_reason`] the decided lines on
-//! which it rests that this is open. A walk goes on to just the option of a step, and back to just
-//! where it came from, and tells the same of each choice.
+//! order, and [`next_reason`] the decided lines on which it rests that this is open. A walk goes on
+//! to just the option of a step, and back to just where it came from, and tells the same of each
+//! choice; of a hopeless one it tells no option.
 //!
 //! **Only tested**: whole trees of small universes, written out by hand, and that with ample memory
 //! each call answers.
@@ -33,6 +33,7 @@ mod blame;
 mod branching;
 mod marks;
 mod places;
+mod possible;
 mod reasons;
 mod settling;
 mod taking_up;
@@ -41,7 +42,7 @@ mod turn;
 mod turning;
 mod walk;
 
-pub use branching::{next_options, options};
+pub use branching::options;
 pub use reasons::next_reason;
 pub use taking_up::first_open;
 pub use walk::Walk;

@@ -3,8 +3,9 @@ ghost use Rattle.std.specs.Prelude.{true};
 ghost use Rattle.std.specs.List.{list_any};
 ghost use Rattle.std.specs.Option.{option_map, option_map_or};
 ghost use Rattle.dep_atom.specs.Ids.{id_text};
-ghost use Rattle.dep_atom.specs.Match.{value_matches};
 ghost use Rattle.dep_atom.specs.Values.{atom_value};
+ghost use Rattle.pkg_state.specs.Consistent.{facts_of};
+ghost use Rattle.choice_law.specs.Blame.{blamed_in};
 ghost use Rattle.choice_law.specs.Reasons.{can_match, offers_against, reason, rests_on};
 ghost use Rattle.choice_law.specs.Tree.{decided, filling};
 ghost use Rattle.choice_law.specs.Universe.{conflicts, offer_at, package_of};
@@ -14,47 +15,19 @@ ghost use Rattle.choice_tree.specs.Seen.{places_of};
 ghost use Rattle.choice_tree.specs.Tree.{tree_reason};
 ghost use Rattle.choice_tree.specs.Views.{offer_of, universe_of};
 ghost use Rattle.choice_walk.specs.Blame.{blamed_for};
+ghost use Rattle.choice_walk.specs.Possible.{judged_in};
 
 use crate::blame::blamed_of;
 use crate::marks::Marked;
+use crate::possible::{Possible, can_match};
 use crate::walk::Walk;
 use choice_tree::{Around, Choice, Obligation, Offer, Standing, Universe, conflict};
 use dep_atom::Atom;
-use pkg_state::Pkg;
+use pkg_state::{Class, Pkg};
 use pms_names::Flags;
 use std::alloc::{AllocError, Global};
 
-fn any_matched(atom: &Atom, asker: &Flags, variants: &[Pkg]) -> bool
-    ensures { result ≡
-        list_any (λ p. value_matches (atom_value atom.now) p.facts asker.now) variants.now }
-{
-    for variant in variants {
-        if atom.matches(&variant.facts, asker) {
-            return true;
-        }
-    }
-    false
-}
-
-fn keeps_matched(atom: &Atom, asker: &Flags, offer: &Offer) -> bool
-    ensures { result ≡
-        option_map_or (λ p. value_matches (atom_value atom.now) p.facts asker.now)
-        (offer_of offer.now).installed false }
-{
-    match &offer.installed {
-        Some(installed) => atom.matches(&installed.facts, asker),
-        None => false,
-    }
-}
-
-/// Whether the atom matches a package that may stand on the line.
-fn can_match(atom: &Atom, asker: &Flags, offer: &Offer) -> bool
-    ensures { result ≡ can_match (atom_value atom.now) asker.now (offer_of offer.now) }
-{
-    keeps_matched(atom, asker, offer) || any_matched(atom, asker, &offer.variants)
-}
-
-/// Whether one of the atoms does.
+/// Whether one of the atoms matches a package that may stand on the line.
 fn any_can_match(atoms: &[&Atom], asker: &Flags, offer: &Offer) -> bool
     ensures { result ≡ list_any (λ a. can_match a asker.now (offer_of offer.now))
         (map (λ a. atom_value a.now) atoms.now) }
@@ -172,6 +145,24 @@ fn offer_at(universe: &Universe, line: usize) -> &Offer
     &universe.offers[line]
 }
 
+/// The leaves to blame where what the package needs in this class isn't there: by all that may yet
+/// stand, where it isn't there even then.
+fn blamed_by<'a>(
+    alloc: Global,
+    owner: &'a Pkg,
+    class: Class,
+    around: &Around<'_, '_>,
+) -> Result<Vec<&'a Atom>, AllocError>
+    ensures { IfOk result (λ v. map (λ atom. atom_value atom.now) v.items ≡ blamed_in
+        (facts_of (judged_in (places_of around.now.places.now) class owner.now)) class owner.now) }
+{
+    let possible = Possible { around };
+    if owner.is_met(class, &possible) {
+        return blamed_of(alloc, owner, class, around);
+    }
+    blamed_of(alloc, owner, class, &possible)
+}
+
 /// The leaves to blame for it that the obligation is open, as far as it is a package that lacks
 /// what it needs.
 fn blamed_for<'u>(
@@ -192,7 +183,7 @@ fn blamed_for<'u>(
     let Some(owner) = package_at(universe, choice, own) else {
         return Ok(Vec::new(alloc));
     };
-    let leaves = blamed_of(alloc, owner, class, around)?;
+    let leaves = blamed_by(alloc, owner, class, around)?;
     Ok(leaves)
 }
 

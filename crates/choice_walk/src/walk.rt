@@ -2,7 +2,11 @@ ghost use Rattle.std.specs.Prelude.{◌≡◌, ◌∷◌, [], IfOk, OnOk, List, 
 ghost use Rattle.std.specs.Prelude.{if◌then◌else◌};
 ghost use Rattle.std.specs.Coded.{codes};
 ghost use Rattle.std.specs.Option.{option_map};
+ghost use Rattle.dep_atom.specs.Values.{atom_value};
 ghost use Rattle.pkg_state.specs.Codes.{trees_code};
+ghost use Rattle.pkg_state.specs.Consistent.{facts_of};
+ghost use Rattle.pkg_state.specs.Fault.{lacking_leaf};
+ghost use Rattle.choice_law.specs.Possible.{judged_among};
 ghost use Rattle.choice_law.specs.Tree.{Choice as Decisions, decided};
 ghost use Rattle.choice_tree.specs.Codes.{value_code};
 ghost use Rattle.choice_tree.specs.Keys.{AreKeyed, offers_in};
@@ -11,7 +15,7 @@ ghost use Rattle.choice_tree.specs.Options.{options};
 ghost use Rattle.choice_tree.specs.Places.{places as places_under};
 ghost use Rattle.choice_tree.specs.Seen.{places_of};
 ghost use Rattle.choice_tree.specs.Steps.{after, decision_as};
-ghost use Rattle.choice_tree.specs.Tree.{tree_options, tree_reason};
+ghost use Rattle.choice_tree.specs.Tree.{tree_reason, tried_for, tried_options};
 ghost use Rattle.choice_tree.specs.Views.{universe_of, value_of};
 ghost use Rattle.choice_tree.specs.declared.key.Key.TheVariants.{Leaf, Own, Whole};
 ghost use Rattle.choice_walk.specs.Settled.{AreSettled};
@@ -20,6 +24,7 @@ ghost use Rattle.choice_walk.specs.Way.{AreBefore, Holds, IsUndone, above, here}
 use crate::branching::{held_line, steps_of};
 use crate::marks::Marked;
 use crate::places::all_places;
+use crate::possible::{is_hopeless, lacking_leaf};
 use crate::reasons::reason_of;
 use crate::settling::all_lines;
 use crate::taking_up::first_of_all;
@@ -27,6 +32,8 @@ use crate::trail::{choice_at, last, newest};
 use crate::turn::Turn;
 use crate::turning::turn;
 use choice_tree::{Around, Choice, Decision, Key, Keyed, Obligation, Place, Step, Universe, Value};
+use dep_atom::Atom;
+use pkg_state::{Class, Pkg};
 use std::alloc::{AllocError, Global};
 use std::collections::BTreeSet;
 
@@ -262,19 +269,36 @@ impl<'u> Walk<'u> {
         Ok(steps)
     }
 
-    /// The steps to the options of the choice where it is for what is first open of it, if anything
-    /// is.
+    // The steps that are tried for what is open.
+    fn tried_steps(
+        &self,
+        alloc: Global,
+        obligation: &Obligation<'_>,
+    ) -> Result<Vec<Step>, AllocError>
+        ensures { IfOk result (λ v. map (after (here self.now.trail.items)) v.items ≡
+            tried_for self.now.universe.now.update (universe_of self.now.universe.now)
+            (here self.now.trail.items) (obligation_of obligation.now)) }
+    {
+        if is_hopeless(&self.around(), obligation) {
+            return Ok(Vec::new(alloc));
+        }
+        let steps = self.steps(alloc, obligation)?;
+        Ok(steps)
+    }
+
+    /// The steps to the options that are tried of the choice where it is, if anything is open of
+    /// it: none where the choice is hopeless.
     pub fn next_steps(&mut self, alloc: Global) -> Result<Option<Vec<Step>>, AllocError>
         ensures same { self.new.universe ≡ self.old.universe }
         ensures stays { self.new.trail ≡ self.old.trail }
         ensures found { IfOk result (λ found.
             option_map (λ v. map (after (here self.old.trail.items)) v.items) found ≡
-            tree_options self.old.universe.now.update (universe_of self.old.universe.now)
+            tried_options self.old.universe.now.update (universe_of self.old.universe.now)
             (here self.old.trail.items)) }
     {
         match self.first_open(alloc)? {
             Some(obligation) => {
-                let steps = self.steps(alloc, &obligation)?;
+                let steps = self.tried_steps(alloc, &obligation)?;
                 Ok(Some(steps))
             }
             None => Ok(None),
@@ -297,5 +321,14 @@ impl<'u> Walk<'u> {
         let marked = Marked::new(alloc, choice, self.places.len())?;
         let lines = reason_of(alloc, self.universe, &marked, &self.around(), &obligation)?;
         Ok(lines)
+    }
+    /// The leaf to name where what the package needs in this class isn't there: by all packages
+    /// that may yet stand under the choice where it is, where it isn't there even then.
+    pub fn lacking_leaf<'x>(&self, one: &'x Pkg, class: Class) -> Option<&'x Atom>
+        ensures { option_map (λ atom. atom_value atom.now) result ≡ lacking_leaf
+            (facts_of (judged_among (universe_of self.now.universe.now)
+            (here self.now.trail.items) class one.now)) class one.now }
+    {
+        lacking_leaf(&self.around(), one, class)
     }
 }

@@ -7,13 +7,13 @@ use Rattle.pkg_state.specs.Package.{Package}
 use Rattle.choice_law.specs.Tree.{Choice, Obligation}
 use Rattle.choice_law.specs.Universe.{Universe}
 use Rattle.choice_tree.specs.Open.{first_open}
-use Rattle.choice_tree.specs.Options.{options}
+use Rattle.choice_tree.specs.Tree.{tried_for}
 use Rattle.plan_text.specs.Plans.{GroupValue, plan_value}
 use Rattle.plan_rules.specs.declared.refusal.PlanRefused.{PlanRefused}
 use Rattle.plan_model.specs.Accepting.{Breaks, IsRefused}
 use Rattle.plan_model.specs.declared.fault.NotAccepted.{NotAccepted}
 use Rattle.plan_model.specs.declared.fault.NotAccepted.TheVariants as accepting
-use Rattle.resolver.specs.Answers.{AreDead, IsChosen}
+use Rattle.resolver.specs.Answers.{AreHopeless, IsChosen}
 use Rattle.merge_groups.specs.Arranged.{HasNoPlan, IsFine, IsLevel}
 use Rattle.merge_groups.specs.declared.arranged.NotArranged.{NotArranged}
 use Rattle.merge_groups.specs.declared.arranged.NotArranged.TheVariants as arranging
@@ -27,8 +27,8 @@ use Rattle.emerge_choose.specs.declared.fault.NotChosen.TheVariants as choosing
 use Rattle.emerge_choose.specs.declared.reason.NotTaken.{NotTaken}
 
 -- of what was tried in vain something is open
-pub dead_are_open : (update : Bool) (u : Universe) (cs : List Choice) → AreDead update u cs → (c : Choice) → Has cs c → first_open u c ≢ None
-dead_are_open update u cs dead c has = λ none. cc (subst (λ (o : Option Obligation). option_map (options update u c) o ≡ Some []) none (dead c has))
+pub tried_are_open : (update : Bool) (u : Universe) (cs : List Choice) → AreHopeless update u cs → (c : Choice) → Has cs c → first_open u c ≢ None
+tried_are_open update u cs hopeless c has = λ none. cc (subst (λ (o : Option Obligation). option_map (tried_for update u c) o ≡ Some []) none (hopeless c has))
 
 -- a second plan behind a first one that is refused
 pub second_refused : (installed offered : List Package) (fine level : List GroupValue) (f : NotAccepted) → AreRefused installed offered fine → Breaks installed offered level f → NoneAccepted installed offered fine level (not_accepted f)

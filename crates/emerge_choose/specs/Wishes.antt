@@ -10,7 +10,7 @@ use Rattle.choice_universe.specs.Offers.{AreOffers}
 use Rattle.emerge_choose.specs.declared.wish.Wish.{Wish}
 
 -- each of these atoms is to match a package; whether a greater version goes before what is
--- installed; and how many dead leaves are too many
+-- installed; and how many tries are too many
 pub record WishValue : Type 0 where
   pub wanted : List AtomValue
   pub update : Bool

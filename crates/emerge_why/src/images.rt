@@ -92,7 +92,9 @@ pub(crate) fn push_image(
         }
         ImageBad::Twice { path } => {
             let path = path.text();
-            format!(in alloc; "a package that was to come has {path} twice among its files")
+            format!(in alloc;
+                "two packages that were to come together both have {path}, or one has it twice"
+            )
         }
         ImageBad::Large { path } => {
             let path = path.text();

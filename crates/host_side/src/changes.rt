@@ -1,4 +1,4 @@
-use crate::folder::{Folder, Found};
+use crate::folder::{Folder, Found, folder_of, too_many};
 use crate::programs;
 use crate::unsynced::Unsynced;
 use basics::Text;
@@ -10,12 +10,15 @@ use std::io;
 use std::process::{Command, Stdio};
 use std::thread::Threads;
 
-/// What was changed since the last sync: the files that were written, and the folders whose names
-/// were changed.
+/// What was changed since the last sync: the files that were written, the folders whose names were
+/// changed, and those that something was taken out of.
 #[derive(Drop)]
 pub struct Changes {
     written: Unsynced,
+    /// By their names on the host.
     folders: BTreeSet<Text>,
+    /// By their paths, the lower ones behind those that hold them.
+    emptied: BTreeSet<Text>,
     state: State,
 }
 
@@ -36,16 +39,23 @@ impl Changes {
         Changes {
             written: Unsynced::new(alloc),
             folders: BTreeSet::new(alloc),
+            emptied: BTreeSet::new(alloc),
             state: State::First,
         }
     }
 
     /// Notes that a name in the folder is about to change.
     pub fn note(&mut self, alloc: Global, folder: &str) -> Result<(), AllocError> {
-        match self.folders.insert(Text::new(alloc, folder)?) {
-            Ok(_) => Ok(()),
-            Err(_) => Err(AllocError),
+        add(alloc, &mut self.folders, folder)
+    }
+
+    /// Notes that the folder at a path may have nothing left. Where that is so it goes at the next
+    /// sync, and not sooner: it is then asked for once, and not for each object that it had.
+    pub fn note_emptied(&mut self, alloc: Global, path: &str) -> Result<(), AllocError> {
+        if path.is_empty() {
+            return Ok(());
         }
+        add(alloc, &mut self.emptied, path)
     }
 
     /// Leaves a file that was written whole to the next sync. Where too many are open, they are made
@@ -59,7 +69,8 @@ impl Changes {
         Ok(())
     }
 
-    /// Makes all that was changed in the tree durable: the files, and behind them the folders.
+    /// Makes all that was changed in the tree durable: the files, and behind them the folders, without
+    /// those that have nothing left.
     pub fn sync<R: Threads>(&mut self, threads: &R, tree: &Folder) -> io::Result<()> {
         let answer = self.sync_all(threads, tree);
         self.keep(answer)?;
@@ -82,8 +93,24 @@ impl Changes {
             State::Synced => {}
             State::Failed => return Err(io::Error::other("an earlier sync failed")),
         }
+        self.prune(tree)?;
         self.written.sync(threads)?;
-        sync_folders(threads, tree.rt(), &self.folders, &mut self.written)
+        sync_folders(tree.rt(), &self.folders)
+    }
+
+    /// Removes the folders that have nothing left, each behind those below it.
+    fn prune(&mut self, tree: &Folder) -> io::Result<()> {
+        for _ in 0..u64::MAX {
+            let Some(path) = self.emptied.pop_last() else {
+                return Ok(());
+            };
+            if tree.prune(path.as_str()) {
+                let above = folder_of(path.as_str());
+                self.note(tree.alloc(), tree.name_of(above)?.as_str())?;
+                self.note_emptied(tree.alloc(), above)?;
+            }
+        }
+        Err(too_many())
     }
 
     /// Makes durable what a stopped run may have left and what isn't. Where it left no journal, that
@@ -117,23 +144,23 @@ fn sync_host(rt: &HostRuntime) -> io::Result<()> {
     programs::run(rt, &mut command, "the program sync failed")
 }
 
-/// Makes the names in these folders durable, by a list that has nothing else to sync.
-fn sync_folders<R: Threads>(
-    threads: &R,
-    rt: &HostRuntime,
-    folders: &BTreeSet<Text>,
-    unsynced: &mut Unsynced,
-) -> io::Result<()> {
+/// Makes the names in these folders durable, in one folder after another: on a disk with one journal
+/// the first one takes along what was done in all.
+fn sync_folders(rt: &HostRuntime, folders: &BTreeSet<Text>) -> io::Result<()> {
     for folder in folders {
-        if unsynced.is_full() {
-            unsynced.sync(threads)?;
-        }
         match File::open(rt, folder.as_str()) {
-            Ok(open) => unsynced.push(open)?,
+            Ok(open) => open.sync_all()?,
             // It was removed, and the folder above it is among those changed.
             Err(error) if error.kind() == io::ErrorKind::NotFound => {}
             Err(error) => return Err(error),
         }
     }
-    unsynced.sync(threads)
+    Ok(())
+}
+
+fn add(alloc: Global, texts: &mut BTreeSet<Text>, text: &str) -> Result<(), AllocError> {
+    match texts.insert(Text::new(alloc, text)?) {
+        Ok(_) => Ok(()),
+        Err(_) => Err(AllocError),
+    }
 }

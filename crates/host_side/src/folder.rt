@@ -162,6 +162,22 @@ impl Folder {
         }
     }
 
+    /// Removes the folder at a path, where nothing is left in it. Whether nothing is there then; what
+    /// can't go stays, as what is reached by a link now.
+    pub fn prune(&self, path: &str) -> bool {
+        match self.find(path) {
+            Ok(Found::Folder) => self.remove_bare(path).is_ok(),
+            Ok(found) => found == Found::Nothing,
+            Err(_) => false,
+        }
+    }
+
+    /// Removes a folder that has nothing but a spare object.
+    fn remove_bare(&self, path: &str) -> io::Result<()> {
+        self.clear_spare_in(path)?;
+        fs::remove_dir(&self.rt, self.name_of(path)?)
+    }
+
     /// The host's name of a spare object in a folder.
     pub fn spare_in(&self, folder: &str) -> Result<String, AllocError> {
         let inside = self.below(folder, SPARE)?;
@@ -209,8 +225,7 @@ impl Folder {
             return Ok(false);
         };
         for folder in folders.iter().rev() {
-            self.clear_spare_in(folder.as_str())?;
-            fs::remove_dir(&self.rt, self.name_of(folder.as_str())?)?;
+            self.remove_bare(folder.as_str())?;
         }
         Ok(true)
     }
@@ -329,6 +344,14 @@ pub fn part_before(path: &str, at: usize) -> &str {
     }
 }
 
+/// The folder that holds a path: no text where that is the top.
+pub fn folder_of(path: &str) -> &str {
+    match path.rsplit_once('/') {
+        Some((above, _)) => above,
+        None => "",
+    }
+}
+
 /// What metadata says of an object.
 fn found_by(metadata: &fs::Metadata) -> Found {
     let what = metadata.file_type();
@@ -387,6 +410,7 @@ fn nothing_to_place() -> io::Error {
     io::Error::new(io::ErrorKind::NotFound, "nothing is to be placed")
 }
 
-fn too_many() -> io::Error {
+/// The error of folders that never end.
+pub fn too_many() -> io::Error {
     io::Error::other("too many folders")
 }

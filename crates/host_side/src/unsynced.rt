@@ -6,8 +6,8 @@ use std::thread::{Threads, join};
 /// How many files are open at most until they are synced.
 const MOST_OPEN: usize = 128;
 
-/// Files and folders that are to be made durable. They are kept open until then, so that none is
-/// sought by a name that may be another one's by then, and no failure to write them is missed.
+/// Files that are to be made durable. They are kept open until then, so that none is sought by a name
+/// that may be another one's by then, and no failure to write them is missed.
 #[derive(Drop)]
 pub struct Unsynced {
     open: Vec<File>,
@@ -40,11 +40,14 @@ impl Unsynced {
     }
 }
 
-/// Makes files durable, four at a time.
+/// Makes files durable, four at a time. Where there are fewer, fewer threads are started.
 fn sync_side_by_side<R: Threads>(threads: &R, files: &[File]) -> io::Result<()> {
     let (front, back) = files.split_at(files.len() / 2);
     let (first, second) = front.split_at(front.len() / 2);
     let (third, fourth) = back.split_at(back.len() / 2);
+    if first.is_empty() {
+        return sync_three(threads, second, third, fourth);
+    }
     let (one, others) = join(
         threads,
         || sync_each(first),
@@ -59,6 +62,9 @@ fn sync_three<R: Threads>(
     second: &[File],
     third: &[File],
 ) -> io::Result<()> {
+    if first.is_empty() {
+        return sync_two(threads, second, third);
+    }
     let (one, others) = join(
         threads,
         || sync_each(first),
@@ -68,6 +74,9 @@ fn sync_three<R: Threads>(
 }
 
 fn sync_two<R: Threads>(threads: &R, first: &[File], second: &[File]) -> io::Result<()> {
+    if first.is_empty() {
+        return sync_each(second);
+    }
     let (one, other) = join(threads, || sync_each(first), || sync_each(second));
     one.and(other)
 }

@@ -1,5 +1,7 @@
 use crate::changes::Changes;
-use crate::folder::{Folder, Found, Stage, clear_spare, not_a_folder, odd_object, part_before};
+use crate::folder::{
+    Folder, Found, Stage, clear_spare, folder_of, not_a_folder, odd_object, part_before,
+};
 use file_tree::{Kind, Object};
 use std::fs::{File, OpenFile, OpenOptions, Permissions};
 use std::io::Write;
@@ -54,16 +56,20 @@ pub fn place(folder: &Folder, changes: &mut Changes, from: &str, to: &str) -> io
     Ok(())
 }
 
-/// Makes a path hold nothing. Folders above it that have nothing left go with it.
+/// Makes a path hold nothing. Folders above it that have nothing left go at the next sync, also where
+/// a stopped run has removed what was at the path, and not yet these.
 pub fn remove(folder: &Folder, changes: &mut Changes, path: &str) -> io::Result<()> {
     match folder.find(path)? {
-        Found::Nothing | Found::Folder => return Ok(()),
+        Found::Folder => return Ok(()),
         Found::Odd => return Err(odd_object()),
-        Found::Item(_) => {}
+        Found::Nothing => {}
+        Found::Item(_) => {
+            note_above(folder, changes, path)?;
+            fs::remove_file(folder.rt(), folder.name_of(path)?)?;
+        }
     }
-    note_above(folder, changes, path)?;
-    fs::remove_file(folder.rt(), folder.name_of(path)?)?;
-    prune(folder, changes, path)
+    changes.note_emptied(folder.alloc(), folder_of(path))?;
+    Ok(())
 }
 
 /// Makes the folders above a path, the highest first, and the names of a change of it.
@@ -119,35 +125,11 @@ fn rename_over(folder: &Folder, site: &Site) -> io::Result<()> {
     fs::rename(rt, site.spare.as_str(), site.target.as_str())
 }
 
-/// Removes the folders above a path that have nothing left, the lowest first.
-fn prune(folder: &Folder, changes: &mut Changes, path: &str) -> io::Result<()> {
-    for at in (0..path.len()).rev() {
-        if path.as_bytes()[at] != b'/' {
-            continue;
-        }
-        let above = part_before(path, at);
-        note_above(folder, changes, above)?;
-        folder.clear_spare_in(above)?;
-        if fs::remove_dir(folder.rt(), folder.name_of(above)?).is_err() {
-            return Ok(());
-        }
-    }
-    Ok(())
-}
-
 /// Notes that a name in the folder that holds a path is about to change.
 fn note_above(folder: &Folder, changes: &mut Changes, path: &str) -> io::Result<()> {
     let above = folder.name_of(folder_of(path))?;
     changes.note(folder.alloc(), above.as_str())?;
     Ok(())
-}
-
-/// The folder that holds a path: no text where that is the top.
-fn folder_of(path: &str) -> &str {
-    match path.rsplit_once('/') {
-        Some((above, _)) => above,
-        None => "",
-    }
 }
 
 fn site_of(folder: &Folder, path: &str) -> io::Result<Site> {

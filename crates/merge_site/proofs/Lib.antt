@@ -1,6 +1,7 @@
 pub mod Booked
 pub mod Crossing
 pub mod Device
+pub mod Gone
 pub mod Judged
 pub mod Kept
 pub mod Lines

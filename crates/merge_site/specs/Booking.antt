@@ -1,12 +1,13 @@
 -- What a site keeps of the ownership book: who owns what, and which group claims what.
 use Rattle.std.specs.Prelude.{◌≡◌, ◌++◌, ◌∷◌, ℕ, Bool, true, false, List, [], Option, Some, None, Vec, length, map, slice_get, slice_index_or, slice_set, if◌then◌else◌}
 use Rattle.std.specs.Global.{Global}
+use Rattle.std.specs.List.{flat_map}
 use Rattle.basics.specs.Members.{Has}
 use Rattle.file_tree.specs.declared.objects.Entry.{Entry}
 use Rattle.merge_journal.specs.Judging.{path_of}
 use Rattle.merge_record.specs.declared.record.OwnerKey.{OwnerKey}
 use Rattle.owner_book.specs.Book as books
-use Rattle.owner_book.specs.Book.{Book, ClaimValue, claim_in, owner_in, settled_owner}
+use Rattle.owner_book.specs.Book.{Book, ClaimValue, claim_in, owner_in, paths_of, settled_owner}
 use Rattle.owner_book.specs.declared.wish.Wish.{Wish}
 use Rattle.merge_core.specs.Core.{standing_in}
 use Rattle.merge_core.specs.Event.{Abandon, Acknowledge, Event, SyncClosed}
@@ -38,6 +39,10 @@ dying_of (Some x) = x.dying.items
 
 abbrev pub dying_at : List SiteGroup → ℕ → List OwnerKey
 dying_at xs g = dying_of (slice_get xs g)
+
+-- the paths that these packages own, package by package
+abbrev pub owned_by : Book → List OwnerKey → List (List ℕ)
+owned_by b keys = flat_map (λ k. paths_of b.owned k) keys
 
 -- what a group claims: the wishes that it staged, and the removals of its record
 abbrev pub parts_of : CoreValue → List (List Wish) → ℕ → ClaimValue

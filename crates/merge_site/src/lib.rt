@@ -35,6 +35,7 @@ mod judging;
 mod logged;
 mod moves;
 mod open;
+mod owned;
 mod reads;
 mod records;
 mod site;

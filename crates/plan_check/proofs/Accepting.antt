@@ -1,26 +1,20 @@
 -- Where no rule refuses, the plan is accepted, and the other way round.
-use Rattle.std.proofs.Common.{◌≡◌, ◌⊎◌, ◌≤◌, ◌+◌, ◌-◌, ◌∙◌, ◌||◌, ◌↔◌, ℕ, Bool, true, false, List, [], ◌∷◌, Option, None, bytes_eq, filter, inl, inr, refl, sym, ap, subst, arith}
+use Rattle.std.proofs.Common.{◌≡◌, ◌⊎◌, ◌≤◌, ◌+◌, ◌-◌, ◌∙◌, ◌↔◌, ℕ, Bool, true, false, List, [], ◌∷◌, Option, None, bytes_eq, filter, inl, inr, refl, sym, ap, subst, arith}
 use Rattle.std.proofs.lemmas.Bool.{both_ways, cases_Bool, cases_eq, false_from_ne_true, true_from_ne_false}
+use Rattle.std.proofs.lemmas.List.Sorted.{IsPermutation-sym}
 use Rattle.std.proofs.lemmas.Slice.Eq.{bytes_eq-Decides}
-use Rattle.basics.specs.Members.{AreDistinct, Has}
+use Rattle.basics.specs.Members.{Has}
 use Rattle.basics.proofs.Membership.{has-filter, has-filter_back, has-map, has-map_back}
-use Rattle.dep_atom.specs.declared.package.Facts.{Facts}
-use Rattle.dep_atom.specs.Match.{value_matches}
-use Rattle.dep_atom.specs.Values.{AtomValue}
-use Rattle.dep_tree.specs.Truth.{kind, some_match}
+use Rattle.basics.proofs.Permutations.{has-moved}
 use Rattle.pkg_state.specs.Consistent.{blocks, facts_of, fits_required, is_met}
-use Rattle.dep_group.specs.Trees.{all_hold}
-use Rattle.dep_tree.specs.Grammar.{is_block}
-use Rattle.pms_names.specs.Flags.{has}
 use Rattle.pkg_state.specs.Fault.{lacking_leaf}
-use Rattle.pkg_state.specs.Package.{Package, line_of, lines_of, tree_of}
+use Rattle.pkg_state.specs.Package.{Package, line_of}
 use Rattle.pkg_state.specs.declared.class.Class.{Class}
 use Rattle.pkg_state.specs.declared.class.Class.TheVariants.{Bdepend, Depend, Idepend, Pdepend, Rdepend}
 use Rattle.plan_law.specs.Plans.{Group, Removal, clears, group_at, no_group}
 use Rattle.plan_law.specs.Lives.{Enters, IsCleared, IsLife, Life, Meets, Moment, commit, never, opening, stretch_of, until}
 use Rattle.plan_law.specs.Accepted.{AreLeft, IsAccepted, IsFirmThrough}
 use Rattle.plan_law.specs.Sound.{bars, is_of_build}
-use Rattle.basics.proofs.Members.{passes_some, some_passes}
 use Rattle.plan_law.proofs.There.{some_life}
 use Rattle.plan_lives.specs.Lives.{lives}
 use Rattle.plan_lives.specs.Left.{is_never, left_of}
@@ -28,12 +22,17 @@ use Rattle.plan_lives.proofs.AllLives.{has_lives}
 use Rattle.plan_lives.proofs.Clears.{Stands, all_stand, rest_stands, stands_here}
 use Rattle.plan_check.specs.Asks.{AskedValue, asking}
 use Rattle.plan_check.specs.Binding.{AreBound, IsBound}
-use Rattle.plan_check.specs.PackageRules.{built_rule, finished_rule, if_left, package_rule, plan_rule, required_rule, standing_rule, unbarred_rule}
+use Rattle.plan_check.specs.PackageRules.{IsBarred, IsBlocked, built_rule, finished_rule, if_left, lives_in, package_rule, plan_rule, required_rule, standing_rule, strong_rule, tried_key, weak_rule}
+use Rattle.plan_rules.specs.Order.{AreInOrder, life_key, number_of}
 use Rattle.plan_rules.specs.Refusals.{Refusal, Refusal as refused}
-use Rattle.plan_rules.specs.Rules.{AreOneVersion, Crowds, IsPresent, apart_rule, number_of, present_at, vacant_at, vacant_of, versions_of}
+use Rattle.plan_rules.specs.Rules.{IsPresent, present_at}
 use Rattle.plan_rules.specs.Verdicts.{both, demand, each_from, refuse}
-use Rattle.plan_check.proofs.Binds.{binding_none, bound, life_asked, some_asked}
+use Rattle.plan_rules.proofs.Consistent.{same_met}
+use Rattle.plan_rules.proofs.Hindered.{room_none, single_if, vacant_if, versions_if}
+use Rattle.plan_rules.proofs.Sorting.{order_viewed}
 use Rattle.plan_rules.proofs.Trying.{each_none, each_passed}
+use Rattle.plan_check.proofs.Binds.{binding_none, bound, life_asked, lives_asked, some_asked}
+use Rattle.plan_check.proofs.KeptOut.{bars_kept, blocked_by, kind_blocks}
 
 module _ {E : Type 0} (plan : List Group) (J : ℕ → Group → Option E → Type 0) where
   -- the rule lets pass at each place of the plan
@@ -47,23 +46,6 @@ module _ {E : Type 0} (plan : List Group) (J : ℕ → Group → Option E → Ty
   from_none : (rest : List Group) (n : ℕ) → Stands plan n rest → ((g : ℕ) → J g (group_at plan g) None) → each_from n rest J None
   from_none [] n s all = tt
   from_none (group ∷ rest) n s all = (subst (λ (x : Group). J n x None) (stands_here plan n group rest s) (all n), from_none rest (n + 1) (rest_stands plan n group rest s) all)
-
--- two lists with the same members tell the same of what is met
-module _ (ps qs : List Package) (same : (p : Package) → Has ps p ↔ Has qs p) where
-  one_way : (asker : List (List ℕ)) (a : AtomValue) (xs ys : List Package) → ((p : Package) → Has xs p → Has ys p) → some_match (facts_of xs) asker a ≡ true → some_match (facts_of ys) asker a ≡ true
-  one_way asker a xs ys to e =
-      let k = some_passes (λ (f : Facts). value_matches a f asker) (facts_of xs) e in
-      let m = has-map_back (λ (p : Package). p.facts) xs k.0 k.1 in
-      passes_some (λ (f : Facts). value_matches a f asker) (facts_of ys) k.0 (subst (λ (f : Facts). Has (facts_of ys) f) m.2 (has-map (λ (p : Package). p.facts) ys m.0 (to m.0 m.1))) k.2
-
-  same_match : (asker : List (List ℕ)) (a : AtomValue) → some_match (facts_of ps) asker a ≡ some_match (facts_of qs) asker a
-  same_match asker a = elim (cases_Bool (some_match (facts_of ps) asker a)) [
-    | inl y ↦ y ∙ sym (one_way asker a ps qs (λ p. (same p).0) y)
-    | inr n ↦ n ∙ sym (false_from_ne_true (some_match (facts_of qs) asker a) (λ e. both_ways (some_match (facts_of ps) asker a) n (one_way asker a qs ps (λ p. (same p).1) e)))
-  ]
-
-  pub same_met : (class : Class) (p : Package) → is_met (facts_of ps) class p ≡ is_met (facts_of qs) class p
-  same_met class p = ap (λ (fact : AtomValue → Bool). all_hold (tree_of class p).empty_holds kind fact (has p.facts.enabled) (tree_of class p).groups) (λ i a. is_block a || same_match p.facts.enabled a i)
 
 module _ (plan : List Group) (start : List Package) where
   abbrev xs : List Life
@@ -113,155 +95,162 @@ module _ (plan : List Group) (start : List Package) where
   abbrev NotMet : Package → Type 0
   NotMet p = is_met (facts_of (left_of plan start)) Pdepend p ≡ false
 
-  -- the rules of a package without that of its binds
-  abbrev unbound_rule : Life → Option Refusal → Type 0
-  unbound_rule x = both (required_rule x) (standing_rule plan start x)
+  module _ (asks : List AskedValue) (them : List (Life × AskedValue)) (order : AreInOrder tried_key (asking (lives plan start) asks) them) where
+    abbrev all : List Life
+    all = lives_in them
 
-  module _ (asks : List AskedValue) (h : plan_rule plan start asks None) where
-    asked_passed : (x : Life) (asked : AskedValue) → Has (asking xs asks) (x, asked) → package_rule plan start (x, asked) None
-    asked_passed x asked has = each_passed (asking xs asks) (package_rule plan start) h.1.1.1.1.1.1 (x, asked) has
+    -- the lives stand in their order
+    pub lives_order : AreInOrder life_key (lives plan start) all
+    lives_order = subst (λ (ys : List Life). AreInOrder life_key ys all) (lives_asked xs asks) (order_viewed (λ (it : Life × AskedValue). it.0) life_key (asking xs asks) them order)
 
-    package_passed : (x : Life) → IsLife plan start x → unbound_rule x None
-    package_passed x is =
-        let k = some_asked xs asks x (listed x is) in
-        let passed = asked_passed x k.0 k.1 in (passed.0.0, passed.1)
+    in_all : (y : Life) → IsLife plan start y → Has all y
+    in_all y is = has-moved xs all y lives_order.moved (listed y is)
 
-    pub all_bound : AreBound plan start asks
-    all_bound x asked has = bound plan start x.package_is x.birth x.death asked (asked_passed x asked has).0.1
+    of_all : (y : Life) → Has all y → IsLife plan start y
+    of_all y h = (has_lives plan start y).0 (has-moved all xs y (IsPermutation-sym xs all lives_order.moved) h)
 
-    addition_passed : (g : ℕ) (p : Package) → Has (group_at plan g).additions p → (d : Moment) × unbound_rule (record { package_is = p; birth = commit g; death = d }) None
-    addition_passed g p has = let k = brought g p has in (k.0, package_passed (record { package_is = p; birth = commit g; death = k.0 }) k.1)
+    -- the rules of a package without that of its binds
+    abbrev unbound_rule : Life → Option Refusal → Type 0
+    unbound_rule x = both (required_rule x) (standing_rule plan start all x)
 
-    present : (g : ℕ) (r : Removal) → Has (group_at plan g).removals r → IsPresent plan start g r
-    present g r has = elim (from_passed plan (present_at plan start) plan 0 (all_stand plan) h.1.0 g (omega arith)) [
-      | inl passed ↦ each_passed (group_at plan g).removals (λ (r : Removal). demand (IsPresent plan start g r) (refused.Absent (g + 1) r.id)) passed r has
-      | inr e ↦ absurd (subst (λ (x : Group). Has x.removals r) e has)
-    ]
+    module _ (h : plan_rule plan start all them None) where
+      asked_passed : (x : Life) (asked : AskedValue) → Has (asking xs asks) (x, asked) → package_rule plan start all (x, asked) None
+      asked_passed x asked has = each_passed them (package_rule plan start all) h.1.1.1.1 (x, asked) (has-moved (asking xs asks) them (x, asked) order.moved has)
 
-    not_crowded : (g : ℕ) (p : Package) (y : Life) → Has (group_at plan g).additions p → IsLife plan start y → ¬ Crowds (group_at plan g) g p y
-    not_crowded g p y has is = elim (from_passed plan (vacant_at plan start) plan 0 (all_stand plan) h.1.1.0 g (omega arith)) [
-      | inl passed ↦ each_passed xs (λ (y : Life). refuse (Crowds (group_at plan g) g p y) (refused.Occupied (g + 1) p.facts.id y.package_is.facts.id)) (each_passed (group_at plan g).additions (vacant_of plan start g) passed p has) y (listed y is)
-      | inr e ↦ absurd (subst (λ (x : Group). Has x.additions p) e has)
-    ]
+      package_passed : (x : Life) → IsLife plan start x → unbound_rule x None
+      package_passed x is =
+          let k = some_asked xs asks x (listed x is) in
+          let passed = asked_passed x k.0 k.1 in (passed.0.0, passed.1)
 
-    single : (g : ℕ) → AreDistinct (lines_of (group_at plan g).additions)
-    single g = elim (from_passed plan apart_rule plan 0 (all_stand plan) h.1.1.1.0 g (omega arith)) [
-      | inl passed ↦ passed
-      | inr e ↦ subst (λ (x : Group). AreDistinct (lines_of x.additions)) (sym e) tt
-    ]
+      pub all_bound : AreBound plan start asks
+      all_bound x asked has = bound plan start x.package_is x.birth x.death asked (asked_passed x asked has).0.1
 
-    not_one_version : (x y : Life) → IsLife plan start x → IsLife plan start y → ¬ AreOneVersion plan x y
-    not_one_version x y isx isy = each_passed xs (λ (y : Life). refuse (AreOneVersion plan x y) (refused.Occupied (number_of x.birth) x.package_is.facts.id y.package_is.facts.id)) (each_passed xs (versions_of plan start) h.1.1.1.1.0 x (listed x isx)) y (listed y isy)
+      addition_passed : (g : ℕ) (p : Package) → Has (group_at plan g).additions p → (d : Moment) × unbound_rule (record { package_is = p; birth = commit g; death = d }) None
+      addition_passed g p has = let k = brought g p has in (k.0, package_passed (record { package_is = p; birth = commit g; death = k.0 }) k.1)
 
-    unblocked : (x y : Life) → IsLife plan start x → IsLife plan start y → Meets plan (stretch_of x) y → blocks x.package_is y.package_is ≡ false
-    unblocked x y isx isy meets = false_from_ne_true (blocks x.package_is y.package_is) (λ e.
-        each_passed xs (λ (y : Life). refuse (Meets plan (stretch_of x) y × (blocks x.package_is y.package_is ≡ true)) (refused.Blocked x.package_is.facts.id y.package_is.facts.id))
-        (package_passed x isx).1.1.0 y (listed y isy) (meets, e))
+      present : (g : ℕ) (r : Removal) → Has (group_at plan g).removals r → IsPresent plan start g r
+      present g r has = elim (from_passed plan (present_at plan start) plan 0 (all_stand plan) h.1.0 g (omega arith)) [
+        | inl passed ↦ each_passed (group_at plan g).removals (λ (r : Removal). demand (IsPresent plan start g r) (refused.Absent (g + 1) r.id)) passed r has
+        | inr e ↦ absurd (subst (λ (x : Group). Has x.removals r) e has)
+      ]
 
-    unbarred : (g : ℕ) (p : Package) (y : Life) → Has (group_at plan g).additions p → IsLife plan start y → Meets plan (until g) y → bars p y.package_is ≡ false
-    unbarred g p y has is meets = false_from_ne_true (bars p y.package_is) (λ e.
-        each_passed xs (λ (y : Life). refuse (Meets plan (until g) y × (bars p y.package_is ≡ true)) (refused.Barred (g + 1) p.facts.id y.package_is.facts.id))
-        (addition_passed g p has).1.1.1.1.0 y (listed y is) (meets, e))
+      not_blocked : (strong : Bool) (x y : Life) → IsLife plan start x → IsLife plan start y → ¬ IsBlocked plan strong x y
+      not_blocked false x y isx isy m = each_passed all (λ (y : Life). refuse (IsBlocked plan false x y) (refused.Blocked x.package_is.facts.id y.package_is.facts.id))
+          (package_passed x isx).1.1.0 y (in_all y isy) m
+      not_blocked true x y isx isy m = each_passed all (λ (y : Life). refuse (IsBlocked plan true x y ⊎ IsBarred plan x.package_is x.birth y) (refused.Barred (number_of x.birth) x.package_is.facts.id y.package_is.facts.id))
+          (package_passed x isx).1.1.1.0 y (in_all y isy) (inl m)
 
-    built : (g : ℕ) (p : Package) (class : Class) → Has (group_at plan g).additions p → is_of_build class ≡ true → IsFirmThrough plan start (until g) class p
-    built g p Rdepend has e = absurd (cc e)
-    built g p Pdepend has e = absurd (cc e)
-    built g p Depend has e = (addition_passed g p has).1.1.1.1.1.0.0
-    built g p Bdepend has e = (addition_passed g p has).1.1.1.1.1.0.1.0
-    built g p Idepend has e = (addition_passed g p has).1.1.1.1.1.0.1.1
+      unblocked : (x y : Life) → IsLife plan start x → IsLife plan start y → Meets plan (stretch_of x) y → blocks x.package_is y.package_is ≡ false
+      unblocked x y isx isy meets = false_from_ne_true (blocks x.package_is y.package_is) (λ e.
+          let k = blocked_by x.package_is y.package_is e in not_blocked k.0 x y isx isy (meets, k.1))
 
-    met_later : (g : ℕ) (p : Package) (d : Moment) → unbound_rule (record { package_is = p; birth = commit g; death = d }) None → d ≡ never → ¬ NotMet p
-    met_later g p d passed e = subst (λ (m : Moment). if_left m (refuse (NotMet p) (refused.Final p.facts.id (lacking_leaf (facts_of (left_of plan start)) Pdepend p))) None) e passed.1.1.1.1.1
+      unbarred : (g : ℕ) (p : Package) (y : Life) → Has (group_at plan g).additions p → IsLife plan start y → Meets plan (until g) y → bars p y.package_is ≡ false
+      unbarred g p y has is meets = false_from_ne_true (bars p y.package_is) (λ e.
+          let k = addition_passed g p has in
+          each_passed all (λ (y : Life). refuse (IsBlocked plan true (record { package_is = p; birth = commit g; death = k.0 }) y ⊎ IsBarred plan p (commit g) y) (refused.Barred (g + 1) p.facts.id y.package_is.facts.id))
+          k.1.1.1.1.0 y (in_all y is) (inr (meets, bars_kept p y.package_is ∙ e)))
 
-    stays_met : (g : ℕ) (p q : Package) (b d : Moment) → Has (group_at plan g).additions p → IsLife plan start (record { package_is = q; birth = b; death = d }) → d ≡ never → q ≡ p → ¬ NotMet p
-    stays_met g p q opening d has is e same =
-        let never_cleared : IsCleared plan 0 (line_of p.facts) never = subst (λ (z : Package). IsCleared plan 0 (line_of z.facts) never) same (subst (λ (m : Moment). IsCleared plan 0 (line_of q.facts) m) e is.leaves) in
-        let k = brought g p has in
-        met_later g p k.0 (package_passed (record { package_is = p; birth = commit g; death = k.0 }) k.1) (not_later (line_of p.facts) (g + 1) k.0 never_cleared k.1.leaves)
-    stays_met g p q (commit h) d has is e same = subst (λ (z : Package). ¬ NotMet z) same (met_later h q d (package_passed (record { package_is = q; birth = commit h; death = d }) is) e)
-    stays_met g p q never d has is e same = absurd is.enters
+      built : (g : ℕ) (p : Package) (class : Class) → Has (group_at plan g).additions p → is_of_build class ≡ true → IsFirmThrough plan start (until g) class p
+      built g p Rdepend has e = absurd (cc e)
+      built g p Pdepend has e = absurd (cc e)
+      built g p Depend has e = (addition_passed g p has).1.1.1.1.1.0.0
+      built g p Bdepend has e = (addition_passed g p has).1.1.1.1.1.0.1.0
+      built g p Idepend has e = (addition_passed g p has).1.1.1.1.1.0.1.1
 
-    finished : (g : ℕ) (p : Package) (ps : List Package) → Has (group_at plan g).additions p → AreLeft plan start ps → Has ps p → is_met (facts_of ps) Pdepend p ≡ true
-    finished g p ps has left there =
-        let x = (left p).0 there in
-        same_met ps (left_of plan start) (finally ps left) Pdepend p
-        ∙ true_from_ne_false (is_met (facts_of (left_of plan start)) Pdepend p) (stays_met g p x.0.package_is x.0.birth x.0.death has x.1 x.2 x.3)
+      met_later : (g : ℕ) (p : Package) (d : Moment) → unbound_rule (record { package_is = p; birth = commit g; death = d }) None → d ≡ never → ¬ NotMet p
+      met_later g p d passed e = subst (λ (m : Moment). if_left m (refuse (NotMet p) (refused.Final p.facts.id (lacking_leaf (facts_of (left_of plan start)) Pdepend p))) None) e passed.1.1.1.1.1
 
-    pub accepted : IsAccepted plan start
-    accepted = record {
-      ordered = h.0;
-      present = present;
-      vacant = λ g p x has is stands twin. true_from_ne_false (clears (group_at plan g) (line_of p.facts)) (λ off. not_crowded g p x has is (record { stands = stands; twin = twin; stays = off }));
-      single = single;
-      versions = λ x y isx isy meets same. same_line (line_of x.package_is.facts) (line_of y.package_is.facts) (λ apart. not_one_version x y isx isy (record { meets = meets; same = same; apart = apart }));
-      consistent = h.1.1.1.1.1.0;
-      required = λ g p has. true_from_ne_false (fits_required p) (addition_passed g p has).1.0;
-      lasting = λ x is. (package_passed x is).1.0;
-      unblocked = unblocked;
-      unbarred = unbarred;
-      built = built;
-      finished = finished;
-    }
+      stays_met : (g : ℕ) (p q : Package) (b d : Moment) → Has (group_at plan g).additions p → IsLife plan start (record { package_is = q; birth = b; death = d }) → d ≡ never → q ≡ p → ¬ NotMet p
+      stays_met g p q opening d has is e same =
+          let never_cleared : IsCleared plan 0 (line_of p.facts) never = subst (λ (z : Package). IsCleared plan 0 (line_of z.facts) never) same (subst (λ (m : Moment). IsCleared plan 0 (line_of q.facts) m) e is.leaves) in
+          let k = brought g p has in
+          met_later g p k.0 (package_passed (record { package_is = p; birth = commit g; death = k.0 }) k.1) (not_later (line_of p.facts) (g + 1) k.0 never_cleared k.1.leaves)
+      stays_met g p q (commit h) d has is e same = subst (λ (z : Package). ¬ NotMet z) same (met_later h q d (package_passed (record { package_is = q; birth = commit h; death = d }) is) e)
+      stays_met g p q never d has is e same = absurd is.enters
 
-  -- an accepted plan whose binds are right passes every rule
-  module _ (asks : List AskedValue) (ok : IsAccepted plan start) (right : AreBound plan start asks) where
-    is_life : (x : Life) → Has xs x → IsLife plan start x
-    is_life x h = (has_lives plan start x).0 h
+      finished : (g : ℕ) (p : Package) (ps : List Package) → Has (group_at plan g).additions p → AreLeft plan start ps → Has ps p → is_met (facts_of ps) Pdepend p ≡ true
+      finished g p ps has left there =
+          let x = (left p).0 there in
+          same_met ps (left_of plan start) (finally ps left) Pdepend p
+          ∙ true_from_ne_false (is_met (facts_of (left_of plan start)) Pdepend p) (stays_met g p x.0.package_is x.0.birth x.0.death has x.1 x.2 x.3)
 
-    required_none : (p : Package) (b d : Moment) → Enters plan start b p → required_rule (record { package_is = p; birth = b; death = d }) None
-    required_none p opening d e = tt
-    required_none p (commit g) d e = λ off. both_ways (fits_required p) off (ok.required g p e)
-    required_none p never d e = tt
+      pub accepted : IsAccepted plan start
+      accepted = record {
+        ordered = h.0;
+        present = present;
+        vacant = λ g p x has is stands twin. true_from_ne_false (clears (group_at plan g) (line_of p.facts)) (λ off. vacant_if plan start all lives_order h.1.1.0 g p x has is (record { stands = stands; twin = twin; stays = off }));
+        single = single_if plan start all lives_order h.1.1.0;
+        versions = λ x y isx isy meets same. same_line (line_of x.package_is.facts) (line_of y.package_is.facts) (λ apart. versions_if plan start all lives_order h.1.1.0 x y isx isy (record { meets = meets; same = same; apart = apart }));
+        consistent = h.1.1.1.0;
+        required = λ g p has. true_from_ne_false (fits_required p) (addition_passed g p has).1.0;
+        lasting = λ x is. (package_passed x is).1.0;
+        unblocked = unblocked;
+        unbarred = unbarred;
+        built = built;
+        finished = finished;
+      }
 
-    unbarred_none : (p : Package) (b d : Moment) → Enters plan start b p → unbarred_rule plan start (record { package_is = p; birth = b; death = d }) None
-    unbarred_none p opening d e = tt
-    unbarred_none p (commit g) d e = each_none xs (λ (y : Life). refuse (Meets plan (until g) y × (bars p y.package_is ≡ true)) (refused.Barred (g + 1) p.facts.id y.package_is.facts.id)) (λ y h k. both_ways (bars p y.package_is) (ok.unbarred g p y e (is_life y h) k.0) k.1)
-    unbarred_none p never d e = tt
+    -- an accepted plan whose binds are right passes every rule
+    module _ (ok : IsAccepted plan start) (right : AreBound plan start asks) where
+      is_life : (x : Life) → Has xs x → IsLife plan start x
+      is_life x h = (has_lives plan start x).0 h
 
-    built_none : (p : Package) (b d : Moment) → Enters plan start b p → built_rule plan start (record { package_is = p; birth = b; death = d }) None
-    built_none p opening d e = tt
-    built_none p (commit g) d e = (ok.built g p Depend e refl, (ok.built g p Bdepend e refl, ok.built g p Idepend e refl))
-    built_none p never d e = tt
+      required_none : (p : Package) (b d : Moment) → Enters plan start b p → required_rule (record { package_is = p; birth = b; death = d }) None
+      required_none p opening d e = tt
+      required_none p (commit g) d e = λ off. both_ways (fits_required p) off (ok.required g p e)
+      required_none p never d e = tt
 
-    final_none : (g : ℕ) (p : Package) (d : Moment) → IsLife plan start (record { package_is = p; birth = commit g; death = d }) → if_left d (refuse (NotMet p) (refused.Final p.facts.id (lacking_leaf (facts_of (left_of plan start)) Pdepend p))) None
-    final_none g p opening is = tt
-    final_none g p (commit k) is = tt
-    final_none g p never is = λ off. both_ways (is_met (facts_of (left_of plan start)) Pdepend p) off (ok.finished g p (left_of plan start) is.enters left_are ((left_are p).1 (record { package_is = p; birth = commit g; death = never }, is, refl, refl)))
+      weak_none : (x : Life) → IsLife plan start x → weak_rule plan all x None
+      weak_none x is = each_none all (λ (y : Life). refuse (IsBlocked plan false x y) (refused.Blocked x.package_is.facts.id y.package_is.facts.id)) (λ y h m.
+          both_ways (blocks x.package_is y.package_is) (ok.unblocked x y is (of_all y h) m.0) (kind_blocks x.package_is y.package_is false m.1))
 
-    finished_none : (p : Package) (b d : Moment) → IsLife plan start (record { package_is = p; birth = b; death = d }) → finished_rule plan start (record { package_is = p; birth = b; death = d }) None
-    finished_none p opening d is = tt
-    finished_none p (commit g) d is = final_none g p d is
-    finished_none p never d is = tt
+      not_barred : (p : Package) (b : Moment) → Enters plan start b p → (y : Life) → Has all y → ¬ IsBarred plan p b y
+      not_barred p opening e y h m = m
+      not_barred p (commit g) e y h m = both_ways (bars p y.package_is) (ok.unbarred g p y e (of_all y h) m.0) (sym (bars_kept p y.package_is) ∙ m.1)
+      not_barred p never e y h m = m
 
-    package_none : (x : Life) (asked : AskedValue) → IsLife plan start x → IsBound plan start x.birth x.package_is asked → package_rule plan start (x, asked) None
-    package_none x asked is binds = (
-      (required_none x.package_is x.birth x.death is.enters, binding_none plan start x.package_is x.birth x.death asked binds),
-      (
-        ok.lasting x is,
+      strong_none : (x : Life) → IsLife plan start x → strong_rule plan all x None
+      strong_none x is = each_none all (λ (y : Life). refuse (IsBlocked plan true x y ⊎ IsBarred plan x.package_is x.birth y) (refused.Barred (number_of x.birth) x.package_is.facts.id y.package_is.facts.id)) (λ y h m. elim m [
+        | inl one ↦ both_ways (blocks x.package_is y.package_is) (ok.unblocked x y is (of_all y h) one.0) (kind_blocks x.package_is y.package_is true one.1)
+        | inr bar ↦ not_barred x.package_is x.birth is.enters y h bar
+      ])
+
+      built_none : (p : Package) (b d : Moment) → Enters plan start b p → built_rule plan start (record { package_is = p; birth = b; death = d }) None
+      built_none p opening d e = tt
+      built_none p (commit g) d e = (ok.built g p Depend e refl, (ok.built g p Bdepend e refl, ok.built g p Idepend e refl))
+      built_none p never d e = tt
+
+      final_none : (g : ℕ) (p : Package) (d : Moment) → IsLife plan start (record { package_is = p; birth = commit g; death = d }) → if_left d (refuse (NotMet p) (refused.Final p.facts.id (lacking_leaf (facts_of (left_of plan start)) Pdepend p))) None
+      final_none g p opening is = tt
+      final_none g p (commit k) is = tt
+      final_none g p never is = λ off. both_ways (is_met (facts_of (left_of plan start)) Pdepend p) off (ok.finished g p (left_of plan start) is.enters left_are ((left_are p).1 (record { package_is = p; birth = commit g; death = never }, is, refl, refl)))
+
+      finished_none : (p : Package) (b d : Moment) → IsLife plan start (record { package_is = p; birth = b; death = d }) → finished_rule plan start (record { package_is = p; birth = b; death = d }) None
+      finished_none p opening d is = tt
+      finished_none p (commit g) d is = final_none g p d is
+      finished_none p never d is = tt
+
+      package_none : (x : Life) (asked : AskedValue) → IsLife plan start x → IsBound plan start x.birth x.package_is asked → package_rule plan start all (x, asked) None
+      package_none x asked is binds = (
+        (required_none x.package_is x.birth x.death is.enters, binding_none plan start x.package_is x.birth x.death asked binds),
+        (ok.lasting x is, (weak_none x is, (strong_none x is, (built_none x.package_is x.birth x.death is.enters, finished_none x.package_is x.birth x.death is)))),
+      )
+
+      tried_none : (it : Life × AskedValue) → Has them it → package_rule plan start all it None
+      tried_none it h =
+          let has = has-moved them (asking xs asks) it (IsPermutation-sym (asking xs asks) them order.moved) h in
+          package_none it.0 it.1 (is_life it.0 (life_asked xs asks it.0 it.1 has)) (right it.0 it.1 has)
+
+      pub none_refuses : plan_rule plan start all them None
+      none_refuses = (
+        ok.ordered,
         (
-          each_none xs (λ (y : Life). refuse (Meets plan (stretch_of x) y × (blocks x.package_is y.package_is ≡ true)) (refused.Blocked x.package_is.facts.id y.package_is.facts.id)) (λ y h k. both_ways (blocks x.package_is y.package_is) (ok.unblocked x y is (is_life y h) k.0) k.1),
+          from_none plan (present_at plan start) plan 0 (all_stand plan) (λ g. each_none (group_at plan g).removals (λ (r : Removal). demand (IsPresent plan start g r) (refused.Absent (g + 1) r.id)) (λ r h. ok.present g r h)),
           (
-            unbarred_none x.package_is x.birth x.death is.enters,
-            (built_none x.package_is x.birth x.death is.enters, finished_none x.package_is x.birth x.death is),
+            room_none plan start all lives_order
+                (λ g p y hp isy k. both_ways (clears (group_at plan g) (line_of p.facts)) k.stays (ok.vacant g p y hp isy k.stands k.twin)) ok.single
+                (λ x y isx isy k. k.apart (ok.versions x y isx isy k.meets k.same)),
+            (ok.consistent, each_none them (package_rule plan start all) tried_none),
           ),
         ),
-      ),
-    )
-
-    pub none_refuses : plan_rule plan start asks None
-    none_refuses = (
-      ok.ordered,
-      (
-        from_none plan (present_at plan start) plan 0 (all_stand plan) (λ g. each_none (group_at plan g).removals (λ (r : Removal). demand (IsPresent plan start g r) (refused.Absent (g + 1) r.id)) (λ r h. ok.present g r h)),
-        (
-          from_none plan (vacant_at plan start) plan 0 (all_stand plan) (λ g. each_none (group_at plan g).additions (vacant_of plan start g) (λ p hp. each_none xs (λ (y : Life). refuse (Crowds (group_at plan g) g p y) (refused.Occupied (g + 1) p.facts.id y.package_is.facts.id)) (λ y hy k. both_ways (clears (group_at plan g) (line_of p.facts)) k.stays (ok.vacant g p y hp (is_life y hy) k.stands k.twin)))),
-          (
-            from_none plan apart_rule plan 0 (all_stand plan) ok.single,
-            (
-              each_none xs (versions_of plan start) (λ x hx. each_none xs (λ (y : Life). refuse (AreOneVersion plan x y) (refused.Occupied (number_of x.birth) x.package_is.facts.id y.package_is.facts.id)) (λ y hy k. k.apart (ok.versions x y (is_life x hx) (is_life y hy) k.meets k.same))),
-              (ok.consistent, each_none (asking xs asks) (package_rule plan start) (λ it h. package_none it.0 it.1 (is_life it.0 (life_asked xs asks it.0 it.1 h)) (right it.0 it.1 h))),
-            ),
-          ),
-        ),
-      ),
-    )
+      )

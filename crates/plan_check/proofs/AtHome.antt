@@ -8,7 +8,7 @@ use Rattle.plan_law.specs.Lives.{Life}
 use Rattle.plan_check.specs.Home.{among, met_rule}
 use Rattle.plan_rules.specs.Refusals.{Says}
 use Rattle.plan_rules.specs.declared.refusal.PlanRefused.{PlanRefused}
-use Rattle.plan_check.proofs.Accepting.{same_met}
+use Rattle.plan_rules.proofs.Consistent.{same_met}
 use Rattle.plan_rules.proofs.Trying.{Hears, says_more}
 
 -- what is said of one list of the packages that are there is said of them all

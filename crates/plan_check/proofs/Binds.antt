@@ -1,5 +1,5 @@
 -- What the rule of binds says, leaf by leaf and addition by addition.
-use Rattle.std.proofs.Common.{◌≡◌, ◌<◌, ◌+◌, ℕ, List, [], ◌∷◌, Option, None, Some, drop, get_or, inl, inr, length, ap}
+use Rattle.std.proofs.Common.{◌≡◌, ◌∙◌, ◌<◌, ◌+◌, ℕ, List, [], ◌∷◌, ◌++◌, None, Some, append_assoc, drop, get_or, inl, inr, length, ap, map, refl, sym}
 use Rattle.std.specs.List.{AllZip}
 use Rattle.basics.specs.Members.{Has}
 use Rattle.basics.proofs.Lists.{at_drop}
@@ -15,9 +15,9 @@ use Rattle.plan_lives.specs.declared.life.Life.{Life as CodeLife}
 use Rattle.plan_check.specs.Asks.{AskedValue, asking, asks_behind, next_asked}
 use Rattle.plan_check.specs.Binding.{IsBound, binds_rule}
 use Rattle.plan_check.specs.PackageRules.{binding_rule}
-use Rattle.plan_rules.specs.Refusals.{Refusal, Refusal as refused}
-use Rattle.plan_rules.specs.Verdicts.{demand, each}
-use Rattle.plan_rules.proofs.Trying.{Hears, IsClear, both_clear, both_passed}
+use Rattle.plan_rules.specs.Refusals.{Refusal as refused}
+use Rattle.plan_rules.specs.Verdicts.{demand}
+use Rattle.plan_rules.proofs.Trying.{IsClear, both_clear}
 
 module _ (R : AtomValue → Bind → Type 0) (id : PackageId) where
   all_right : (leaves : List AtomValue) (binds : List Bind) → binds_rule R id leaves binds None → AllZip R leaves binds
@@ -61,11 +61,16 @@ life_asked [] asks x asked h = absurd h
 life_asked (y ∷ xs) asks x asked (inl e) = inl (ap (λ (p : Life × AskedValue). p.0) e)
 life_asked (y ∷ xs) asks x asked (inr h) = inr (life_asked xs (asks_behind y.birth asks) x asked h)
 
--- the steps of a loop over lives with what they ask
-module _ (J : Life × AskedValue → Option Refusal → Type 0) (items : List CodeLife) (i : ℕ) (x : CodeLife) (asks : List AskedValue) (K : Option Refusal → Type 0) (lt : i < length items) (is : x ≡ get_or items i x)
-    (so_far : Hears (each (asking (lives_of (drop i items)) asks) J) K) where
-  pub asked_next : J (life_of x, next_asked (life_of x).birth asks) None → Hears (each (asking (lives_of (drop (i + 1) items)) (asks_behind (life_of x).birth asks)) J) K
-  asked_next passed a rest = so_far a (rw (at_drop items i x lt is) (both_passed (J (life_of x, next_asked (life_of x).birth asks)) (each (asking (lives_of (drop (i + 1) items)) (asks_behind (life_of x).birth asks)) J) passed a rest))
+-- the lives are as they were
+pub lives_asked : (xs : List Life) (asks : List AskedValue) → map (λ (it : Life × AskedValue). it.0) (asking xs asks) ≡ xs
+lives_asked [] asks = refl
+lives_asked (y ∷ xs) asks = ap (λ (ys : List Life). y ∷ ys) (lives_asked xs (asks_behind y.birth asks))
 
-  pub asked_refused : (e : Refusal) → J (life_of x, next_asked (life_of x).birth asks) (Some e) → K (Some e)
-  asked_refused e h = so_far (Some e) (rw (at_drop items i x lt is) (inl h))
+-- one life more goes to the end with what it asks
+pub asked_more : (items : List CodeLife) (i : ℕ) (x : CodeLife) (asks : List AskedValue) (done whole : List (Life × AskedValue)) (it : Life × AskedValue) → i < length items → x ≡ get_or items i x → it ≡ (life_of x, next_asked (life_of x).birth asks)
+    → done ++ asking (lives_of (drop i items)) asks ≡ whole → (done ++ it ∷ []) ++ asking (lives_of (drop (i + 1) items)) (asks_behind (life_of x).birth asks) ≡ whole
+asked_more items i x asks done whole it lt is own so_far =
+    let rest = asking (lives_of (drop (i + 1) items)) (asks_behind (life_of x).birth asks) in
+    append_assoc done (it ∷ []) rest
+    ∙ (ap (λ (z : Life × AskedValue). done ++ z ∷ rest) own
+    ∙ (sym (ap (λ (ys : List CodeLife). done ++ asking (lives_of ys) asks) (at_drop items i x lt is)) ∙ so_far))

@@ -6,7 +6,7 @@ use Rattle.pkg_state.specs.Package.{Package}
 use Rattle.pkg_state.specs.declared.class.Class.TheVariants.{Rdepend}
 use Rattle.plan_law.specs.Lives.{Life}
 use Rattle.plan_rules.specs.Refusals.{Refusal, Refusal as refused}
-use Rattle.plan_rules.specs.Rules.{number_of}
+use Rattle.plan_rules.specs.Order.{number_of}
 use Rattle.plan_rules.specs.Verdicts.{refuse}
 
 -- a rule for the packages that are there; it says the same of lists with the same members

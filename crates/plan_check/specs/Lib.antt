@@ -3,3 +3,4 @@ pub mod Asks
 pub mod Binding
 pub mod PackageRules
 pub mod Kept
+pub mod Turns

@@ -3,9 +3,10 @@
 //!
 //! The rules over the whole plan are tried first (`plan_rules`), and then these, package by package:
 //! the flags of an addition go together; its slot operators are bound to the greatest packages beside
-//! it; what it needs while it runs is there all through its life; what it blocks isn't there with it;
-//! what bars it isn't there when it may come; what it wants for its build is there whenever it may
-//! come; and what it wants later is there at the end.
+//! it; what it needs while it runs is there all through its life; what it blocks weakly isn't there
+//! with it; what it blocks strongly isn't either, nor is what bars it when it may come; what it wants
+//! for its build is there whenever it may come; and what it wants later is there at the end. Packages
+//! are tried in their order: the installed ones by their lines, then those of each group by theirs.
 //!
 //! **A contract sees** a plan as `plan_lives` has it, a refusal as `plan_rules` has it, and what an
 //! addition asks of the binds ([`Asked`]) as its leaves and binds.
@@ -13,8 +14,8 @@
 //! **Proved**: [`check`] answers Ok exactly on accepted plans (`IsAccepted` of `plan_law`) whose binds
 //! are right (`AreBound` of `specs/Binding.antt`), but for want of memory, and these are sound over
 //! every order of their groups. Any other plan is refused by the first rule that it breaks
-//! (`plan_rule` of `specs/PackageRules.antt`), with the first package that breaks it, and with the
-//! leaf, the bind, the other package or the groups that the rule names: of several groups in disorder
+//! (`check_rule` of `specs/PackageRules.antt`), with the first package that breaks it, and with the
+//! leaf, the bind, the first other package or the groups that the rule names: of several groups in disorder
 //! the first two by their line and then by their numbers. What a package may miss while it runs is
 //! told as unsatisfied where it is missing when the package comes or, if that stays, at the end; and
 //! as unsafe where it is missing in between alone.
@@ -36,7 +37,9 @@ mod checking;
 mod coming;
 mod finished;
 mod lasting;
+mod queue;
 mod required;
+mod tried;
 mod unmet;
 
 pub use asked::Asked;

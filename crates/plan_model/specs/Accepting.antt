@@ -8,7 +8,7 @@ use Rattle.plan_law.specs.Sound.{IsSound}
 use Rattle.plan_text.specs.Plans.{GroupValue}
 use Rattle.plan_check.specs.Asks.{AskedValue}
 use Rattle.plan_check.specs.Binding.{AreBound}
-use Rattle.plan_check.specs.PackageRules.{plan_rule}
+use Rattle.plan_check.specs.PackageRules.{check_rule}
 use Rattle.plan_rules.specs.Refusals.{Refusal, told}
 use Rattle.plan_rules.specs.declared.refusal.PlanRefused.{PlanRefused}
 use Rattle.plan_model.specs.Asking.{AreAsked}
@@ -41,7 +41,7 @@ pub record IsRefused (installed offered : List Package) (groups : List GroupValu
   pub stands : StandsFor offered groups plan asks
   pub refusal : Refusal
   pub is : told fault ≡ Some refusal
-  pub rule : plan_rule plan installed asks (Some refusal)
+  pub rule : check_rule plan installed asks (Some refusal)
 
 -- the fault is the first one of the groups: of their additions, or of the plan that they stand for;
 -- want of memory says nothing

@@ -12,7 +12,8 @@ use Rattle.plan_law.specs.Accepted.{IsAccepted}
 use Rattle.plan_law.specs.Plans.{Group, changed, group_at}
 use Rattle.plan_check.specs.Asks.{AskedValue}
 use Rattle.plan_check.specs.Binding.{AreBound}
-use Rattle.plan_check.specs.PackageRules.{plan_rule}
+use Rattle.plan_check.specs.PackageRules.{check_rule}
+use Rattle.plan_rules.specs.Order.{AreInOrder, package_key}
 use Rattle.plan_rules.specs.Refusals.{Refusal, Refusal as refused}
 use Rattle.plan_rules.specs.Verdicts.{both}
 
@@ -56,14 +57,15 @@ refusal_of (state.RequiredUse one) = refused.RequiredUse one
 refusal_of (state.Blocked one by) = refused.Blocked by one
 refusal_of (state.Runtime one missing) = refused.Unsatisfied 0 one Rdepend missing
 
--- the packages go together, or what is first wrong with them is told
+-- the packages go together, or what is first wrong with them by their lines is told
 abbrev pub consistent_rule : List Package → Option Refusal → Type 0
 consistent_rule ps None = AreConsistent ps
 consistent_rule ps (Some e) =
-    (fault : state.Fault) × state.IsFirstFault ps fault × (e ≡ refusal_of fault)
+    (qs : List Package) × AreInOrder package_key ps qs
+    × ((fault : state.Fault) × state.IsFirstFault qs fault × (e ≡ refusal_of fault))
 
 -- the rules for what comes, and then that for what is there
 abbrev pub repair_rule :
     List Group → List Package → List AskedValue → Option Refusal → Type 0
 repair_rule plan start asks =
-    both (plan_rule plan (map bare start) asks) (consistent_rule (behind plan start))
+    both (check_rule plan (map bare start) asks) (consistent_rule (behind plan start))

@@ -13,7 +13,7 @@ use crate::behind::packages_behind;
 use pkg_state::{Broken, Class, Pkg, consistent};
 use plan_check::{Asked, check};
 use plan_lives::Plan;
-use plan_rules::PlanRefused;
+use plan_rules::{PlanRefused, in_line_order};
 use std::alloc::Global;
 
 /// What is wrong with the packages, as the rule that fits tells it.
@@ -41,14 +41,25 @@ fn refused(broken: Broken) -> PlanRefused
     }
 }
 
+/// Tells what is first wrong with the packages, by their lines.
+fn judge_by_line(alloc: Global, packages: &[Pkg]) -> Result<(), PlanRefused>
+    ensures { Says (consistent_rule packages.now) result }
+{
+    let ordered = in_line_order(alloc, packages)?;
+    match consistent(alloc, &ordered) {
+        Ok(()) => Ok(()),
+        Err(broken) => Err(refused(broken)),
+    }
+}
+
 /// Whether the packages go together.
 fn judge_packages(alloc: Global, packages: &[Pkg]) -> Result<(), PlanRefused>
     ensures { Says (consistent_rule packages.now) result }
 {
-    match consistent(alloc, packages) {
-        Ok(()) => Ok(()),
-        Err(broken) => Err(refused(broken)),
+    if consistent(alloc, packages).is_ok() {
+        return Ok(());
     }
+    judge_by_line(alloc, packages)
 }
 
 fn judge(alloc: Global, start: &[Pkg], plan: &Plan, asks: &[Asked<'_>]) -> Result<(), PlanRefused>

@@ -1,6 +1,10 @@
 pub mod Trying
+pub mod Sorting
+pub mod Tallies
 pub mod Ordered
 pub mod Gone
 pub mod InTheWay
+pub mod Hindered
+pub mod Consistent
 pub mod Told
 pub mod Judged

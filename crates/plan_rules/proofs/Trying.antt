@@ -1,8 +1,11 @@
 -- The steps of a loop that tries rules in order.
-use Rattle.std.proofs.Common.{◌≡◌, ◌<◌, ◌+◌, ℕ, Bool, true, false, cond, List, [], ◌∷◌, Option, None, Some, drop, filter, get_or, length, map, refl, subst, inl, inr}
+use Rattle.std.proofs.Common.{◌≡◌, ◌<◌, ◌+◌, ℕ, zero, suc, arith, sym, List, [], ◌∷◌, Option, None, Some, drop, get_or, length, map, refl, subst, inl, inr}
 use Rattle.std.specs.Prelude.{Result, Ok, Err, IfSome}
 use Rattle.basics.specs.Members.{Has}
 use Rattle.basics.proofs.Lists.{at_drop}
+use Rattle.basics.proofs.Permutations.{has-moved}
+use Rattle.std.proofs.lemmas.List.Sorted.{IsPermutation-sym}
+use Rattle.plan_rules.specs.Order.{AreInOrder, each_by}
 use Rattle.plan_rules.specs.Refusals.{Refusal, Says, told}
 use Rattle.plan_rules.specs.Verdicts.{both, each, each_from}
 use Rattle.plan_rules.specs.declared.refusal.PlanRefused.{PlanRefused}
@@ -40,17 +43,29 @@ mapped_next f xs i x J K within is so_far passed a rest = so_far a (rw (at_drop 
 pub mapped_refused : {A B E : Type 0} (f : A → B) (xs : List A) (i : ℕ) (x : A) (J : B → Option E → Type 0) (K : Option E → Type 0) (e : E) → i < length xs → x ≡ get_or xs i x → Hears (each (map f (drop i xs)) J) K → J (f x) (Some e) → K (Some e)
 mapped_refused f xs i x J K e within is so_far refuses = so_far (Some e) (rw (at_drop xs i x within is) (inl refuses))
 
--- where a rule lets pass all that aren't of a kind, a look at that kind is enough
-module _ {A E : Type 0} (J : A → Option E → Type 0) (kind : A → Bool) (other : (x : A) → kind x ≡ false → J x None) where
-  of_kind_step : (b : Bool) (x : A) (xs : List A) → kind x ≡ b → Hears (each (filter kind xs) J) (each xs J) → Hears (each (cond b (x ∷ filter kind xs) (filter kind xs)) J) (each (x ∷ xs) J)
-  of_kind_step true x xs e later None h = (h.0, later None h.1)
-  of_kind_step true x xs e later (Some r) (inl h) = inl h
-  of_kind_step true x xs e later (Some r) (inr h) = inr (h.0, later (Some r) h.1)
-  of_kind_step false x xs e later a h = both_passed (J x) (each xs J) (other x e) a (later a h)
+-- .. and where a rule sees the place, too
+pub placed_next : {A B E : Type 0} (f : A → B) (xs : List A) (i : ℕ) (x : A) (J : ℕ → B → Option E → Type 0) (K : Option E → Type 0) → i < length xs → x ≡ get_or xs i x → Hears (each_from i (map f (drop i xs)) J) K → J i (f x) None → Hears (each_from (i + 1) (map f (drop (i + 1) xs)) J) K
+placed_next f xs i x J K within is so_far passed a rest = so_far a (rw (at_drop xs i x within is) (both_passed (J i (f x)) (each_from (i + 1) (map f (drop (i + 1) xs)) J) passed a rest))
 
-  pub of_kind : (xs : List A) → Hears (each (filter kind xs) J) (each xs J)
-  of_kind [] a h = h
-  of_kind (x ∷ xs) a h = of_kind_step (kind x) x xs refl (of_kind xs) a h
+pub placed_refused : {A B E : Type 0} (f : A → B) (xs : List A) (i : ℕ) (x : A) (J : ℕ → B → Option E → Type 0) (K : Option E → Type 0) (e : E) → i < length xs → x ≡ get_or xs i x → Hears (each_from i (map f (drop i xs)) J) K → J i (f x) (Some e) → K (Some e)
+placed_refused f xs i x J K e within is so_far refuses = so_far (Some e) (rw (at_drop xs i x within is) (inl refuses))
+
+-- where a rule lets pass at every place, it does so at one
+module _ {A E : Type 0} (J : ℕ → A → Option E → Type 0) where
+  passed_at : (xs : List A) (n : ℕ) → each_from n xs J None → (i m : ℕ) (x : A) → m ≡ n + i → i < length xs → x ≡ get_or xs i x → J m x None
+  passed_at [] n h i m x e lt is = absurd (omega (arith, lt))
+  passed_at (y ∷ ys) n h zero m x e lt is = subst (λ (k : ℕ). J k x None) (let at_m : n ≡ m = omega (arith, e) in at_m) (subst (λ (z : A). J n z None) (sym is) h.0)
+  passed_at (y ∷ ys) n h (suc i) m x e lt is = passed_at ys (n + 1) h.1 i m x (omega (arith, e)) (omega (arith, lt)) is
+
+  pub from_passed : (xs : List A) → each_from 0 xs J None → (i : ℕ) (x : A) → i < length xs → x ≡ get_or xs i x → J i x None
+  from_passed xs h i x lt is = passed_at xs 0 h i i x (omega arith) lt is
+
+  pass_all : (xs : List A) (n : ℕ) → ((i m : ℕ) (x : A) → m ≡ n + i → i < length xs → x ≡ get_or xs i x → J m x None) → each_from n xs J None
+  pass_all [] n all = tt
+  pass_all (y ∷ ys) n all = (all 0 n y (omega arith) (omega arith) refl, pass_all ys (n + 1) (λ i m x e lt is. all (suc i) m x (omega (arith, e)) (omega (arith, lt)) is))
+
+  pub from_all : (xs : List A) → ((i : ℕ) (x : A) → i < length xs → x ≡ get_or xs i x → J i x None) → each_from 0 xs J None
+  from_all xs all = pass_all xs 0 (λ i m x e lt is. subst (λ (k : ℕ). J k x None) (let at_m : i ≡ m = omega (arith, e) in at_m) (all i x lt is))
 
 -- all let pass
 pub each_none : {A E : Type 0} (xs : List A) (J : A → Option E → Type 0) → ((x : A) → Has xs x → J x None) → each xs J None
@@ -100,3 +115,11 @@ each_clear (x ∷ xs) J clear e passed h = both_clear (J x) (each xs J) (clear x
 pub from_clear : {A E : Type 0} (n : ℕ) (xs : List A) (J : ℕ → A → Option E → Type 0) → ((i : ℕ) (x : A) → IsClear (J i x)) → IsClear (each_from n xs J)
 from_clear n [] J clear e passed h = h
 from_clear n (x ∷ xs) J clear e passed h = both_clear (J n x) (each_from (n + 1) xs J) (clear n x) (from_clear (n + 1) xs J clear) e passed h
+
+-- a list in order has the same members, so it is tried in place of the list
+pub hears_in_order : {A E : Type 0} (key : A → List ℕ) (xs ys : List A) (J : A → Option E → Type 0) → AreInOrder key xs ys → Hears (each ys J) (each_by key xs J)
+hears_in_order key xs ys J order None passed = each_none xs J (λ x has. each_passed ys J passed x (has-moved xs ys x order.moved has))
+hears_in_order key xs ys J order (Some e) refused = (ys, order, refused)
+
+pub by_clear : {A E : Type 0} (key : A → List ℕ) (xs : List A) (J : A → Option E → Type 0) → ((x : A) → IsClear (J x)) → IsClear (each_by key xs J)
+by_clear key xs J clear e passed h = each_clear h.0 J clear e (each_none h.0 J (λ x has. each_passed xs J passed x (has-moved h.0 xs x (IsPermutation-sym xs h.0 h.1.moved) has))) h.2

@@ -1,16 +1,16 @@
 -- The rules of the check, in the order in which they are tried.
 use Rattle.std.specs.Prelude.{◌≡◌, ◌⊎◌, ◌<◌, ℕ, ◌+◌, false, List, Option, None, Some}
 use Rattle.std.specs.Ordering.{is_gt}
-use Rattle.pkg_state.specs.Consistent.{AreApart, AreConsistent}
+use Rattle.pkg_state.specs.Consistent.{AreConsistent}
 use Rattle.pkg_state.specs.Fault as state
 use Rattle.pkg_state.specs.Package.{Package, line_of}
 use Rattle.plan_law.specs.Plans.{Group, Reaches, Removal, clears, group_at, removed_line}
 use Rattle.plan_law.specs.Lives.{IsLife, Life, Meets, Moment, StandsBefore, commit, never, opening, stretch_of}
 use Rattle.plan_law.specs.Accepted.{Changes}
-use Rattle.plan_lives.specs.Lives.{lives}
+use Rattle.plan_rules.specs.Order.{AreInOrder, each_by, number_of, package_key}
 use Rattle.plan_rules.specs.Pairs.{Pair, pair_cmp}
 use Rattle.plan_rules.specs.Refusals.{Refusal, Refusal as refused}
-use Rattle.plan_rules.specs.Verdicts.{demand, each, each_from, refuse}
+use Rattle.plan_rules.specs.Verdicts.{demand, each_from, refuse}
 
 -- both groups change the line, and neither reaches the other
 pub record AreUnordered (plan : List Group) (p : Pair) : Type 0 where
@@ -46,8 +46,9 @@ IsPresent plan start g r =
 abbrev pub present_of : List Group → List Package → ℕ → Removal → Option Refusal → Type 0
 present_of plan start g r = demand (IsPresent plan start g r) (refused.Absent (g + 1) r.id)
 
+-- .. of what goes with the group, in the order of lines
 abbrev pub present_at : List Group → List Package → ℕ → Group → Option Refusal → Type 0
-present_at plan start g group = each group.removals (present_of plan start g)
+present_at plan start g group = each_by removed_line group.removals (present_of plan start g)
 
 -- a package that goes stands on its line just before the group
 abbrev pub present_rule : List Group → List Package → Option Refusal → Type 0
@@ -64,51 +65,45 @@ pub record IsInTheWay (g : ℕ) (y : Life) : Type 0 where
   pub stands : StandsBefore g y
   pub stays : ¬ (y.death ≡ commit g)
 
-abbrev pub vacant_of : List Group → List Package → ℕ → Package → Option Refusal → Type 0
-vacant_of plan start g p =
-    each (lives plan start) (λ y. refuse (Crowds (group_at plan g) g p y)
-    (refused.Occupied (g + 1) p.facts.id y.package_is.facts.id))
-
-abbrev pub vacant_at : List Group → List Package → ℕ → Group → Option Refusal → Type 0
-vacant_at plan start g group = each group.additions (vacant_of plan start g)
-
--- what stands on the line of a package that comes goes in the same group
-abbrev pub vacant_rule : List Group → List Package → Option Refusal → Type 0
-vacant_rule plan start = each_from 0 plan (vacant_at plan start)
-
--- a group brings at most one package to a line
-abbrev pub apart_rule : ℕ → Group → Option Refusal → Type 0
-apart_rule g group None = AreApart group.additions
-apart_rule g group (Some e) =
-    (p : Package) × (q : Package) × state.AreFirstTwins group.additions p q
-    × (e ≡ refused.Occupied (g + 1) p.facts.id q.facts.id)
-
-abbrev pub single_rule : List Group → Option Refusal → Type 0
-single_rule plan = each_from 0 plan apart_rule
-
--- the number of the group that brings what is there from this moment on
-abbrev pub number_of : Moment → ℕ
-number_of opening = 0
-number_of (commit g) = g + 1
-number_of never = 0
-
 -- they are of one version, on two lines, and may be there at one time
 pub record AreOneVersion (plan : List Group) (x y : Life) : Type 0 where
   pub meets : Meets plan (stretch_of x) y
   pub same : x.package_is.facts.id ≡ y.package_is.facts.id
   pub apart : ¬ (line_of x.package_is.facts ≡ line_of y.package_is.facts)
 
-abbrev pub versions_of : List Group → List Package → Life → Option Refusal → Type 0
-versions_of plan start x =
-    each (lives plan start) (λ y. refuse (AreOneVersion plan x y)
+-- .. where y is tried with x: what is there to begin with is tried with what is there then, too
+pub record AreDouble (plan : List Group) (x y : Life) : Type 0 where
+  pub double : AreOneVersion plan x y
+  pub early : x.birth ≡ opening → y.birth ≡ opening
+
+-- both come to one line with the group
+pub record AreTwins (g : ℕ) (x y : Life) : Type 0 where
+  pub comes : y.birth ≡ commit g
+  pub twin : line_of y.package_is.facts ≡ line_of x.package_is.facts
+
+-- y has the line of x, which comes then
+abbrev pub HasLine : List Group → Life → Life → Moment → Type 0
+HasLine plan x y opening = ⊥
+HasLine plan x y (commit g) = Crowds (group_at plan g) g x.package_is y ⊎ AreTwins g x y
+HasLine plan x y never = ⊥
+
+-- y is in the way of x: it has the line of x, or is the same version on another line
+abbrev pub Hinders : List Group → Life → Life → Type 0
+Hinders plan x y = HasLine plan x y x.birth ⊎ AreDouble plan x y
+
+-- nothing is in the way of the package at this place of the list
+abbrev pub room_of : List Group → List Life → ℕ → Life → Option Refusal → Type 0
+room_of plan all i x =
+    each_from 0 all (λ j y. refuse ((¬ (j ≡ i)) × Hinders plan x y)
     (refused.Occupied (number_of x.birth) x.package_is.facts.id y.package_is.facts.id))
 
--- a version of a name that is there on two lines isn't there at one time
-abbrev pub versions_rule : List Group → List Package → Option Refusal → Type 0
-versions_rule plan start = each (lives plan start) (versions_of plan start)
+-- .. of any of the packages, which are in their order
+abbrev pub room_rule : List Group → List Life → Option Refusal → Type 0
+room_rule plan all = each_from 0 all (room_of plan all)
 
--- the packages are consistent to begin with
+-- the packages are consistent to begin with, or what is first wrong by their lines is told
 abbrev pub opening_rule : List Package → Option Refusal → Type 0
 opening_rule start None = AreConsistent start
 opening_rule start (Some e) =
-    (fault : state.Fault) × state.IsFirstFault start fault × (e ≡ refused.Opening fault)
+    (ps : List Package) × AreInOrder package_key start ps
+    × ((fault : state.Fault) × state.IsFirstFault ps fault × (e ≡ refused.Opening fault))

@@ -14,6 +14,6 @@ too_many update u limit refuted loses these many = record {
   these = these;
   many = many;
   before = loses.met_are;
-  dead = λ c h. loses.dead c (has_of_first limit (met update u) c (subst (λ (cs : List Choice). Has cs c) these h));
+  hopeless = λ c h. loses.dead c (has_of_first limit (met update u) c (subst (λ (cs : List Choice). Has cs c) these h));
   in_vain = λ c f h s agrees. loses.refuted c f (has_of_first limit (met update u) c (subst (λ (cs : List Choice). Has cs c) these h)) s agrees;
 }

@@ -7,6 +7,8 @@ use Rattle.choice_law.specs.Universe.{Filling, Universe}
 use Rattle.choice_law.specs.Solutions.{IsSolution}
 use Rattle.choice_law.specs.Tree.{Choice, IsGoodLeaf, IsNode, Obligation, filling, option, root}
 use Rattle.choice_law.specs.Laws.{GoodLeavesAreSolutions, IsUniverse, SolutionsHaveLeaves}
+use Rattle.choice_law.specs.Reasons.{Extends}
+use Rattle.choice_law.proofs.Steps.{option_extends}
 use Rattle.choice_tree.specs.Open.{FirstOpenIsAPick, first_open}
 use Rattle.choice_tree.specs.Options.{options}
 use Rattle.choice_tree.proofs.Among.{options_all, options_are}
@@ -38,19 +40,25 @@ module _ (update : Bool) (u : Universe) where
   deep : IsDeep tried room
   deep = smaller update u
 
-  here : (n : ℕ) (e c : Choice) → IsNode u (first_open u) e → ((d : Choice) → IsNode u (first_open u) d → Has (leaves_within tried n d) (good c) → IsGoodLeaf u (first_open u) c) → (x : Option (List Choice)) → tried e ≡ x → Has (leaves_by (leaves_within tried n) e x) (good c) → IsGoodLeaf u (first_open u) c
+  -- a good leaf, and all that a choice above it decides
+  abbrev IsBelow : Choice → Choice → Type 0
+  IsBelow e c = IsGoodLeaf u (first_open u) c × Extends e c
+
+  here : (n : ℕ) (e c : Choice) → IsNode u (first_open u) e → ((d : Choice) → IsNode u (first_open u) d → Has (leaves_within tried n d) (good c) → IsBelow d c) → (x : Option (List Choice)) → tried e ≡ x → Has (leaves_by (leaves_within tried n) e x) (good c) → IsBelow e c
   here n e c node below None is (inl same) =
       let one : e ≡ c = (let two : ◌≡◌ {A = Leaf Choice} (good e) (good c) = same in cc two) in
-      subst (λ (x : Choice). IsGoodLeaf u (first_open u) x) one (record { node = node; closed = none_open update u e is })
+      subst (λ (x : Choice). IsBelow e x) one (record { node = node; closed = none_open update u e is }, λ l v d. d)
   here n e c node below None is (inr h) = absurd h
   here n e c node below (Some []) is (inl same) = absurd (let bad : ◌≡◌ {A = Leaf Choice} (dead e) (good c) = same in cc bad)
   here n e c node below (Some []) is (inr h) = absurd h
   here n e c node below (Some (d ∷ ds)) is h =
       let r = has-flat_map_back (leaves_within tried n) (d ∷ ds) (good c) h in
       let o = some_open update u e (d ∷ ds) is in
-      below r.0 (option e r.0 o.0 node o.1 (options_are update u e o.0 r.0 (subst (λ (xs : List Choice). Has xs r.0) (sym o.2) r.1))) r.2
+      let option_is = options_are update u e o.0 r.0 (subst (λ (xs : List Choice). Has xs r.0) (sym o.2) r.1) in
+      let leaf = below r.0 (option e r.0 o.0 node o.1 option_is) r.2 in
+      (leaf.0, λ l v d. leaf.1 l v (option_extends u e o.0 r.0 option_is l v d))
 
-  leaf_good : (n : ℕ) (e c : Choice) → IsNode u (first_open u) e → Has (leaves_within tried n e) (good c) → IsGoodLeaf u (first_open u) c
+  pub leaf_good : (n : ℕ) (e c : Choice) → IsNode u (first_open u) e → Has (leaves_within tried n e) (good c) → IsBelow e c
   leaf_good zero e c node h = absurd h
   leaf_good (suc n) e c node h = here n e c node (λ d d_node d_has. leaf_good n d c d_node d_has) (tried e) refl h
 
@@ -76,7 +84,7 @@ module _ (update : Bool) (u : Universe) where
       subst (λ (x : Option (List Choice)). Has (leaves_by (leaves_within tried (room c)) c x) (good c)) (sym none) (inl refl)
 
   pub chosen_solves : (c : Choice) → GoodLeavesAreSolutions → FirstOpenIsAPick → first_good (tree_leaves update u) ≡ Some c → IsSolution u (filling u c)
-  chosen_solves c law pick e = law u (first_open u) c (pick u) (leaf_good (suc (room [])) [] c root (found_has (tree_leaves update u) c e))
+  chosen_solves c law pick e = law u (first_open u) c (pick u) (leaf_good (suc (room [])) [] c root (found_has (tree_leaves update u) c e)).0
 
   pub none_solves : SolutionsHaveLeaves → FirstOpenIsAPick → IsUniverse u → first_good (tree_leaves update u) ≡ None → (f : Filling) → ¬ IsSolution u f
   none_solves law pick form e f s =

@@ -1,4 +1,5 @@
 pub mod Plain
 pub mod Leaves
+pub mod Hopeless
 pub mod Offers
 pub mod Counted

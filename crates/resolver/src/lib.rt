@@ -5,8 +5,9 @@
 //!
 //! **Proved**: [`resolve`] answers with the first good leaf, which is a solution with the lines
 //! that it doesn't decide as they are; it says that there is no solution only where there is none,
-//! and tells all dead leaves that the search met; and it gives up exactly where as many of them as are
-//! allowed are met before a good one, and tells these.
+//! and tells all tries of the search, which are the hopeless choices and the dead leaves that it met;
+//! and it gives up exactly where as many of them as are allowed are met before a good leaf, and tells
+//! these.
 //!
 //! **Only tested**: that with ample memory it answers with one of these.
 //!

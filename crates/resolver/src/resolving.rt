@@ -10,7 +10,7 @@ ghost use Rattle.choice_search.specs.Visit.{IsOutcome, visit};
 use crate::fault::ResolveFault;
 use crate::form::universe_is_plain;
 use crate::tree::Choices;
-use choice_law::{good_leaves_are_solutions, solutions_have_leaves};
+use choice_law::{good_leaves_are_solutions, hopeless_choices_fail, solutions_have_leaves};
 use choice_search::{Outcome, first_good, jumps_lose_nothing};
 use choice_tree::{Choice, Universe, first_open_is_a_pick};
 use choice_walk::Walk;
@@ -54,6 +54,7 @@ pub fn resolve(alloc: Global, universe: &Universe, backtrack: usize) -> Result<C
 {
     good_leaves_are_solutions();
     solutions_have_leaves();
+    hopeless_choices_fail();
     first_open_is_a_pick();
     universe_is_plain(universe);
     match search(alloc, universe, backtrack)? {

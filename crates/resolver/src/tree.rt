@@ -3,7 +3,8 @@ use choice_tree::{Choice, Step};
 use choice_walk::Walk;
 use std::alloc::{AllocError, Global};
 
-/// The choices of a universe, each with its options for what is first open of it.
+/// The choices of a universe, each with its options for what is first open of it. A hopeless choice
+/// has none here.
 #[derive(Drop)]
 pub(crate) struct Choices<'a> {
     pub(crate) walk: Walk<'a>,
@@ -12,7 +13,7 @@ pub(crate) struct Choices<'a> {
 impl<'a> Tree<Choice, Step> for Choices<'a> {
     ghost use Rattle.choice_tree.specs.Steps.{after};
     ghost use Rattle.choice_tree.specs.Views.{universe_of};
-    ghost use Rattle.choice_tree.proofs.Smaller.{smaller};
+    ghost use Rattle.choice_tree.proofs.Smaller.{tried_smaller};
     ghost use Rattle.choice_walk.specs.Way.{above, here};
     ghost use Rattle.resolver.specs.Tree.{tree_shape};
 
@@ -49,7 +50,8 @@ impl<'a> Tree<Choice, Step> for Choices<'a> {
         self.walk.choice(alloc)
     }
 
-    ghost smaller = { λ t. smaller t.walk.universe.now.update (universe_of t.walk.universe.now) };
+    ghost smaller = { λ t.
+        tried_smaller t.walk.universe.now.update (universe_of t.walk.universe.now) };
 }
 
 impl<'a> Deciding<Choice, Step> for Choices<'a> {

@@ -1,3 +1,4 @@
 pub mod Order
 pub mod Rows
 pub mod Faults
+pub mod Repairs

@@ -33,7 +33,7 @@ pub(crate) fn judged(
 }
 
 /// Judges the packages in line order.
-fn judge(alloc: Global, packages: &[Installed], implicit: &Flags) -> Result<(), Broken>
+pub(crate) fn judge(alloc: Global, packages: &[Installed], implicit: &Flags) -> Result<(), Broken>
     ensures ok { OnOk result (AreConsistent (packages_of implicit.now packages.now)) }
     ensures fault { IfErr result
         (λ e. IfSome (told e) (IsFirstInOrder (packages_of implicit.now packages.now))) }

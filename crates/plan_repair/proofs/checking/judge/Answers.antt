@@ -11,4 +11,4 @@ returns-in_err-check c =
 
 pub returns : goal.returns
 returns c =
-    judged c.args.plan.now c.args.start.now (all_asked c.args.asks.now) c.deref.result.now (c.deref.ensures.value ∙ c.in_ok-bare.ensures) c.deref-2.result.now c.judge_packages.result (c.deref-2.ensures.value ∙ c.in_ok-packages.ensures) c.in_ok-check.ensures.ok c.in_ok-check.ensures.bound c.judge_packages.ensures
+    judged c.args.plan.now c.args.start.now (all_asked c.args.asks.now) c.deref.result.now (c.deref.ensures.value ∙ c.in_ok-bare.ensures) c.deref-2.result.now c.judge_packages.result (c.deref-2.ensures.value ∙ c.in_ok-packages.ensures) c.in_ok-check.ensures.passed c.judge_packages.ensures

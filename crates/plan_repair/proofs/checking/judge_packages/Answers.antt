@@ -1,5 +1,6 @@
-use Rattle.plan_repair.proofs.Repairs.{told_fault}
+use Rattle.std.proofs.Common.{◌∙◌, sym}
+use Rattle.plan_rules.proofs.Told.{on_ok}
 use Rattle.plan_repair.proofs.checking.judge_packages.Goals as goal
 
-pub returns-in-Err : goal.returns-in-Err
-returns-in-Err c = told_fault c.args.packages.now c.in-Err.broken c.refused.result c.refused.ensures c.in-Err.ensures.fault
+pub returns-then-is_ok : goal.returns-then-is_ok
+returns-then-is_ok c = on_ok c.consistent.result _ c.consistent.ensures.ok (sym c.is_ok.ensures.value ∙ c.if-is_ok.true)

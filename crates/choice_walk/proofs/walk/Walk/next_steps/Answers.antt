@@ -3,8 +3,8 @@ use Rattle.std.proofs.Common.{◌≡◌, ◌∙◌, List, Some, ap, map, subst, 
 use Rattle.std.specs.Option.{option_map}
 use Rattle.choice_law.specs.Tree.{Choice}
 use Rattle.choice_tree.specs.Open.{first_open, obligation_of}
-use Rattle.choice_tree.specs.Options.{options}
 use Rattle.choice_tree.specs.Steps.{after}
+use Rattle.choice_tree.specs.Tree.{tried_for}
 use Rattle.choice_tree.specs.Views.{universe_of}
 use Rattle.choice_tree.specs.declared.universe.Universe.{Universe}
 use Rattle.choice_walk.specs.Way.{here}
@@ -19,6 +19,6 @@ returns-in_ok-steps-in-Some-clause-found c =
     let steps = c.in_ok-steps-in-Some.steps.items in
     let first : Some (obligation_of o) ≡ first_open (universe_of u.now) d = ap (option_map obligation_of) (sym c.in-Some.is) ∙ c.in_ok-obligation.ensures.found in
     let same_way : here walk.trail.items ≡ d = ap (λ v. here v.items) c.first_open.ensures.stays in
-    let at_way = subst (λ (e : Choice). map (after e) steps ≡ options walk.universe.now.update (universe_of walk.universe.now) e (obligation_of o)) same_way c.in_ok-steps-in-Some.ensures in
-    let over = subst (λ (v : Bor Universe). map (after d) steps ≡ options v.now.update (universe_of v.now) d (obligation_of o)) c.first_open.ensures.same at_way in
-    ap (λ (xs : List Choice). Some xs) over ∙ ap (option_map (options u.now.update (universe_of u.now) d)) first
+    let at_way = subst (λ (e : Choice). map (after e) steps ≡ tried_for walk.universe.now.update (universe_of walk.universe.now) e (obligation_of o)) same_way c.in_ok-steps-in-Some.ensures in
+    let over = subst (λ (v : Bor Universe). map (after d) steps ≡ tried_for v.now.update (universe_of v.now) d (obligation_of o)) c.first_open.ensures.same at_way in
+    ap (λ (xs : List Choice). Some xs) over ∙ ap (option_map (tried_for u.now.update (universe_of u.now) d)) first
