@@ -105,10 +105,11 @@ class System:
 
 
 def told_as(refusal):
-    """A rule that is broken, as the last line has it."""
+    """A rule that is broken, as the last line has it: a strong block without its group."""
     word, *rest = refusal.split(" ")
     name, packages = TOLD[word]
-    return " ".join([name, *(f"c/{it}" if at in packages else it for at, it in enumerate(rest))])
+    told = [f"c/{it}" if at in packages else it for at, it in enumerate(rest)]
+    return " ".join([name, *(told[1:] if word == "barred" else told)])
 
 
 def slots(package):
