@@ -1,9 +1,13 @@
 """The journal's records: their bytes, faults, names and digests."""
 import hashlib
+import os
 
+import unproved
 from asked import rows_at_once
 from told import JOBS, hexed, line
 
+# how long a placed file may be
+LONGEST = unproved.LIMITS["MOST_FILE_BYTES"] if os.environ.get("UNPROVED") else 268_435_456
 # Group 1, which removes `a` and places an empty plain file at `b`.
 EXAMPLE = bytes.fromhex(
     "454d4a5201 00000001 00000001 0001 61 00000001 00"
@@ -47,7 +51,7 @@ def records():
     digests = [hashlib.md5(text).hexdigest() for text in (b"", b"abc")]
     yield 0, [], []
     yield 4294967295, ["a" * 4095], []
-    yield 26, ["a b", "\u00e4/->"], [("x", 268435456, digests[1], "a" * 4095)]
+    yield 26, ["a b", "\u00e4/->"], [("x", LONGEST, digests[1], "a" * 4095)]
     for count in (2, 300, 1_500):
         removals = [f"gone/{at}" for at in range(count)]
         placements = [(KINDS[at % 3], at, digests[at % 2], f"new/{at}") for at in range(count)]
